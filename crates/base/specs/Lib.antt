@@ -1,0 +1,3 @@
+-- The small definitions that every crate shares.
+pub mod Choice
+pub mod Lists

@@ -1,0 +1,135 @@
+// What every crate shares: differences that stop at 0, the smaller and the larger, and work on lent lists of numbers.
+ghost use mathlib.Core.Path.{_≡_};
+ghost use Prim.Native.Nat.{_-_, min, max};
+ghost use lib.ListN.{length, getD, replicate};
+ghost use Rattle.base.specs.Lists.{shifted, blankFrom};
+
+// The time since t, 0 where the clock went back.
+pub fn age(time: u64, t: u64) -> u64
+    ensures { λ r. ⌜ r ≡ time - t ⌝ }
+{
+    if t <= time { time - t } else { 0 }
+}
+
+// a − b, or 0.
+pub fn less(a: u32, b: u32) -> u32
+    ensures { λ r. ⌜ r ≡ a - b ⌝ }
+{
+    if b <= a { a - b } else { 0 }
+}
+
+pub fn least(a: u32, b: u32) -> u32
+    ensures { λ r. ⌜ r ≡ min a b ⌝ }
+{
+    if a < b { a } else { b }
+}
+
+pub fn most(a: u32, b: u32) -> u32
+    ensures { λ r. ⌜ r ≡ max a b ⌝ }
+{
+    if a < b { b } else { a }
+}
+
+pub fn least_u64(a: u64, b: u64) -> u64
+    ensures { λ r. ⌜ r ≡ min a b ⌝ }
+{
+    if a < b { a } else { b }
+}
+
+// The number at place i, 0 past the end.
+pub fn place_u64(s: &[u64], i: usize) -> u64
+    ensures { λ r. ⌜ r ≡ getD (now (s .entry)) i 0 ⌝ }
+{
+    if i < s.len() { s[i] } else { 0 }
+}
+
+pub fn place_u32(s: &[u32], i: usize) -> u32
+    ensures { λ r. ⌜ r ≡ getD (now (s .entry)) i 0 ⌝ }
+{
+    if i < s.len() { s[i] } else { 0 }
+}
+
+// The first k numbers go, the others move down, and zeros come at the end.
+pub fn shift_u64(s: &mut [u64], k: usize)
+    ensures { λ _. ⌜ now (s .exit) ≡ shifted k (now (s .entry)) ⌝ }
+{
+    let n = s.len();
+    let mut i = 0;
+    while i < n {
+        if k < n - i {
+            s[i] = s[i + k];
+            i += 1;
+        } else {
+            s[i] = 0;
+            i += 1;
+        }
+    }
+}
+
+pub fn shift_u32(s: &mut [u32], k: usize)
+    ensures { λ _. ⌜ now (s .exit) ≡ shifted k (now (s .entry)) ⌝ }
+{
+    let n = s.len();
+    let mut i = 0;
+    while i < n {
+        if k < n - i {
+            s[i] = s[i + k];
+            i += 1;
+        } else {
+            s[i] = 0;
+            i += 1;
+        }
+    }
+}
+
+// Every place becomes zero.
+pub fn zero_u64(s: &mut [u64])
+    ensures { λ _. ⌜ now (s .exit) ≡ replicate (length (now (s .entry))) 0 ⌝ }
+{
+    let n = s.len();
+    let mut i = 0;
+    while i < n {
+        s[i] = 0;
+        i += 1;
+    }
+}
+
+pub fn zero_u32(s: &mut [u32])
+    ensures { λ _. ⌜ now (s .exit) ≡ replicate (length (now (s .entry))) 0 ⌝ }
+{
+    let n = s.len();
+    let mut i = 0;
+    while i < n {
+        s[i] = 0;
+        i += 1;
+    }
+}
+
+// Every place from k on is zero.
+pub fn blank_u64(s: &[u64], k: usize) -> bool
+    ensures { λ r. ⌜ r ≡ blankFrom k (now (s .entry)) ⌝ }
+{
+    let n = s.len();
+    let mut i = k;
+    while i < n {
+        if s[i] != 0 {
+            return false;
+        }
+        i += 1;
+    }
+    true
+}
+
+pub fn blank_u32(s: &[u32], k: usize) -> bool
+    ensures { λ r. ⌜ r ≡ blankFrom k (now (s .entry)) ⌝ }
+{
+    let n = s.len();
+    let mut i = k;
+    while i < n {
+        if s[i] != 0 {
+            return false;
+        }
+        i += 1;
+    }
+    true
+}
