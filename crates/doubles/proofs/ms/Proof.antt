@@ -1,0 +1,17 @@
+-- `doubles::ms` meets its contract: the code's two literals are the definition's once `ofBits` is unfolded. Assumes nothing.
+use borrow.Author.Needs.{needs}
+use mathlib.Core.Path.{refl}
+use lib.Ieee.{div, mul, ofInt, ofBits}
+use Rattle.doubles.specs.Doubles.{msOf}
+use Rattle.doubles.proofs.ms.Statement.{statement}
+use Rattle.doubles.proofs.ms.Tie as tie
+
+int-to-float-result : tie.Need-int-to-float-result
+int-to-float-result c = search needs
+
+returns : tie.Need-returns
+unfolding msOf ofBits
+returns c = refl
+
+pub ms-spec : {M : Type 1} → statement M
+ms-spec = tie.close (tie.spec int-to-float-result returns)

@@ -1,0 +1,3 @@
+-- The definitions that the contracts of `doubles` cite.
+pub mod Doubles
+pub mod Quantile

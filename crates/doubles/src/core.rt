@@ -1,0 +1,31 @@
+// Whole numbers from doubles, worked out by the program: rounding with halves away from zero, and the place of a quantile.
+ghost use mathlib.Core.Path.{_≡_};
+ghost use mathlib.Core.Bool.{false};
+ghost use lib.Dec.{T};
+ghost use lib.IntN.{pos};
+ghost use lib.Ieee.{fin, lt};
+ghost use Rattle.doubles.specs.Doubles.{halfAway};
+ghost use Rattle.doubles.specs.Quantile.{Quantile, placeOf};
+
+// x rounded to a whole number, halves away from zero; 0 where x is not above zero. The caller owes x below 2^62.
+// The fraction of twice x is cut, which is exact, so that no half is judged after a rounding.
+pub fn round_half_away(x: f64) -> u64
+    requires { ⌜ T (lt x (fin false 1 (pos 62))) ⌝ }
+    ensures { λ r. ⌜ r ≡ halfAway x ⌝ }
+{
+    if x > 0.0 {
+        return (std::num::truncating_f64_to_u64(x * 2.0) + 1) / 2;
+    }
+    0
+}
+
+// The place of the quantile q among `total` lags: total times q as a double, raised to the next whole number, at least 1.
+pub fn quantile_place(total: u64, q: f64) -> u64
+    requires { ⌜ Quantile total q ⌝ }
+    ensures { λ r. ⌜ r ≡ placeOf total q ⌝ }
+{
+    let x = total as f64 * q;
+    let t = std::num::truncating_f64_to_u64(x);
+    let up = if (t as f64) < x { t + 1 } else { t };
+    if up < 1 { 1 } else { up }
+}

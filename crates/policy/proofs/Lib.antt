@@ -1,0 +1,4 @@
+pub mod Checks
+pub mod Laws
+pub mod Shares
+pub mod Answers

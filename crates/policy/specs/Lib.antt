@@ -1,0 +1,3 @@
+-- The definitions that the contracts of `policy` cite.
+pub mod Settings
+pub mod Need

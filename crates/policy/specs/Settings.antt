@@ -1,0 +1,42 @@
+-- Document 01's checks 2, 3 and 4, as far as they read a policy, and a percent as a share. Assumes nothing.
+use Prim.Native.Nat.{ℕ, _≤_}
+use mathlib.Core.Bool.{Bool, true, false}
+use lib.Dec.{T, leb}
+use lib.IntN.{pos}
+use lib.Ieee.{Float, fin, binary64, div, le}
+use Rattle.base.specs.Choice.{pick, both}
+use Rattle.policy.specs.declared.DelayPolicy.{DelayPolicy}
+use Rattle.policy.specs.declared.Share.{Share}
+use Rattle.policy.specs.declared.Share.the-variants.{Of, Refused}
+
+-- 2: "Are offset and maximum at most 96,000"
+unfoldable pub reachesAllowed : DelayPolicy → Bool
+reachesAllowed p = both (leb (p .«read_offset») 96000) (leb (p .«delay_max») 96000)
+
+-- 3: "Are hold and stall at most 600 s, window 1 to 600 s" (a policy has no stall)
+unfoldable pub timesAllowed : DelayPolicy → Bool
+timesAllowed p = both (leb (p .hold) 600000000000) (both (leb 1000000000 (p .window)) (leb (p .window) 600000000000))
+
+-- 4: "Is margin at most 96,000, percent 0 to 1,000 and no NaN": of a policy, the share is from 0 to 10
+unfoldable pub marginsAllowed : DelayPolicy → Bool
+marginsAllowed p = both (leb (p .margin) 96000) (both (le (fin false 0 (pos 0)) (p .«margin_share»)) (le (p .«margin_share») (fin false 5 (pos 1))))
+
+-- what checks 2 and 4 say of a policy, as facts
+pub record Sound (p : DelayPolicy) : Type 0 where
+  pub offset : p .«read_offset» ≤ 96000
+  pub maximum : p .«delay_max» ≤ 96000
+  pub margins : p .margin ≤ 96000
+  pub low : T (le (fin false 0 (pos 0)) (p .«margin_share»))
+  pub high : T (le (p .«margin_share») (fin false 5 (pos 1)))
+
+-- "its margin share as a double, percent / 100" (100 is 25 * 2 ^ 2)
+unfoldable pub shareOfPercent : Float → Float
+shareOfPercent percent = div binary64 percent (fin false 25 (pos 2))
+
+-- 4, of a percent: from 0 to 1,000 (125 * 2 ^ 3) and no NaN
+unfoldable pub percentAllowed : Float → Bool
+percentAllowed percent = both (le (fin false 0 (pos 0)) percent) (le percent (fin false 125 (pos 3)))
+
+-- the share of an allowed percent, or the number 4
+unfoldable pub shareReply : Float → Share
+shareReply percent = pick (percentAllowed percent) (Of (shareOfPercent percent)) (Refused 4)
