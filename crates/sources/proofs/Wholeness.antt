@@ -1,0 +1,39 @@
+-- No call on a `Schedule` breaks a whole record, and a whole record is not refused by 6. Assumes nothing.
+use Prim.Native.Nat.{ℕ, zero, suc, _+_, _≤_}
+use mathlib.Core.Bool.{true}
+use mathlib.Core.Path.{_≡_, refl}
+use native.Mathlib.Omega.{arith}
+use borrow.Author.Tests.{le-leb}
+use Rattle.base.specs.Choice.{accepted}
+use Rattle.base.proofs.Points.{true-both}
+use Rattle.timing.specs.Limits.{timeLimit, spanLimit}
+use Rattle.timing.proofs.Checks.{accepted-call, whole-call}
+use Rattle.sources.specs.Schedules.{waitLimit, freshSchedule, wholeDown, wholeSchedule, scheduleNumber, nextWait, queryFailedOf}
+use Rattle.sources.specs.declared.QueryDown.the-variants.{Until}
+use Rattle.sources.specs.declared.Schedule.{Schedule}
+use Rattle.sources.proofs.Cases.{wait-short}
+
+pub fresh-whole : wholeSchedule freshSchedule ≡ true
+unfolding wholeSchedule wholeDown
+fresh-whole = refl
+
+down-whole : (time wait : ℕ) → time ≤ timeLimit → wait ≤ waitLimit → wholeDown (Until (time + wait) wait) ≡ true
+unfolding wholeDown
+down-whole time wait t w = true-both _ _ (le-leb (time + wait) (timeLimit + spanLimit) (omega arith)) (le-leb wait waitLimit w)
+
+-- what a call leaves is whole where the old record is, and the new one is if the call is accepted
+left-whole : (number : ℕ) (old new : Schedule) → wholeSchedule old ≡ true → (number ≡ 0 → wholeSchedule new ≡ true) → wholeSchedule (accepted number old new) ≡ true
+left-whole zero old new h f = f refl
+left-whole (suc number) old new h f = h
+
+module _ (schedule : Schedule) (whole : wholeSchedule schedule ≡ true) (time : ℕ) where
+  pub failed-stays-whole : wholeSchedule (queryFailedOf schedule time .schedule) ≡ true
+  unfolding queryFailedOf scheduleNumber wholeSchedule
+  failed-stays-whole =
+      left-whole (scheduleNumber schedule time) schedule _ whole
+      (λ e. down-whole time (nextWait (schedule .«query_down»)) (accepted-call time e .1) (wait-short (schedule .«query_down»)))
+
+  -- no call on a whole record is refused by 6
+  pub whole-schedule : scheduleNumber schedule time ≡ 6 → ⊥
+  unfolding scheduleNumber
+  whole-schedule e = whole-call time whole e

@@ -1,0 +1,32 @@
+-- Document 01, "Clock helpers": sample indices and times, at a rate of samples a second. Assumes nothing.
+use Prim.Native.Nat.{ℕ, _+_, _-_, _*_, _/_, _^_}
+use lib.Dec.{ltb}
+use Rattle.base.specs.Choice.{ask, accepted}
+use Rattle.timing.specs.Limits.{nanos, timely}
+use Rattle.timing.specs.declared.Answer.{Answer}
+
+-- `index_at`: the sample index at a time, which "rounds down"
+unfoldable pub indexAt : ℕ → ℕ → ℕ
+indexAt rate ns = ns * rate / nanos
+
+-- `time_of`: the time of a sample index, which "rounds up"
+unfoldable pub timeOf : ℕ → ℕ → ℕ
+timeOf rate index = (index * nanos + (rate - 1)) / rate
+
+-- check 8 of `index_at`
+unfoldable pub indexNumber : ℕ → ℕ
+indexNumber ns = ask 8 (timely ns) 0
+
+-- check 8 of `time_of`: "does the answer fit a u64?"
+unfoldable pub timeNumber : ℕ → ℕ → ℕ
+timeNumber rate index = ask 8 (ltb (timeOf rate index) (2 ^ 64)) 0
+
+-- an answer: its number, and the value where the number is 0, else a zero value
+abbrev pub answerOf : ℕ → ℕ → Answer
+answerOf number value = record { number = number; value = accepted number 0 value }
+
+unfoldable pub indexAnswer : ℕ → ℕ → Answer
+indexAnswer rate ns = answerOf (indexNumber ns) (indexAt rate ns)
+
+unfoldable pub timeAnswer : ℕ → ℕ → Answer
+timeAnswer rate index = answerOf (timeNumber rate index) (timeOf rate index)
