@@ -77,3 +77,8 @@ refused-old (suc n) old new h = refl
 pub accepted-new : {A : Type 0} (n : ℕ) (old new : A) → n ≡ 0 → accepted n old new ≡ new
 accepted-new zero old new h = refl
 accepted-new (suc n) old new h = absurd (omega arith)
+
+-- what a call leaves has P where the old has it, and the new has it if the call is accepted
+pub accepted-all : {A : Type 0} (P : A → Type 0) (n : ℕ) (old new : A) → P old → (n ≡ 0 → P new) → P (accepted n old new)
+accepted-all P zero old new p f = f refl
+accepted-all P (suc n) old new p f = p

@@ -1,3 +1,4 @@
 -- The small definitions that every crate shares.
 pub mod Choice
+pub mod Limits
 pub mod Lists

@@ -4,6 +4,15 @@ ghost use Prim.Native.Nat.{_-_, min, max};
 ghost use lib.ListN.{length, getD, replicate};
 ghost use Rattle.base.specs.Lists.{shifted, blankFrom};
 
+// The nanoseconds of a second.
+pub const NANOS: u64 = 1_000_000_000;
+
+// The latest time that a call takes (check 8).
+pub const TIME_LIMIT: u64 = 4_000_000_000_000_000_000;
+
+// The longest span that a setting or a delay may have: 600 s.
+pub const SPAN_LIMIT: u64 = 600 * NANOS;
+
 // The time since t, 0 where the clock went back.
 pub fn age(time: u64, t: u64) -> u64
     ensures { λ r. ⌜ r ≡ time - t ⌝ }

@@ -5,8 +5,9 @@ use mathlib.Core.Path.{_≡_, refl}
 use native.Mathlib.Omega.{arith}
 use borrow.Author.Tests.{le-leb}
 use Rattle.base.specs.Choice.{accepted}
+use Rattle.base.proofs.Choices.{accepted-all}
 use Rattle.base.proofs.Points.{true-both}
-use Rattle.timing.specs.Limits.{timeLimit, spanLimit}
+use Rattle.base.specs.Limits.{timeLimit, spanLimit}
 use Rattle.timing.proofs.Checks.{accepted-call, whole-call}
 use Rattle.sources.specs.Schedules.{waitLimit, freshSchedule, wholeDown, wholeSchedule, scheduleNumber, nextWait, queryFailedOf}
 use Rattle.sources.specs.declared.QueryDown.the-variants.{Until}
@@ -21,16 +22,11 @@ down-whole : (time wait : ℕ) → time ≤ timeLimit → wait ≤ waitLimit →
 unfolding wholeDown
 down-whole time wait t w = true-both _ _ (le-leb (time + wait) (timeLimit + spanLimit) (omega arith)) (le-leb wait waitLimit w)
 
--- what a call leaves is whole where the old record is, and the new one is if the call is accepted
-left-whole : (number : ℕ) (old new : Schedule) → wholeSchedule old ≡ true → (number ≡ 0 → wholeSchedule new ≡ true) → wholeSchedule (accepted number old new) ≡ true
-left-whole zero old new h f = f refl
-left-whole (suc number) old new h f = h
-
 module _ (schedule : Schedule) (whole : wholeSchedule schedule ≡ true) (time : ℕ) where
   pub failed-stays-whole : wholeSchedule (queryFailedOf schedule time .schedule) ≡ true
   unfolding queryFailedOf scheduleNumber wholeSchedule
   failed-stays-whole =
-      left-whole (scheduleNumber schedule time) schedule _ whole
+      accepted-all (λ (left : Schedule). wholeSchedule left ≡ true) (scheduleNumber schedule time) schedule _ whole
       (λ e. down-whole time (nextWait (schedule .«query_down»)) (accepted-call time e .1) (wait-short (schedule .«query_down»)))
 
   -- no call on a whole record is refused by 6

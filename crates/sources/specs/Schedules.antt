@@ -3,7 +3,8 @@ use Prim.Native.Nat.{ℕ, _+_, _*_, min}
 use mathlib.Core.Bool.{Bool, true, false}
 use lib.Dec.{leb}
 use Rattle.base.specs.Choice.{both, accepted}
-use Rattle.timing.specs.Limits.{nanos, timelyRecord, callNumber}
+use Rattle.base.specs.Limits.{nanos}
+use Rattle.timing.specs.Checks.{timelyRecord, callNumber}
 use Rattle.sources.specs.declared.QueryDown.{QueryDown}
 use Rattle.sources.specs.declared.QueryDown.the-variants.{Never, Until}
 use Rattle.sources.specs.declared.Schedule.{Schedule}

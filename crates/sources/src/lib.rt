@@ -1,9 +1,9 @@
 // When the Query API, which names an input's sender, is asked again after it did not answer: later each time.
 ghost use mathlib.Core.Path.{_≡_};
 ghost use Rattle.sources.specs.Schedules.{freshSchedule, wholeSchedule, queryUpOf, nextWait, queryFailedOf};
-use timing::NANOS;
+use base::NANOS;
+use base::TIME_LIMIT;
 use timing::RECORD_LIMIT;
-use timing::TIME_LIMIT;
 
 // The first and the longest wait after the Query API did not answer.
 pub const BACKOFF_MIN: u64 = 5 * NANOS;

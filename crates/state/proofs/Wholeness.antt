@@ -5,8 +5,9 @@ use mathlib.Core.Path.{_≡_, refl, sym, _∙_}
 use native.Mathlib.Omega.{arith}
 use borrow.Author.Tests.{le-leb, lt-leb, leb-true}
 use Rattle.base.specs.Choice.{pick, accepted}
-use Rattle.base.proofs.Choices.{yes-ask, no-ask, asked, by-le, pick-all}
-use Rattle.timing.specs.Limits.{timeLimit, spanLimit, callNumber}
+use Rattle.base.proofs.Choices.{yes-ask, no-ask, asked, accepted-all, by-le, pick-all}
+use Rattle.base.specs.Limits.{timeLimit, spanLimit}
+use Rattle.timing.specs.Checks.{callNumber}
 use Rattle.timing.proofs.Checks.{accepted-call, whole-call}
 use Rattle.state.specs.Coalesces.{freshCoalesce, wholeDue, wholeCoalesce, dueAfterChange, changedNumber, changedOf, isSet, recordNumber, isDue, takenBy, takeDueOf, takeOf}
 use Rattle.state.specs.declared.Due.{Due}
@@ -17,11 +18,6 @@ pub fresh-whole : wholeCoalesce freshCoalesce ≡ true
 unfolding wholeCoalesce wholeDue
 fresh-whole = refl
 
--- what a call leaves is whole where the old record is, and the new one is if the call is accepted
-left-whole : (number : ℕ) (old new : Coalesce) → wholeCoalesce old ≡ true → (number ≡ 0 → wholeCoalesce new ≡ true) → wholeCoalesce (accepted number old new) ≡ true
-left-whole zero old new h f = f refl
-left-whole (suc number) old new h f = h
-
 set-whole : (due : Due) (time delay : ℕ) → wholeDue due ≡ true → time ≤ timeLimit → delay ≤ spanLimit → wholeDue (dueAfterChange due time delay) ≡ true
 unfolding wholeDue dueAfterChange
 set-whole Unset time delay h t d = le-leb (time + delay) (timeLimit + spanLimit) (omega arith)
@@ -31,14 +27,14 @@ module _ (coalesce : Coalesce) (whole : wholeCoalesce coalesce ≡ true) where
   pub changed-stays-whole : (time delay : ℕ) → wholeCoalesce (changedOf coalesce time delay .coalesce) ≡ true
   unfolding changedOf changedNumber wholeCoalesce
   changed-stays-whole time delay =
-      left-whole (changedNumber coalesce time delay) coalesce (record { due = dueAfterChange (coalesce .due) time delay }) whole
+      accepted-all (λ (left : Coalesce). wholeCoalesce left ≡ true) (changedNumber coalesce time delay) coalesce (record { due = dueAfterChange (coalesce .due) time delay }) whole
       (λ e.
       let short = asked 2 _ _ e in
       set-whole (coalesce .due) time delay whole (accepted-call time (short .1) .1) (leb-true delay spanLimit (short .0)))
 
   taken-whole : (number : ℕ) (answer : Bool) → wholeCoalesce (takenBy number answer coalesce .coalesce) ≡ true
   taken-whole number answer =
-      left-whole number coalesce (pick answer freshCoalesce coalesce) whole
+      accepted-all (λ (left : Coalesce). wholeCoalesce left ≡ true) number coalesce (pick answer freshCoalesce coalesce) whole
       (λ e. pick-all (λ (left : Coalesce). wholeCoalesce left ≡ true) answer fresh-whole whole)
 
   pub take-due-stays-whole : (time : ℕ) → wholeCoalesce (takeDueOf coalesce time .coalesce) ≡ true

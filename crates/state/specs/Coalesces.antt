@@ -3,7 +3,8 @@ use Prim.Native.Nat.{ℕ, _+_}
 use mathlib.Core.Bool.{Bool, true, false}
 use lib.Dec.{leb}
 use Rattle.base.specs.Choice.{pick, ask, accepted}
-use Rattle.timing.specs.Limits.{spanLimit, timelyRecord, callNumber}
+use Rattle.base.specs.Limits.{spanLimit}
+use Rattle.timing.specs.Checks.{timelyRecord, callNumber}
 use Rattle.state.specs.declared.Due.{Due}
 use Rattle.state.specs.declared.Due.the-variants.{Unset, At}
 use Rattle.state.specs.declared.Coalesce.{Coalesce}

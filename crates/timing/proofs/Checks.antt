@@ -5,7 +5,8 @@ use mathlib.Core.Path.{_≡_, sym, _∙_}
 use native.Mathlib.Omega.{arith}
 use borrow.Author.Tests.{le-leb, lt-leb, leb-true}
 use Rattle.base.proofs.Choices.{yes-ask, no-ask, asked, by-le}
-use Rattle.timing.specs.Limits.{timeLimit, timely, callNumber}
+use Rattle.base.specs.Limits.{timeLimit, timely}
+use Rattle.timing.specs.Checks.{callNumber}
 
 module _ {whole : Bool} (time : ℕ) where
   pub call-broken : whole ≡ false → callNumber whole time ≡ 6

@@ -5,7 +5,7 @@ use native.Mathlib.Nat.{div-add-mod', div-mul-le-self, lt-div-mul-add, div-eq-of
 use native.Mathlib.Omega.{arith}
 use borrow.Author.Tests.{le-leb, lt-leb, lt-ltb, le-ltb}
 use Rattle.base.proofs.Choices.{yes-ask, no-ask}
-use Rattle.timing.specs.Limits.{nanos, timeLimit}
+use Rattle.base.specs.Limits.{nanos, timeLimit}
 use Rattle.timing.specs.Clock.{indexAt, timeOf, indexNumber, timeNumber, answerOf, indexAnswer, timeAnswer}
 
 -- the whole seconds and the rest, each converted

@@ -2,7 +2,7 @@
 use Prim.Native.Nat.{ℕ, _+_, _-_, _*_, _/_, _^_}
 use lib.Dec.{ltb}
 use Rattle.base.specs.Choice.{ask, accepted}
-use Rattle.timing.specs.Limits.{nanos, timely}
+use Rattle.base.specs.Limits.{nanos, timely}
 use Rattle.timing.specs.declared.Answer.{Answer}
 
 -- `index_at`: the sample index at a time, which "rounds down"

@@ -1,3 +1,3 @@
 -- The definitions that the contracts of `timing` cite.
-pub mod Limits
+pub mod Checks
 pub mod Clock

@@ -1,15 +1,9 @@
-// The block clock: sample indices and times in nanoseconds, and the limits that every time keeps.
+// The block clock: sample indices and times in nanoseconds.
 ghost use mathlib.Core.Path.{_≡_};
 ghost use Rattle.timing.specs.Clock.{indexAnswer, timeAnswer};
-
-// The nanoseconds of a second.
-pub const NANOS: u64 = 1_000_000_000;
-
-// The latest time that a call takes (check 8).
-pub const TIME_LIMIT: u64 = 4_000_000_000_000_000_000;
-
-// The longest span, 600 s.
-pub const SPAN_LIMIT: u64 = 600 * NANOS;
+use base::NANOS;
+use base::SPAN_LIMIT;
+use base::TIME_LIMIT;
 
 // The latest time that a record of the clock helpers holds (check 6).
 pub const RECORD_LIMIT: u64 = TIME_LIMIT + SPAN_LIMIT;

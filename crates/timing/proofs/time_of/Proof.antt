@@ -3,7 +3,7 @@ use Prim.Native.Nat.{ℕ, _+_, _*_, _/_, _%_}
 use mathlib.Core.Path.{_≡_, sym}
 use borrow.Author.Needs.{needs}
 use native.Mathlib.Omega.{arith}
-use Rattle.timing.specs.Limits.{nanos}
+use Rattle.base.specs.Limits.{nanos}
 use Rattle.timing.specs.Clock.{timeOf}
 use Rattle.timing.proofs.Conversion.{time-by-seconds, time-answered, time-refused}
 use Rattle.timing.proofs.time_of.Statement.{statement}
