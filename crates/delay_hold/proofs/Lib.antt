@@ -1,0 +1,13 @@
+pub mod Rows
+pub mod Loops
+pub mod Order
+pub mod Bounds
+pub mod Survivors
+pub mod Outcomes
+pub mod Wholes
+pub mod Composition
+pub mod Gate
+pub mod Keeps
+pub mod Covers
+pub mod Later
+pub mod Answers

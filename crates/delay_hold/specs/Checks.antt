@@ -1,0 +1,120 @@
+-- Document 01's checks of `new` and of `next` alone, the answers, and what each call leaves. Assumes nothing.
+-- ---- making a hold
+-- 5: both lists have 600 places
+use Prim.Native.Nat.{ℕ, zero, suc, _+_, _≤_}
+use mathlib.Core.Path.{_≡_}
+use mathlib.Core.Bool.{Bool, true}
+use mathlib.Core.List.{List}
+use lib.Dec.{leb, eqb}
+use lib.ListN.{length}
+use Rattle.base.specs.Choice.{ask, both, accepted}
+use Rattle.policy.specs.declared.DelayPolicy.{DelayPolicy}
+use Rattle.policy.specs.Settings.{reachesAllowed, timesAllowed, marginsAllowed, Sound}
+use Rattle.delay_hold.specs.declared.Lag.{Lag}
+use Rattle.delay_hold.specs.declared.Lag.the-variants.{None, Of}
+use Rattle.delay_hold.specs.declared.Change.{Change}
+use Rattle.delay_hold.specs.declared.Change.the-variants.{Keep, To}
+use Rattle.delay_hold.specs.declared.Answer.{Answer}
+use Rattle.delay_hold.specs.declared.Answer.the-variants.{Kept, Changed, Refused}
+use Rattle.delay_hold.specs.declared.DelayHold.{DelayHold}
+use Rattle.delay_hold.specs.declared.NewHold.{NewHold}
+use Rattle.delay_hold.specs.Next.{Held, held, Decided, nextOf, freshHold, clearedHold, oneMillisecond, alwaysLower}
+use Rattle.delay_hold.specs.Whole.{latest, peakMost, wholeHold}
+
+unfoldable pub listsFit : Held → Bool
+listsFit s = both (eqb (length (s .times)) 600) (eqb (length (s .lags)) 600)
+
+unfoldable pub newNumber : Held → ℕ
+newNumber s = ask 5 (listsFit s) 0
+
+-- what `new` leaves: its number, the hold (the fresh one for a refusal too), and the lists, zero in every place or as they came
+pub record NewReply : Type 0 where
+  pub number : ℕ
+  pub held : Held
+
+abbrev pub newLeft : NewHold → List ℕ → List ℕ → NewReply
+newLeft r times lags = record { number = r .number; held = held (r .hold) times lags }
+
+unfoldable pub newReply : List ℕ → List ℕ → NewReply
+newReply times lags =
+    let s : Held = held freshHold times lags in
+    record { number = newNumber s; held = accepted (newNumber s) s (clearedHold s) }
+
+-- ---- next alone
+-- a lag, if there is one, is at most the limit
+abbrev pub lagUpTo : Lag → ℕ → Bool
+lagUpTo None limit = true
+lagUpTo (Of lag) limit = leb lag limit
+
+-- 2: "Are offset and maximum at most 96,000, W 1 to 4,800" 3. 4.
+unfoldable pub settingsNumber : DelayPolicy → ℕ → ℕ
+settingsNumber policy width =
+    ask 2 (reachesAllowed policy)
+    (ask 2 (leb 1 width)
+    (ask 2 (leb width 4800)
+    (ask 3 (timesAllowed policy)
+    (ask 4 (marginsAllowed policy) 0))))
+
+-- 5. 6. 8. 15: "current at most maximum, p999 at most offset + maximum + W"
+unfoldable pub stateNumber : DelayPolicy → ℕ → Held → Lag → ℕ → ℕ → ℕ
+stateNumber policy width s p999 current time =
+    ask 5 (listsFit s)
+    (ask 6 (wholeHold policy width s)
+    (ask 8 (leb time latest)
+    (ask 15 (leb current (policy .«delay_max»))
+    (ask 15 (lagUpTo p999 (peakMost policy width)) 0))))
+
+-- the first check of `next` that says no, or 0
+unfoldable pub nextNumber : DelayPolicy → ℕ → Held → Lag → ℕ → ℕ → ℕ
+nextNumber policy width s p999 current time =
+    accepted (settingsNumber policy width) (settingsNumber policy width) (stateNumber policy width s p999 current time)
+
+-- the answer for a number and a change
+abbrev pub nextAnswer : ℕ → Change → Answer
+nextAnswer zero Keep = Kept
+nextAnswer zero (To delay) = Changed delay
+nextAnswer (suc k) change = Refused (suc k)
+
+-- an answer's number and value: a refusal changes nothing
+abbrev pub numberOf : Answer → ℕ
+numberOf Kept = 0
+numberOf (Changed delay) = 0
+numberOf (Refused number) = number
+
+abbrev pub valueOf : Answer → Change
+valueOf Kept = Keep
+valueOf (Changed delay) = To delay
+valueOf (Refused number) = Keep
+
+-- what `next` leaves: its answer, and the hold and both lists, as they came where it is refused
+pub record Reply : Type 0 where
+  pub answer : Answer
+  pub held : Held
+
+abbrev pub left : Answer → DelayHold → List ℕ → List ℕ → Reply
+left r h times lags = record { answer = r; held = held h times lags }
+
+-- the reply for a number and what was decided
+abbrev pub replyOf : ℕ → Held → Decided → Reply
+replyOf number s d = record { answer = nextAnswer number (d .change); held = accepted number s (d .held) }
+
+unfoldable pub nextReply : DelayPolicy → ℕ → Held → Lag → Lag → ℕ → ℕ → Reply
+nextReply policy width s p999 largest current time =
+    replyOf (nextNumber policy width s p999 current time) s (nextOf oneMillisecond alwaysLower policy s p999 largest current time)
+
+-- ---- what `core::next` asks: what the checks say, but for the time
+pub record AskedFor (width : ℕ) (policy : DelayPolicy) (s : Held) (p999 : Lag) (current : ℕ) : Type 0 where
+  pub sound : Sound policy
+  pub window-least : 1_000_000_000 ≤ policy .window
+  pub window-most : policy .window ≤ 600_000_000_000
+  pub width-most : width ≤ 4800
+  pub times-long : length (s .times) ≡ 600
+  pub lags-long : length (s .lags) ≡ 600
+  pub whole : wholeHold policy width s ≡ true
+  pub current-in : current ≤ policy .«delay_max»
+  pub p999-in : lagUpTo p999 (peakMost policy width) ≡ true
+
+-- for some width
+pub record Asked (policy : DelayPolicy) (s : Held) (p999 : Lag) (current : ℕ) : Type 0 where
+  pub width : ℕ
+  pub asked : AskedFor width policy s p999 current

@@ -1,0 +1,67 @@
+-- Document 01, check 6, of one hold: "`next` alone sees one hold". Assumes nothing.
+-- "times within 8": at most 4 times 10^18
+use Prim.Native.Nat.{ℕ, _+_, _-_}
+use mathlib.Core.Bool.{Bool, true}
+use lib.Dec.{leb, ltb, eqb}
+use Rattle.base.specs.Choice.{pick, both}
+use Rattle.base.specs.Lists.{blankFrom}
+use Rattle.policy.specs.declared.DelayPolicy.{DelayPolicy}
+use Rattle.delay_hold.specs.declared.Moment.{Moment}
+use Rattle.delay_hold.specs.declared.Moment.the-variants.{Never, At}
+use Rattle.delay_hold.specs.declared.Seed.{Seed}
+use Rattle.delay_hold.specs.declared.Seed.the-variants.{Nothing, From}
+use Rattle.delay_hold.specs.declared.LowerTimer.{LowerTimer}
+use Rattle.delay_hold.specs.declared.DelayHold.{DelayHold}
+use Rattle.delay_hold.specs.Rows.{apart, upTo, spanOf}
+use Rattle.delay_hold.specs.Next.{Held}
+
+abbrev pub latest : ℕ
+latest = 4_000_000_000_000_000_000
+
+abbrev pub momentTimely : Moment → Bool
+momentTimely Never = true
+momentTimely (At t) = leb t latest
+
+-- "seeds .. at most maximum", and its time
+abbrev pub seedFits : Seed → ℕ → Bool
+seedFits Nothing maximum = true
+seedFits (From t delay) maximum = leb delay maximum
+
+abbrev pub seedTimely : Seed → Bool
+seedTimely Nothing = true
+seedTimely (From t delay) = leb t latest
+
+-- "timer needs at most maximum"; a timer that is off is an unused place
+unfoldable pub timerFits : LowerTimer → ℕ → Bool
+timerFits timer maximum =
+    pick (timer .on)
+    (leb (timer .highest) maximum)
+    (both (eqb (timer .since) 0) (eqb (timer .highest) 0))
+
+-- the largest lag that a peak may hold, and p999: "offset + maximum + W"
+abbrev pub peakMost : DelayPolicy → ℕ → ℕ
+peakMost policy width = policy .«read_offset» + policy .«delay_max» + width
+
+-- "peaks within number, each at least 1 s after the one before, .. less than window; .. unused places zero; peaks at most offset + maximum + W"
+unfoldable pub wholePeaks : DelayPolicy → ℕ → Held → Bool
+wholePeaks policy width s =
+    both (leb (s .hold .peaks) 600)
+    (both (apart 1_000_000_000 (s .hold .peaks - 1) (s .times))
+    (both (ltb (spanOf (s .hold .peaks) (s .times)) (policy .window))
+    (both (blankFrom (s .hold .peaks) (s .times))
+    (both (blankFrom (s .hold .peaks) (s .lags))
+    (both (upTo (peakMost policy width) (s .hold .peaks) (s .lags))
+    (upTo latest (s .hold .peaks) (s .times)))))))
+
+-- "seeds, timer needs at most maximum; .. times within 8"
+unfoldable pub wholeTimes : DelayPolicy → DelayHold → Bool
+wholeTimes policy h =
+    both (seedFits (h .seeded) (policy .«delay_max»))
+    (both (timerFits (h .lower) (policy .«delay_max»))
+    (both (momentTimely (h .«last_change»))
+    (both (leb (h .lower .since) latest)
+    (both (momentTimely (h .started))
+    (seedTimely (h .seeded))))))
+
+unfoldable pub wholeHold : DelayPolicy → ℕ → Held → Bool
+wholeHold policy width s = both (wholePeaks policy width s) (wholeTimes policy (s .hold))

@@ -1,0 +1,20 @@
+-- `lag_window::LagWindow::clear` meets its contract. Assumes nothing.
+use borrow.Author.Needs.{needs}
+use Rattle.lag_window.proofs.Numbers.{checked-sound, clear-refused, clear-made}
+use Rattle.lag_window.proofs.LagWindow.clear.Statement.{statement}
+use Rattle.lag_window.proofs.LagWindow.clear.Tie as tie
+
+pub clear-spec : {M : Type 1} → statement M
+clear-spec =
+    tie.close
+    (tie.spec
+    (λ c κs. search needs)  -- number-requires
+    (λ c. search needs)  -- same-length
+    (λ c. search needs)  -- same-length-2
+    (λ c. search needs)  -- same-length-3
+    (λ c. clear-refused _ _ (c .before .number .ensures) (c .if1 .taken))  -- returns
+    (λ c κs. checked-sound _ _ (c .before .before .before .before .number .ensures) (c .before .before .before .if1 .left) .shaped)  -- emptied-requires
+    (λ c. search needs)  -- same-length-4
+    (λ c. search needs)  -- same-length-5
+    (λ c. search needs)  -- same-length-6
+    (λ c. clear-made _ _ _ (c .before .before .before .before .before .before .before .before .before .before .before .number .ensures) (c .before .before .before .before .before .before .before .before .before .before .if1 .left) (c .before .before .before .before .before .before .emptied .ensures)))  -- returns-2

@@ -1,0 +1,14 @@
+pub mod Stales
+pub mod WholeAt
+pub mod Keeps
+pub mod InUse
+pub mod Pushing
+pub mod Checking
+pub mod Wholes
+pub mod Sums
+pub mod Totals
+pub mod Reaching
+pub mod Numbers
+pub mod PushCalls
+pub mod Ticks
+pub mod Parting

@@ -1,0 +1,91 @@
+-- The window of input j among the lists of all inputs. The end of a part `a..a + k` comes back as `a + k - a`. Assumes nothing.
+use Prim.Native.Nat.{ℕ, _+_, _-_, _*_, _≤_}
+use mathlib.Core.Bool.{Bool, true, false}
+use mathlib.Core.Path.{_≡_, refl, sym, ap, subst, _∙_}
+use mathlib.Core.List.{List, [], _∷_}
+use native.Mathlib.Omega.{arith}
+use lib.Ieee.{Float}
+use lib.ListN.{length, take, length-take, length-drop}
+use Rattle.base.specs.Choice.{pick}
+use Rattle.base.specs.Lists.{part, patched}
+use Rattle.lag_window.specs.declared.LagWindow.{LagWindow}
+use Rattle.lag_window.specs.declared.Quantile.{Quantile}
+use Rattle.lag_window.specs.Window.{Window, lent, inUse, laid, opens, added, opened, dropped, counted, pushed, pushedAll}
+use Rattle.lag_window.specs.Whole.{wholeWindow, Shaped, Sound}
+use Rattle.lag_window.specs.Checks.{roomFor}
+use Rattle.lag_window.specs.Quantile.{quantileUpto, Placeable}
+use Rattle.lag_window.specs.Parts.{partOf, placed, Held}
+
+pub part-length : (a k : ℕ) (xs : List ℕ) → a + k ≤ length xs → length (part a k xs) ≡ k
+part-length a k xs h = simp (length-take, length-drop) (omega arith)
+
+-- what input j holds has the sizes and lengths of a window
+pub held-shaped : (j : ℕ) (w : Window) → Held j w → Shaped (partOf j w)
+held-shaped j w h =
+    record {
+      width-low = h .width-low;
+      width-high = h .width-high;
+      buckets-low = h .buckets-low;
+      buckets-high = h .buckets-high;
+      starts-long = part-length (j * 11) 11 (w .starts) (h .starts-in);
+      totals-long = part-length (j * 11) 11 (w .totals) (h .totals-in);
+      counts-long = part-length (j * (11 * w .buckets)) (11 * w .buckets) (w .counts) (h .counts-in);
+    }
+
+pub held-sound : (j : ℕ) (w : Window) → Held j w → wholeWindow (partOf j w) ≡ true → Sound (partOf j w)
+held-sound j w h e = record { shaped = held-shaped j w h; whole = e }
+
+-- ---- a push keeps a window's sizes
+pub pushed-sizes : (lag time : ℕ) (w : Window) → ((pushed lag time w) .buckets ≡ w .buckets) × ((pushed lag time w) .width ≡ w .width)
+unfolding pushed laid counted dropped opened inUse
+pushed-sizes lag time w = go (opens time (w .seconds) (take (w .seconds) (w .starts)))
+  where
+    go : (b : Bool) → ((pick b (added time (inUse w)) (inUse w)) .buckets ≡ w .buckets) × ((pick b (added time (inUse w)) (inUse w)) .width ≡ w .width)
+    go true = (refl, refl)
+    go false = (refl, refl)
+
+pub pushed-all-sizes : (time : ℕ) (lags : List ℕ) (w : Window) → ((pushedAll time lags w) .buckets ≡ w .buckets) × ((pushedAll time lags w) .width ≡ w .width)
+unfolding pushedAll
+pushed-all-sizes time [] w = (refl, refl)
+pushed-all-sizes time (lag ∷ lags) w =
+    let a = pushed-all-sizes time lags (pushed lag time w) in
+    let b = pushed-sizes lag time w in
+    (a .0 ∙ b .0, a .1 ∙ b .1)
+
+-- ---- the parts as the code makes them: k is 11, and n is 11 rows
+module _ (j : ℕ) (w : LagWindow) (s t c : List ℕ) (k n : ℕ) (ek : k ≡ 11) (en : n ≡ 11 * w .buckets) where
+  -- the window of input j, as it is passed
+  abbrev passed : Window
+  passed = lent w (part (j * 11) k s) (part (j * 11) k t) (part (j * (11 * w .buckets)) n c)
+
+  is-part : passed ≡ partOf j (lent w s t c)
+  is-part = rw (ek, en)
+
+  pub part-shaped : Held j (lent w s t c) → Shaped passed
+  part-shaped h = rw is-part (held-shaped j (lent w s t c) h)
+
+  pub part-whole : (r : Bool) → r ≡ wholeWindow passed → r ≡ wholeWindow (partOf j (lent w s t c))
+  part-whole r e = rw is-part at e
+
+  pub part-push-asks : (time : ℕ) (lags : List ℕ) → Held j (lent w s t c) → time ≤ 4000000000000000000 → wholeWindow (partOf j (lent w s t c)) ≡ true → roomFor time (length lags) (partOf j (lent w s t c)) ≡ true → (Sound passed) × ((time ≤ 4000000000000000000) × (roomFor time (length lags) passed ≡ true))
+  part-push-asks time lags h soon wh room = (rw is-part (held-sound j (lent w s t c) h wh), (soon, subst (λ (v : Window). roomFor time (length lags) v ≡ true) (sym is-part) room))
+
+  -- the lists of all inputs after a step on this part
+  module _ (F : Window → Window) (kept : ((F (partOf j (lent w s t c))) .buckets ≡ w .buckets) × ((F (partOf j (lent w s t c))) .width ≡ w .width)) (r : LagWindow) (s1 t1 c1 : List ℕ) (e : lent r s1 t1 c1 ≡ F passed) where
+    stepped : lent r s1 t1 c1 ≡ F (partOf j (lent w s t c))
+    stepped = rw is-part at e
+
+    put : Window → Window
+    put v = record { seconds = v .seconds; buckets = v .buckets; width = v .width; starts = patched (j * 11) 11 (v .starts) s; totals = patched (j * 11) 11 (v .totals) t; counts = patched (j * (11 * w .buckets)) (11 * w .buckets) (v .counts) c }
+
+    pub part-placed : lent r (patched (j * 11) k s1 s) (patched (j * 11) k t1 t) (patched (j * (11 * w .buckets)) n c1 c) ≡ placed j (F (partOf j (lent w s t c))) (lent w s t c)
+    unfolding put
+    part-placed = rw (ek, en) (ap put stepped ∙ rw (kept .0, kept .1))
+
+-- ---- the counts alone
+module _ (q : Float) (limit : ℕ) (j : ℕ) (w : LagWindow) (c : List ℕ) (n : ℕ) (en : n ≡ 11 * w .buckets) where
+  pub part-quantile-asks : (w .seconds ≤ 11) × (w .buckets ≤ 4096) × (1 ≤ w .width) × (w .width ≤ 4800) → j * (11 * w .buckets) + 11 * w .buckets ≤ length c → Placeable q limit (partOf j (lent w [] [] c)) → ((w .seconds ≤ 11) × (w .buckets ≤ 4096) × (1 ≤ w .width) × (w .width ≤ 4800)) × ((length (part (j * (11 * w .buckets)) n c) ≡ 11 * w .buckets) × Placeable q limit (lent w [] [] (part (j * (11 * w .buckets)) n c)))
+  part-quantile-asks sizes h p = rw en (sizes, (part-length (j * (11 * w .buckets)) (11 * w .buckets) c h, p))
+
+  pub part-quantile : (r : Quantile) → r ≡ quantileUpto q limit (lent w [] [] (part (j * (11 * w .buckets)) n c)) → r ≡ quantileUpto q limit (partOf j (lent w [] [] c))
+  part-quantile r e = rw en at e

@@ -1,0 +1,157 @@
+-- The sums and the search of a quantile, as the loops go: rows along memory, and only the buckets up to the limit. Assumes nothing.
+use Prim.Native.Nat.{ℕ, zero, suc, _+_, _-_, _*_, _/_, _<_, _≤_, min}
+use mathlib.Core.Bool.{Bool, true, false}
+use mathlib.Core.Path.{_≡_, refl, sym, ap, _∙_}
+use mathlib.Core.List.{List}
+use native.Mathlib.Omega.{arith}
+use native.Mathlib.Nat.{div-lt-iff-lt-mul, le-div-iff-mul-le}
+use borrow.Author.Tests.{le-leb, lt-leb, eq-eqb, ne-eqb}
+use lib.Dec.{leb}
+use lib.Ieee.{Float}
+use lib.ListN.{getD}
+use Rattle.base.specs.Choice.{pick}
+use Rattle.base.specs.Lists.{sum, sumFrom}
+use Rattle.base.proofs.Choices.{by-le, no-pick, yes-pick}
+use Rattle.base.proofs.All.{sum-none, sum-more, sum-end}
+use Rattle.base.proofs.Flat.{row-within}
+use Rattle.base.proofs.Points.{sum-cong}
+use Rattle.doubles.specs.Quantile as places
+use Rattle.lag_window.specs.declared.Quantile.{Quantile}
+use Rattle.lag_window.specs.declared.Quantile.the-variants.{End, None}
+use Rattle.lag_window.specs.declared.Found.{Found}
+use Rattle.lag_window.specs.declared.Found.the-variants.{At, Nowhere}
+use Rattle.lag_window.specs.Quantile.{column, within, running, reach, endOf, quantileIn}
+use Rattle.lag_window.specs.InPlace.{rowsUpto}
+use Rattle.lag_window.proofs.Sums.{sum-swap, sum-past}
+
+-- ---- the lags of one bucket
+module _ (B b : ℕ) (cs : List ℕ) where
+  pub column-none : 0 ≡ column B b 0 cs
+  unfolding column
+  column-none = sum-none _
+
+  pub column-more : (i s v : ℕ) → s ≡ column B b i cs → v ≡ getD cs (i * B + b) 0 → s + v ≡ column B b (i + 1) cs
+  unfolding column
+  column-more i s v e h = sum-more _ i s v e h
+
+  pub column-end : (n i s : ℕ) → s ≡ column B b i cs → i ≤ n → n ≤ i → s ≡ column B b n cs
+  unfolding column
+  column-end n i s e h l = sum-end _ n i s e h l
+
+-- ---- the first m buckets of each row
+module _ (B m : ℕ) (cs : List ℕ) where
+  pub rows-none : 0 ≡ rowsUpto B m 0 cs
+  unfolding rowsUpto
+  rows-none = sum-none _
+
+  pub rows-more : (i s v : ℕ) → s ≡ rowsUpto B m i cs → v ≡ sumFrom (i * B) m cs → s + v ≡ rowsUpto B m (i + 1) cs
+  unfolding rowsUpto
+  rows-more i s v e h = sum-more _ i s v e h
+
+  rows-end : (n i s : ℕ) → s ≡ rowsUpto B m i cs → i ≤ n → n ≤ i → s ≡ rowsUpto B m n cs
+  unfolding rowsUpto
+  rows-end n i s e h l = sum-end _ n i s e h l
+
+  rows-columns : (n : ℕ) → rowsUpto B m n cs ≡ sum (λ b. column B b n cs) m
+  unfolding rowsUpto sumFrom column
+  rows-columns n = sum-swap (λ r b. getD cs (r * B + b) 0) m n
+
+-- ---- the buckets that start at most at the limit are the first min B (limit / W + 1)
+module _ (limit W B n : ℕ) (cs : List ℕ) (pos : 1 ≤ W) (m : ℕ) (em : m ≡ min B (limit / W + 1)) where
+  within-shown : (b : ℕ) → b < m → within limit W B n cs b ≡ column B b n cs
+  unfolding within
+  within-shown b l = yes-pick (column B b n cs) 0 (le-leb (b * W) limit (le-div-iff-mul-le pos .0 (omega arith)))
+
+  within-hidden : (b : ℕ) → m ≤ b → b < B → within limit W B n cs b ≡ 0
+  unfolding within
+  within-hidden b l k = no-pick (column B b n cs) 0 (lt-leb (b * W) limit (div-lt-iff-lt-mul pos .0 (omega arith)))
+
+  -- the running count rises no more after these
+  running-past : (b : ℕ) → m ≤ b → b ≤ B → running limit W B n cs b ≡ running limit W B n cs m
+  unfolding running
+  running-past b l k = sum-past (within limit W B n cs) m b l (λ i g h. within-hidden i g (omega arith))
+
+  running-shown : running limit W B n cs m ≡ sum (λ b. column B b n cs) m
+  unfolding running
+  running-shown = sum-cong (within limit W B n cs) (λ b. column B b n cs) m within-shown
+
+  pub total-end : (i s : ℕ) → s ≡ rowsUpto B m i cs → i ≤ n → n ≤ i → s ≡ running limit W B n cs B
+  total-end i s e h l = rows-end B m cs n i s e h l ∙ (rows-columns B m cs n ∙ (sym running-shown ∙ sym (running-past B (omega arith) (omega arith))))
+
+  pub running-more : (b s v : ℕ) → s ≡ running limit W B n cs b → v ≡ column B b n cs → b < m → s + v ≡ running limit W B n cs (b + 1)
+  unfolding running
+  running-more b s v e h l = sum-more (within limit W B n cs) b s v e (h ∙ sym (within-shown b l))
+
+  module _ (target : ℕ) (whole : Found) (b : ℕ) (inv : whole ≡ reach target limit W B n cs (B - b) b) where
+    pub reach-more : (s v : ℕ) → s ≡ running limit W B n cs b → v ≡ column B b n cs → b < m → s + v < target → whole ≡ reach target limit W B n cs (B - (b + 1)) (b + 1)
+    unfolding reach
+    reach-more s v e h l k =
+        let q : B - b ≡ suc (B - (b + 1)) = omega arith in
+        let u : leb target (running limit W B n cs (b + 1)) ≡ false = rw (← running-more b s v e h l) (lt-leb target (s + v) k) in
+        inv ∙ rw (q, u)
+
+    pub reach-stop : (s v : ℕ) → s ≡ running limit W B n cs b → v ≡ column B b n cs → b < m → target ≤ s + v → At b ≡ whole
+    unfolding reach
+    reach-stop s v e h l k =
+        let q : B - b ≡ suc (B - (b + 1)) = omega arith in
+        let u : leb target (running limit W B n cs (b + 1)) ≡ true = rw (← running-more b s v e h l) (le-leb target (s + v) k) in
+        sym (inv ∙ rw (q, u))
+
+    -- past the limit nothing is reached any more
+    none-past : (d c : ℕ) → m ≤ c → c + d ≤ B → running limit W B n cs m < target → reach target limit W B n cs d c ≡ Nowhere
+    unfolding reach
+    none-past zero c l k t = refl
+    none-past (suc d) c l k t =
+        let u : leb target (running limit W B n cs (c + 1)) ≡ false = lt-leb target (running limit W B n cs (c + 1)) (omega (arith, running-past (c + 1) (omega arith) (omega arith))) in
+        rw u (none-past d (c + 1) (omega arith) (omega arith) t)
+
+    pub reach-past : (s : ℕ) → s ≡ running limit W B n cs b → (1 ≤ b → s < target) → b ≤ m → m ≤ b → Nowhere ≡ whole
+    unfolding reach
+    reach-past s e t h l = by-le B b done (λ g. sym (inv ∙ none-past (B - b) b l (omega arith) (rw same (rw e at (t (omega arith))))))
+      where
+        same : m ≡ b
+        same = omega arith
+
+        done : B ≤ b → Nowhere ≡ whole
+        done g = let q : B - b ≡ 0 = omega arith in sym (inv ∙ rw q)
+
+pub running-none : (limit W B n : ℕ) (cs : List ℕ) → 0 ≡ running limit W B n cs 0
+unfolding running
+running-none limit W B n cs = sum-none _
+
+-- ---- the quantile
+-- a bucket that is found is one of the buckets
+found-below : (target limit W B n : ℕ) (cs : List ℕ) (d c b : ℕ) → reach target limit W B n cs d c ≡ At b → b < c + d
+unfolding reach
+found-below target limit W B n cs zero c b e = let z : _≡_ {A = ℕ} 0 1 = cc in absurd (omega arith)
+found-below target limit W B n cs (suc d) c b e = go (leb target (running limit W B n cs (c + 1))) e (λ f. found-below target limit W B n cs d (c + 1) b f)
+  where
+    go : (y : Bool) → pick y (At c) (reach target limit W B n cs d (c + 1)) ≡ At b → (reach target limit W B n cs d (c + 1) ≡ At b → b < c + 1 + d) → b < c + suc d
+    go true f g = let q : c ≡ b = cc in omega arith
+    go false f g = omega (arith, g f)
+
+module _ (q : Float) (limit W B n : ℕ) (cs : List ℕ) (t : ℕ) (et : t ≡ running limit W B n cs B) where
+  pub quantile-none : t ≡ 0 → None ≡ quantileIn q limit W B n cs
+  unfolding quantileIn
+  quantile-none z = simp (← et, eq-eqb _ _ z)
+
+  pub place-asks : places.Quantile (running limit W B n cs B) q → places.Quantile t q
+  place-asks h = rw et h
+
+  module _ (target : ℕ) (ep : target ≡ places.placeOf t q) (found : Found) (ef : found ≡ reach target limit W B n cs B 0) where
+    quantile-is : (t ≡ 0 → ⊥) → endOf W found ≡ quantileIn q limit W B n cs
+    unfolding quantileIn
+    quantile-is z = simp (← et, ne-eqb _ _ z, ← ep, ← ef)
+
+    pub quantile-nowhere : (t ≡ 0 → ⊥) → found ≡ Nowhere → None ≡ quantileIn q limit W B n cs
+    quantile-nowhere z f = ap (endOf W) (sym f) ∙ quantile-is z
+
+    pub quantile-end : (t ≡ 0 → ⊥) → (b a : ℕ) → found ≡ At b → a ≡ (b + 1) * W → End a ≡ quantileIn q limit W B n cs
+    quantile-end z b a f e = rw e (ap (endOf W) (sym f) ∙ quantile-is z)
+
+    pub bucket-found : (b : ℕ) → found ≡ At b → b < B
+    bucket-found b f = omega (arith, found-below target limit W B n cs B 0 b (sym ef ∙ f))
+
+-- the first m places of a row stand in the list
+pub row-part : (r n B L m k : ℕ) → r < n → n ≤ 11 → L ≡ 11 * B → m ≡ min B k → r * B + m ≤ L
+row-part r n B L m k h l e em = omega (arith, row-within r n B L h l e)

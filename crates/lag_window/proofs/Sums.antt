@@ -1,0 +1,26 @@
+-- Sums over rows are sums over columns, and a sum whose later terms are zero. Of general use. Assumes nothing.
+use Prim.Native.Nat.{ℕ, zero, suc, _+_, _-_, _<_, _≤_}
+use mathlib.Core.Path.{_≡_, refl, sym, ap, _∙_}
+use native.Mathlib.Nat.{not-suc-le-zero}
+use native.Mathlib.Omega.{arith}
+use Rattle.base.specs.Lists.{sum}
+use Rattle.base.proofs.Choices.{by-le}
+use Rattle.base.proofs.Points.{sum-zero}
+
+pub sum-add : (f g : ℕ → ℕ) (n : ℕ) → sum (λ i. f i + g i) n ≡ sum f n + sum g n
+unfolding sum
+sum-add f g zero = refl
+sum-add f g (suc n) = omega (arith, sum-add f g n)
+
+pub sum-swap : (f : ℕ → ℕ → ℕ) (m n : ℕ) → sum (λ r. sum (λ b. f r b) m) n ≡ sum (λ b. sum (λ r. f r b) n) m
+unfolding sum
+sum-swap f m zero = sym (sum-zero (λ b. 0) m (λ i l. refl))
+sum-swap f m (suc n) = ap (λ (x : ℕ). x + sum (λ b. f n b) m) (sum-swap f m n) ∙ sym (sum-add (λ b. sum (λ r. f r b) n) (λ b. f n b) m)
+
+pub sum-past : (f : ℕ → ℕ) (m n : ℕ) → m ≤ n → ((i : ℕ) → m ≤ i → i < n → f i ≡ 0) → sum f n ≡ sum f m
+unfolding sum
+sum-past f zero zero h z = refl
+sum-past f (suc m) zero h z = absurd (not-suc-le-zero h)
+sum-past f m (suc n) h z =
+    by-le m n (λ l. omega (arith, sum-past f m n l (λ i g k. z i g (omega arith)), z n l (omega arith)))
+    (λ l. let e : m ≡ suc n = omega arith in rw e)

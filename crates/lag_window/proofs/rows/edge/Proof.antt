@@ -1,0 +1,13 @@
+-- `lag_window::rows::edge` meets its contract. Assumes nothing.
+use borrow.Author.Needs.{needs}
+use Rattle.base.proofs.Flat.{edge-fits}
+use Rattle.lag_window.proofs.rows.edge.Statement.{statement}
+use Rattle.lag_window.proofs.rows.edge.Tie as tie
+
+pub edge-spec : {M : Type 1} → statement M
+edge-spec =
+    tie.close
+    (tie.spec
+    (λ c. search needs)  -- cast-result
+    (λ c. search edge-fits)  -- mul-result
+    (λ c. search needs))  -- returns

@@ -1,0 +1,13 @@
+-- `lag_window::steps::room` meets its contract. Assumes nothing.
+use borrow.Author.Needs.{needs}
+use Rattle.lag_window.proofs.Pushing.{room-none, room-some}
+use Rattle.lag_window.proofs.steps.room.Statement.{statement}
+use Rattle.lag_window.proofs.steps.room.Tie as tie
+
+pub room-spec : {M : Type 1} → statement M
+room-spec =
+    tie.close
+    (tie.spec
+    (λ c κs. search needs)  -- newest-requires
+    (λ c. search room-none)  -- returns
+    (λ c. search room-some))  -- returns-2

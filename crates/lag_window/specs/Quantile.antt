@@ -1,0 +1,58 @@
+-- Document 01, "LagWindow": the quantile of the counted lags up to a limit. Assumes nothing.
+use Prim.Native.Nat.{ℕ, zero, suc, _+_, _*_}
+use mathlib.Core.List.{List}
+use lib.Dec.{leb, eqb}
+use lib.ListN.{getD}
+use lib.Ieee.{Float}
+use Rattle.base.specs.Choice.{pick}
+use Rattle.base.specs.Lists.{sum}
+use Rattle.doubles.specs.Quantile as places
+use Rattle.lag_window.specs.declared.Quantile.{Quantile}
+use Rattle.lag_window.specs.declared.Quantile.the-variants.{End, None}
+use Rattle.lag_window.specs.declared.Found.{Found}
+use Rattle.lag_window.specs.declared.Found.the-variants.{At, Nowhere}
+use Rattle.lag_window.specs.Window.{Window}
+
+-- the lags of bucket b in the n seconds
+unfoldable pub column : (buckets b n : ℕ) → List ℕ → ℕ
+column buckets b n counts = sum (λ r. getD counts (r * buckets + b) 0) n
+
+-- "counts buckets whose start (b times W) is at most limit": the lags that bucket b brings
+unfoldable pub within : (limit width buckets n : ℕ) → List ℕ → ℕ → ℕ
+within limit width buckets n counts b = pick (leb (b * width) limit) (column buckets b n counts) 0
+
+-- the running count: the lags that the first m buckets bring
+unfoldable pub running : (limit width buckets n : ℕ) → List ℕ → ℕ → ℕ
+running limit width buckets n counts m = sum (within limit width buckets n counts) m
+
+-- "the first bucket where the running count reaches it", of m buckets from b on
+unfoldable pub reach : (target limit width buckets n : ℕ) → List ℕ → ℕ → ℕ → Found
+reach target limit width buckets n counts zero b = Nowhere
+reach target limit width buckets n counts (suc m) b =
+    pick (leb target (running limit width buckets n counts (b + 1))) (At b) (reach target limit width buckets n counts m (b + 1))
+
+-- "the answer is the end (b + 1) times W"
+abbrev pub endOf : ℕ → Found → Quantile
+endOf width (At b) = End ((b + 1) * width)
+endOf width Nowhere = None
+
+-- "Total 0: none. Else target = total times q as a double, raised to the next whole number, at least 1"
+unfoldable pub quantileIn : Float → (limit width buckets n : ℕ) → List ℕ → Quantile
+quantileIn q limit width buckets n counts =
+    let total = running limit width buckets n counts buckets in
+    pick (eqb total 0) None (endOf width (reach (places.placeOf total q) limit width buckets n counts buckets 0))
+
+-- `quantile_upto`, and `quantile`, which has no limit
+abbrev pub quantileUpto : Float → ℕ → Window → Quantile
+quantileUpto q limit w = quantileIn q limit (w .width) (w .buckets) (w .seconds) (w .counts)
+
+abbrev pub quantileOf : Float → Window → Quantile
+quantileOf q w = quantileUpto q 4294967295 w
+
+-- all the lags that `quantile_upto` counts
+abbrev pub totalUpto : ℕ → Window → ℕ
+totalUpto limit w = running limit (w .width) (w .buckets) (w .seconds) (w .counts) (w .buckets)
+
+-- what the place of q among these lags is asked for: they are few enough, and q is from 0 to 1
+abbrev pub Placeable : Float → ℕ → Window → Type 0
+Placeable q limit w = places.Quantile (totalUpto limit w) q

@@ -1,0 +1,307 @@
+// The lateness of one input's lags: a histogram for each of the last seconds, over lent lists (document 01, "LagWindow").
+ghost use mathlib.Core.Path.{_≡_};
+ghost use Prim.Native.Nat.{_*_};
+ghost use Rattle.lag_window.specs.Window.{lent, fresh, cleared};
+ghost use Rattle.lag_window.specs.Whole.{Shaped};
+ghost use Rattle.lag_window.specs.Checks.{checked, fromZeroToOne, newNumber, pushNumber, quantileNumber, left, newReply, pushReply, clearReply, spanReply, quantileUptoReply, quantileReply};
+use base::zero_u32;
+use base::zero_u64;
+
+// Functions that ask something of their caller; the crates above use them after their checks.
+mod checks;
+pub mod core;
+mod rows;
+mod steps;
+
+// How many seconds are in use, how many buckets a second has, and a bucket's width in samples.
+// The lent lists hold, oldest first, the starts and totals of 11 seconds and 11 rows of counts; unused places are zero.
+pub struct LagWindow {
+    pub seconds: usize,
+    pub buckets: usize,
+    pub width: u32,
+}
+
+// The number of the check that refuses, or 0, and the window.
+pub struct WindowAnswer {
+    pub number: u32,
+    pub window: LagWindow,
+}
+
+// The number of the check that refuses, or 0, and the span in nanoseconds.
+pub struct SpanAnswer {
+    pub number: u32,
+    pub span: u64,
+}
+
+// The end of the bucket that holds a quantile, none where no lag counts, or the number of the check that refuses.
+pub enum Quantile {
+    End(u32),
+    None,
+    Refused(u32),
+}
+
+// A bucket that was searched for.
+pub enum Found {
+    At(usize),
+    Nowhere,
+}
+
+impl LagWindow {
+    pub const SECONDS: usize = 11;
+
+    // A second goes once it is older than this: 10 s.
+    pub const LIMIT: u64 = 10_000_000_000;
+
+    // A second opens once the newest is this old: 1 s.
+    pub const SECOND: u64 = 1_000_000_000;
+
+    // The samples of a tenth of a second: how far the buckets reach beyond offset and maximum.
+    pub const TENTH: u32 = 4_800;
+
+    // The latest time that the calls admit (check 8).
+    pub const LATEST: u64 = 4_000_000_000_000_000_000;
+
+    // The most lags that one second counts (check 11).
+    pub const MOST: u64 = 4_294_967_295;
+
+    fn new_number(
+        offset: u32,
+        maximum: u32,
+        width: u32,
+        starts: usize,
+        totals: usize,
+        counts: usize,
+    ) -> u32
+        ensures { λ r. ⌜ r ≡ newNumber offset maximum width starts totals counts ⌝ }
+    {
+        if 96_000 < offset {
+            return 2;
+        }
+        if 96_000 < maximum {
+            return 2;
+        }
+        if width < 1 {
+            return 2;
+        }
+        if 4_800 < width {
+            return 2;
+        }
+        let buckets = core::buckets_of(offset, maximum, width);
+        if 4_096 < buckets {
+            return 2;
+        }
+        if starts != LagWindow::SECONDS {
+            return 5;
+        }
+        if totals != LagWindow::SECONDS {
+            return 5;
+        }
+        if counts != LagWindow::SECONDS * buckets {
+            return 5;
+        }
+        0
+    }
+
+    // A fresh window for these settings; every lent place is written.
+    pub fn new(
+        offset: u32,
+        maximum: u32,
+        width: u32,
+        starts: &mut [u64],
+        totals: &mut [u64],
+        counts: &mut [u32],
+    ) -> WindowAnswer
+        ensures { λ r. ⌜ left r (now (starts .exit)) (now (totals .exit)) (now (counts .exit)) ≡ newReply offset maximum width (now (starts .entry)) (now (totals .entry)) (now (counts .entry)) ⌝ }
+    {
+        let number = LagWindow::new_number(
+            offset,
+            maximum,
+            width,
+            starts.len(),
+            totals.len(),
+            counts.len(),
+        );
+        if number != 0 {
+            return WindowAnswer {
+                number,
+                window: LagWindow {
+                    seconds: 0,
+                    buckets: 0,
+                    width: 0,
+                },
+            };
+        }
+        let buckets = core::buckets_of(offset, maximum, width);
+        let made = LagWindow {
+            seconds: 0,
+            buckets,
+            width,
+        };
+        let window = made.emptied(starts, totals, counts);
+        WindowAnswer { number, window }
+    }
+
+    // The window without seconds: every lent place becomes zero.
+    pub(crate) fn emptied(
+        self,
+        starts: &mut [u64],
+        totals: &mut [u64],
+        counts: &mut [u32],
+    ) -> LagWindow
+        requires { ⌜ Shaped (lent self (now starts) (now totals) (now counts)) ⌝ }
+        ensures { λ r. ⌜ lent r (now (starts .exit)) (now (totals .exit)) (now (counts .exit)) ≡ cleared (lent self (now (starts .entry)) (now (totals .entry)) (now (counts .entry))) ⌝ }
+    {
+        zero_u64(starts);
+        zero_u64(totals);
+        zero_u32(counts);
+        LagWindow {
+            seconds: 0,
+            buckets: self.buckets,
+            width: self.width,
+        }
+    }
+
+    // The checks that every call on a window makes: 2, 5 and 6.
+    fn number(self, starts: &[u64], totals: &[u64], counts: &[u32]) -> u32
+        ensures { λ r. ⌜ r ≡ checked (lent self (now (starts .entry)) (now (totals .entry)) (now (counts .entry))) 0 ⌝ }
+    {
+        if self.width < 1 {
+            return 2;
+        }
+        if 4_800 < self.width {
+            return 2;
+        }
+        if self.buckets < 2 {
+            return 2;
+        }
+        if 4_096 < self.buckets {
+            return 2;
+        }
+        if starts.len() != LagWindow::SECONDS {
+            return 5;
+        }
+        if totals.len() != LagWindow::SECONDS {
+            return 5;
+        }
+        if counts.len() != LagWindow::SECONDS * self.buckets {
+            return 5;
+        }
+        if !checks::whole(self, starts, totals, counts) {
+            return 6;
+        }
+        0
+    }
+
+    fn push_number(self, time: u64, starts: &[u64], totals: &[u64], counts: &[u32]) -> u32
+        ensures { λ r. ⌜ r ≡ pushNumber time (lent self (now (starts .entry)) (now (totals .entry)) (now (counts .entry))) ⌝ }
+    {
+        let number = self.number(starts, totals, counts);
+        if number != 0 {
+            return number;
+        }
+        if LagWindow::LATEST < time {
+            return 8;
+        }
+        if !steps::room(self.seconds, time, 1, starts, totals) {
+            return 11;
+        }
+        0
+    }
+
+    // Counts a lag: a second opens if none exists or the newest is at least 1 s old, then seconds more than 10 s old go.
+    pub fn push(
+        self,
+        lag: u32,
+        time: u64,
+        starts: &mut [u64],
+        totals: &mut [u64],
+        counts: &mut [u32],
+    ) -> WindowAnswer
+        ensures { λ r. ⌜ left r (now (starts .exit)) (now (totals .exit)) (now (counts .exit)) ≡ pushReply lag time (lent self (now (starts .entry)) (now (totals .entry)) (now (counts .entry))) ⌝ }
+    {
+        let number = self.push_number(time, starts, totals, counts);
+        if number != 0 {
+            return WindowAnswer {
+                number,
+                window: self,
+            };
+        }
+        let window = steps::push(self, lag, time, starts, totals, counts);
+        WindowAnswer { number, window }
+    }
+
+    // Forgets every second.
+    pub fn clear(self, starts: &mut [u64], totals: &mut [u64], counts: &mut [u32]) -> WindowAnswer
+        ensures { λ r. ⌜ left r (now (starts .exit)) (now (totals .exit)) (now (counts .exit)) ≡ clearReply (lent self (now (starts .entry)) (now (totals .entry)) (now (counts .entry))) ⌝ }
+    {
+        let number = self.number(starts, totals, counts);
+        if number != 0 {
+            return WindowAnswer {
+                number,
+                window: self,
+            };
+        }
+        let window = self.emptied(starts, totals, counts);
+        WindowAnswer { number, window }
+    }
+
+    // From the first to the last second in use: one second of lags at least before the first automatic setting.
+    pub fn span(self, starts: &[u64], totals: &[u64], counts: &[u32]) -> SpanAnswer
+        ensures { λ r. ⌜ r ≡ spanReply (lent self (now (starts .entry)) (now (totals .entry)) (now (counts .entry))) ⌝ }
+    {
+        let number = self.number(starts, totals, counts);
+        if number != 0 {
+            return SpanAnswer { number, span: 0 };
+        }
+        let span = checks::span(self.seconds, starts);
+        SpanAnswer { number, span }
+    }
+
+    // q is a number from 0 to 1 (check 14).
+    fn from_zero_to_one(q: f64) -> bool
+        ensures { λ r. ⌜ r ≡ fromZeroToOne q ⌝ }
+    {
+        if q >= 0.0 {
+            return q <= 1.0;
+        }
+        false
+    }
+
+    fn quantile_number(self, q: f64, starts: &[u64], totals: &[u64], counts: &[u32]) -> u32
+        ensures { λ r. ⌜ r ≡ quantileNumber q (lent self (now (starts .entry)) (now (totals .entry)) (now (counts .entry))) ⌝ }
+    {
+        let number = self.number(starts, totals, counts);
+        if number != 0 {
+            return number;
+        }
+        if !LagWindow::from_zero_to_one(q) {
+            return 14;
+        }
+        0
+    }
+
+    // The end of the bucket that holds quantile q of all lags. Lags beyond the window's range share its top bucket.
+    pub fn quantile(self, q: f64, starts: &[u64], totals: &[u64], counts: &[u32]) -> Quantile
+        ensures { λ r. ⌜ r ≡ quantileReply q (lent self (now (starts .entry)) (now (totals .entry)) (now (counts .entry))) ⌝ }
+    {
+        self.quantile_upto(q, 4_294_967_295, starts, totals, counts)
+    }
+
+    // The end of the bucket that holds quantile q of the lags up to limit: a lag beyond it must not move an automatic delay.
+    pub fn quantile_upto(
+        self,
+        q: f64,
+        limit: u32,
+        starts: &[u64],
+        totals: &[u64],
+        counts: &[u32],
+    ) -> Quantile
+        ensures { λ r. ⌜ r ≡ quantileUptoReply q limit (lent self (now (starts .entry)) (now (totals .entry)) (now (counts .entry))) ⌝ }
+    {
+        let number = self.quantile_number(q, starts, totals, counts);
+        if number != 0 {
+            return Quantile::Refused(number);
+        }
+        rows::quantile_upto(self, q, limit, counts)
+    }
+}

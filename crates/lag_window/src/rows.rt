@@ -1,0 +1,119 @@
+// The rows of counts, summed along memory, and the quantile of the lags that they count.
+ghost use mathlib.Core.Path.{_≡_};
+ghost use mathlib.Core.List.{[]};
+ghost use Prim.Native.Nat.{_+_, _*_, _/_, _≤_, _<_, min};
+ghost use lib.ListN.{length};
+ghost use Rattle.base.specs.Lists.{sumFrom};
+ghost use Rattle.lag_window.specs.Window.{lent};
+ghost use Rattle.lag_window.specs.Quantile.{column, running, reach, quantileUpto, Placeable};
+use super::Found;
+use super::LagWindow;
+use super::Quantile;
+
+fn wide(x: u32) -> u64
+    ensures { λ r. ⌜ (r ≡ x) × (r ≤ 4294967295) ⌝ }
+{
+    x as u64
+}
+
+// The sum of n numbers from a on.
+pub(crate) fn sum_from(s: &[u32], a: usize, n: usize) -> u64
+    requires { ⌜ (a + n ≤ length (now s)) × (n ≤ 4096) ⌝ }
+    ensures { λ r. ⌜ (r ≡ sumFrom a n (now (s .entry))) × (r ≤ n * 4294967295) ⌝ }
+{
+    let mut total: u64 = 0;
+    let mut b = 0;
+    while b < n {
+        total += wide(s[a + b]);
+        b += 1;
+    }
+    total
+}
+
+// b times the width.
+fn edge(b: usize, width: u32) -> u32
+    requires { ⌜ (b ≤ 4096) × (width ≤ 4800) ⌝ }
+    ensures { λ r. ⌜ r ≡ b * width ⌝ }
+{
+    (b as u32) * width
+}
+
+// The lags of bucket b in the n seconds.
+fn column(counts: &[u32], buckets: usize, b: usize, n: usize) -> u64
+    requires { ⌜ (n ≤ 11) × (b < buckets) ⌝ }
+    requires { ⌜ length (now counts) ≡ 11 * buckets ⌝ }
+    ensures { λ r. ⌜ (r ≡ column buckets b n (now (counts .entry))) × (r ≤ 47244640245) ⌝ }
+{
+    let mut total: u64 = 0;
+    let mut r = 0;
+    while r < n {
+        total += wide(counts[r * buckets + b]);
+        r += 1;
+    }
+    total
+}
+
+// How many buckets start at most at limit.
+fn shown(buckets: usize, width: u32, limit: u32) -> usize
+    requires { ⌜ 1 ≤ width ⌝ }
+    ensures { λ r. ⌜ r ≡ min buckets (limit / width + 1) ⌝ }
+{
+    let m = (limit / width) as usize + 1;
+    if m < buckets { m } else { buckets }
+}
+
+// The lags in buckets that start at most at limit.
+fn total_upto(n: usize, buckets: usize, width: u32, limit: u32, counts: &[u32]) -> u64
+    requires { ⌜ (n ≤ 11) × (buckets ≤ 4096) × (1 ≤ width) ⌝ }
+    requires { ⌜ length (now counts) ≡ 11 * buckets ⌝ }
+    ensures { λ r. ⌜ r ≡ running limit width buckets n (now (counts .entry)) buckets ⌝ }
+{
+    let m = shown(buckets, width, limit);
+    let mut total: u64 = 0;
+    let mut r = 0;
+    while r < n {
+        total += sum_from(counts, r * buckets, m);
+        r += 1;
+    }
+    total
+}
+
+// The first bucket where the running count reaches target.
+fn reached(n: usize, buckets: usize, width: u32, limit: u32, target: u64, counts: &[u32]) -> Found
+    requires { ⌜ (n ≤ 11) × (buckets ≤ 4096) × (1 ≤ width) ⌝ }
+    requires { ⌜ length (now counts) ≡ 11 * buckets ⌝ }
+    ensures { λ r. ⌜ r ≡ reach target limit width buckets n (now (counts .entry)) buckets 0 ⌝ }
+{
+    let m = shown(buckets, width, limit);
+    let mut seen: u64 = 0;
+    let mut b = 0;
+    while b < m {
+        seen += column(counts, buckets, b, n);
+        if target <= seen {
+            return Found::At(b);
+        }
+        b += 1;
+    }
+    Found::Nowhere
+}
+
+// The quantile q of the lags up to limit: one pass sums the rows, a second one finds the bucket.
+pub(crate) fn quantile_upto(window: LagWindow, q: f64, limit: u32, counts: &[u32]) -> Quantile
+    requires { ⌜ (window .seconds ≤ 11) × (window .buckets ≤ 4096) × (1 ≤ window .width) × (window .width ≤ 4800) ⌝ }
+    requires { ⌜ length (now counts) ≡ 11 * window .buckets ⌝ }
+    requires { ⌜ Placeable q limit (lent window [] [] (now counts)) ⌝ }
+    ensures { λ r. ⌜ r ≡ quantileUpto q limit (lent window [] [] (now (counts .entry))) ⌝ }
+{
+    let n = window.seconds;
+    let buckets = window.buckets;
+    let width = window.width;
+    let total = total_upto(n, buckets, width, limit, counts);
+    if total == 0 {
+        return Quantile::None;
+    }
+    let target = doubles::core::quantile_place(total, q);
+    let Found::At(b) = reached(n, buckets, width, limit, target, counts) else {
+        return Quantile::None;
+    };
+    Quantile::End(edge(b + 1, width))
+}
