@@ -6,3 +6,4 @@ pub mod Flat
 pub mod Patch
 pub mod Pads
 pub mod Words
+pub mod Calls

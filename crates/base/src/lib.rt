@@ -13,6 +13,9 @@ pub const TIME_LIMIT: u64 = 4_000_000_000_000_000_000;
 // The longest span that a setting or a delay may have: 600 s.
 pub const SPAN_LIMIT: u64 = 600 * NANOS;
 
+// The latest time that a record of the clock helpers holds (check 6).
+pub const RECORD_LIMIT: u64 = TIME_LIMIT + SPAN_LIMIT;
+
 // The time since t, 0 where the clock went back.
 pub fn age(time: u64, t: u64) -> u64
     ensures { λ r. ⌜ r ≡ time - t ⌝ }

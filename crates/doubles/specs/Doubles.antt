@@ -20,14 +20,14 @@ double n = ofInt binary64 (pos n)
 unfoldable pub msOf : ℕ → Float
 msOf n = div binary64 (mul binary64 (double n) thousand) rate
 
--- "rounded to a whole number with halves away from zero": floor (v + 1 / 2) of the exact value v; 0 where it is below zero or no number
+-- "rounded to a whole number with halves away from zero": floor (v + 1 / 2) of the exact value v; 0 where it is below zero or not finite
 unfoldable pub halfAway : Float → ℕ
 halfAway nan = 0
 halfAway (inf s) = 0
 halfAway (fin true m e) = 0
 halfAway (fin false m e) = (2 * (m * up e) + down e) / (2 * down e)
 
--- "raised to the next whole number": the ceiling of the exact value; 0 where it is below zero or no number
+-- "raised to the next whole number": the ceiling of the exact value; 0 where it is below zero or not finite
 unfoldable pub ceilOf : Float → ℕ
 ceilOf nan = 0
 ceilOf (inf s) = 0

@@ -2,18 +2,20 @@
 use Prim.Native.Nat.{ℕ, zero, suc, _≤_}
 use mathlib.Core.Bool.{Bool, true, false}
 use mathlib.Core.Path.{_≡_, refl, sym, ap, _∙_}
-use lib.Dec.{leb}
 use lib.IntN.{pos}
-use lib.Ieee.{fin, le}
+use lib.Ieee.{Float, fin}
 use borrow.Author.Tests.{leb-true}
-use Rattle.base.specs.Choice.{both, ask}
+use Rattle.base.specs.Choice.{accepted}
+use Rattle.base.specs.Limits.{nanos, spanLimit}
 use Rattle.base.proofs.Choices.{yes-ask, no-ask}
 use Rattle.base.proofs.Points.{both-true}
 use Rattle.doubles.proofs.Values.{is}
 use Rattle.policy.specs.declared.DelayPolicy.{DelayPolicy}
 use Rattle.policy.specs.declared.Need.{Need}
 use Rattle.policy.specs.declared.Need.the-variants.{Of, Refused}
-use Rattle.policy.specs.Settings.{reachesAllowed, timesAllowed, marginsAllowed, Sound}
+use Rattle.policy.specs.declared.Share.{Share}
+use Rattle.policy.specs.declared.Share.the-variants as Share
+use Rattle.policy.specs.Settings.{reachesAllowed, timesAllowed, marginsAllowed, Sound, percentAllowed, shareOfPercent, shareNumber, shareAnswer, shareReply, shareNumberOf, shareValueOf}
 use Rattle.policy.specs.Need.{needOf, needNumber, needAnswer, needReply, numberOf, valueOf}
 
 -- checks 2 and 4 make a policy sound
@@ -26,7 +28,7 @@ allowed-sound p a b =
     record { offset = leb-true _ _ (r .0); maximum = leb-true _ _ (r .1); margins = leb-true _ _ (m .0); low = is (s .0); high = is (s .1) }
 
 -- what check 3 says of a policy
-pub allowed-times : (p : DelayPolicy) → timesAllowed p ≡ true → (p .hold ≤ 600000000000) × (1000000000 ≤ p .window) × (p .window ≤ 600000000000)
+pub allowed-times : (p : DelayPolicy) → timesAllowed p ≡ true → (p .hold ≤ spanLimit) × (nanos ≤ p .window) × (p .window ≤ spanLimit)
 unfolding timesAllowed
 allowed-times p a =
     let r = both-true _ _ a in
@@ -57,5 +59,43 @@ module _ (p : DelayPolicy) (lag : ℕ) where
   reply-number = by-number (needNumber p)
     where
       by-number : (n : ℕ) → numberOf (needAnswer n (needOf p lag)) ≡ n
+      by-number zero = refl
+      by-number (suc n) = refl
+
+  pub reply-value : valueOf (needReply p lag) ≡ accepted (needNumber p) 0 (needOf p lag)
+  unfolding needReply
+  reply-value = by-number (needNumber p)
+    where
+      by-number : (n : ℕ) → valueOf (needAnswer n (needOf p lag)) ≡ accepted n 0 (needOf p lag)
+      by-number zero = refl
+      by-number (suc n) = refl
+
+-- ---- the two answers of `share_of`
+module _ (percent : Float) where
+  share-by : {n : ℕ} → shareNumber percent ≡ n → shareAnswer n (shareOfPercent percent) ≡ shareReply percent
+  unfolding shareReply
+  share-by e = ap (λ (n : ℕ). shareAnswer n (shareOfPercent percent)) (sym e)
+
+  pub percent-refused : percentAllowed percent ≡ false → Share.Refused 4 ≡ shareReply percent
+  unfolding shareNumber
+  percent-refused a = share-by {n = 4} (no-ask 4 _ a)
+
+  pub percent-shared : percentAllowed percent ≡ true → {r : Float} → r ≡ shareOfPercent percent → Share.Of r ≡ shareReply percent
+  unfolding shareNumber
+  percent-shared a e = ap Share.Of e ∙ share-by {n = 0} (yes-ask 4 _ a)
+
+  pub share-number : shareNumberOf (shareReply percent) ≡ shareNumber percent
+  unfolding shareReply
+  share-number = by-number (shareNumber percent)
+    where
+      by-number : (n : ℕ) → shareNumberOf (shareAnswer n (shareOfPercent percent)) ≡ n
+      by-number zero = refl
+      by-number (suc n) = refl
+
+  pub share-value : shareValueOf (shareReply percent) ≡ accepted (shareNumber percent) (fin false 0 (pos 0)) (shareOfPercent percent)
+  unfolding shareReply
+  share-value = by-number (shareNumber percent)
+    where
+      by-number : (n : ℕ) → shareValueOf (shareAnswer n (shareOfPercent percent)) ≡ accepted n (fin false 0 (pos 0)) (shareOfPercent percent)
       by-number zero = refl
       by-number (suc n) = refl

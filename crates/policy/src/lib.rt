@@ -54,13 +54,13 @@ impl DelayPolicy {
     pub fn times_allowed(self) -> bool
         ensures { λ r. ⌜ r ≡ timesAllowed self ⌝ }
     {
-        if self.hold > DelayPolicy::MOST_TIME {
+        if self.hold > base::SPAN_LIMIT {
             return false;
         }
-        if self.window < DelayPolicy::SECOND {
+        if self.window < base::NANOS {
             return false;
         }
-        self.window <= DelayPolicy::MOST_TIME
+        self.window <= base::SPAN_LIMIT
     }
 
     // Margin is at most 96,000, and the share from 0 to 10 and no NaN (check 4).

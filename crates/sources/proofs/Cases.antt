@@ -7,7 +7,7 @@ use lib.Dec.{leb}
 use borrow.Author.Tests.{le-leb, lt-leb}
 use Rattle.base.proofs.All.{both-yes, both-no}
 use Rattle.base.specs.Limits.{timeLimit, spanLimit}
-use Rattle.timing.proofs.Checks.{call-broken, call-late, call-accepted}
+use Rattle.base.proofs.Calls.{call-broken, call-late, call-accepted}
 use Rattle.sources.specs.Schedules.{waitLimit, firstWait, wholeDown, wholeSchedule, scheduleNumber, isUp, answerBy, queryUpOf, nextWait, failureBy, queryFailedOf}
 use Rattle.sources.specs.declared.QueryDown.{QueryDown}
 use Rattle.sources.specs.declared.QueryDown.the-variants.{Never, Until}

@@ -4,7 +4,7 @@ use mathlib.Core.Bool.{Bool, true, false}
 use lib.Dec.{leb}
 use Rattle.base.specs.Choice.{both, accepted}
 use Rattle.base.specs.Limits.{nanos}
-use Rattle.timing.specs.Checks.{timelyRecord, callNumber}
+use Rattle.base.specs.Limits.{timelyRecord, callNumber}
 use Rattle.sources.specs.declared.QueryDown.{QueryDown}
 use Rattle.sources.specs.declared.QueryDown.the-variants.{Never, Until}
 use Rattle.sources.specs.declared.Schedule.{Schedule}

@@ -2,8 +2,8 @@
 ghost use mathlib.Core.Path.{_≡_};
 ghost use Rattle.sources.specs.Schedules.{freshSchedule, wholeSchedule, queryUpOf, nextWait, queryFailedOf};
 use base::NANOS;
+use base::RECORD_LIMIT;
 use base::TIME_LIMIT;
-use timing::RECORD_LIMIT;
 
 // The first and the longest wait after the Query API did not answer.
 pub const BACKOFF_MIN: u64 = 5 * NANOS;

@@ -5,8 +5,8 @@ use mathlib.Core.Path.{_≡_, refl, sym, ap, _∙_}
 use borrow.Author.Tests.{le-leb, lt-leb}
 use Rattle.base.proofs.Choices.{yes-ask, no-ask}
 use Rattle.base.specs.Limits.{timeLimit, spanLimit}
-use Rattle.timing.specs.Checks.{callNumber}
-use Rattle.timing.proofs.Checks.{call-broken, call-late, call-accepted}
+use Rattle.base.specs.Limits.{callNumber}
+use Rattle.base.proofs.Calls.{call-broken, call-late, call-accepted}
 use Rattle.state.specs.Coalesces.{freshCoalesce, wholeCoalesce, dueAfterChange, changedNumber, changeBy, changedOf, isSet, recordNumber, answerBy, pendingOf, isDue, takenBy, takeDueOf, takeOf}
 use Rattle.state.specs.declared.Due.{Due}
 use Rattle.state.specs.declared.Due.the-variants.{Unset, At}
@@ -99,13 +99,13 @@ module _ (coalesce : Coalesce) where
     take-set at set = take-by 0 _ record-accepted (ap isSet set)
 
 -- ---- take_due
-due-no : (at time : ℕ) → time < at → isDue (At at) time ≡ false
-unfolding isDue
-due-no at time h = lt-leb at time h
-
 due-yes : (at time : ℕ) → at ≤ time → isDue (At at) time ≡ true
 unfolding isDue
 due-yes at time h = le-leb at time h
+
+due-no : (at time : ℕ) → time < at → isDue (At at) time ≡ false
+unfolding isDue
+due-no at time h = lt-leb at time h
 
 module _ (coalesce : Coalesce) (time : ℕ) where
   take-due-by : (number : ℕ) (answer : Bool) → callNumber (wholeCoalesce coalesce) time ≡ number → isDue (coalesce .due) time ≡ answer → takenBy number answer coalesce ≡ takeDueOf coalesce time

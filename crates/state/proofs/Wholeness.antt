@@ -7,8 +7,8 @@ use borrow.Author.Tests.{le-leb, lt-leb, leb-true}
 use Rattle.base.specs.Choice.{pick, accepted}
 use Rattle.base.proofs.Choices.{yes-ask, no-ask, asked, accepted-all, by-le, pick-all}
 use Rattle.base.specs.Limits.{timeLimit, spanLimit}
-use Rattle.timing.specs.Checks.{callNumber}
-use Rattle.timing.proofs.Checks.{accepted-call, whole-call}
+use Rattle.base.specs.Limits.{callNumber}
+use Rattle.base.proofs.Calls.{accepted-call, whole-call}
 use Rattle.state.specs.Coalesces.{freshCoalesce, wholeDue, wholeCoalesce, dueAfterChange, changedNumber, changedOf, isSet, recordNumber, isDue, takenBy, takeDueOf, takeOf}
 use Rattle.state.specs.declared.Due.{Due}
 use Rattle.state.specs.declared.Due.the-variants.{Unset, At}

@@ -4,7 +4,7 @@ use mathlib.Core.Bool.{Bool, true, false}
 use lib.Dec.{leb}
 use Rattle.base.specs.Choice.{pick, ask, accepted}
 use Rattle.base.specs.Limits.{spanLimit}
-use Rattle.timing.specs.Checks.{timelyRecord, callNumber}
+use Rattle.base.specs.Limits.{timelyRecord, callNumber}
 use Rattle.state.specs.declared.Due.{Due}
 use Rattle.state.specs.declared.Due.the-variants.{Unset, At}
 use Rattle.state.specs.declared.Coalesce.{Coalesce}

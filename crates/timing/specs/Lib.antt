@@ -1,3 +1,2 @@
 -- The definitions that the contracts of `timing` cite.
-pub mod Checks
 pub mod Clock

@@ -2,11 +2,7 @@
 ghost use mathlib.Core.Path.{_≡_};
 ghost use Rattle.timing.specs.Clock.{indexAnswer, timeAnswer};
 use base::NANOS;
-use base::SPAN_LIMIT;
 use base::TIME_LIMIT;
-
-// The latest time that a record of the clock helpers holds (check 6).
-pub const RECORD_LIMIT: u64 = TIME_LIMIT + SPAN_LIMIT;
 
 // Samples a second.
 const RATE: u64 = 48_000;
