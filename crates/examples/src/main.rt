@@ -1,4 +1,4 @@
-// Document 01's examples and some limits, run on the library; crates/examples/stdout holds what the Rust answers.
+// Document 01's examples and some limits, run on the library; crates/examples/stdout holds what the Rust answers, where it has an answer.
 use libc::STDOUT_FILENO;
 use policy::DelayPolicy;
 use policy::Need;
