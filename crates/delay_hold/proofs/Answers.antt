@@ -23,10 +23,10 @@ use Rattle.delay_hold.specs.Rows.{apart, upTo}
 use Rattle.delay_hold.specs.Whole.{timerFits, wholePeaks, wholeTimes, wholeHold}
 use Rattle.delay_hold.specs.Checks.{listsFit, settingsNumber, stateNumber, nextNumber, nextReply}
 
-abbrev fresh : Held
+abbrev pub fresh : Held
 fresh = held freshHold (replicate 600 0) (replicate 600 0)
 
-abbrev first : Lag → Lag → ℕ → Answer
+abbrev pub first : Lag → Lag → ℕ → Answer
 first p999 largest current = nextReply examplePolicy 48 fresh p999 largest current 3_600_000_000_000 .answer
 
 -- "Current 0: lag 485 gives 104, lag 480 none, lag 5281 none. p999 480, no lag: current 47 raises to 96, 48 does not"

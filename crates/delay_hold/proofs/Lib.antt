@@ -10,4 +10,5 @@ pub mod Gate
 pub mod Keeps
 pub mod Covers
 pub mod Later
+pub mod Marks
 pub mod Answers

@@ -8,6 +8,7 @@ use mathlib.Core.List.{List}
 use lib.Dec.{leb, eqb}
 use lib.ListN.{length}
 use Rattle.base.specs.Choice.{ask, both, accepted}
+use Rattle.base.specs.Limits.{nanos, spanLimit}
 use Rattle.policy.specs.declared.DelayPolicy.{DelayPolicy}
 use Rattle.policy.specs.Settings.{reachesAllowed, timesAllowed, marginsAllowed, Sound}
 use Rattle.delay_hold.specs.declared.Lag.{Lag}
@@ -105,8 +106,8 @@ nextReply policy width s p999 largest current time =
 -- ---- what `core::next` asks: what the checks say, but for the time
 pub record AskedFor (width : ℕ) (policy : DelayPolicy) (s : Held) (p999 : Lag) (current : ℕ) : Type 0 where
   pub sound : Sound policy
-  pub window-least : 1_000_000_000 ≤ policy .window
-  pub window-most : policy .window ≤ 600_000_000_000
+  pub window-least : nanos ≤ policy .window
+  pub window-most : policy .window ≤ spanLimit
   pub width-most : width ≤ 4800
   pub times-long : length (s .times) ≡ 600
   pub lags-long : length (s .lags) ≡ 600

@@ -6,6 +6,7 @@ use mathlib.Core.List.{List, [], _∷_, _++_}
 use lib.Dec.{leb, eqb}
 use lib.ListN.{length, getD, set, drop}
 use Rattle.base.specs.Choice.{pick}
+use Rattle.base.specs.Limits.{nanos}
 use Rattle.delay_hold.specs.declared.Lag.{Lag}
 use Rattle.delay_hold.specs.declared.Lag.the-variants.{None, Of}
 
@@ -16,7 +17,7 @@ largerLag (Of x) (Of y) = Of (max x y)
 
 -- there is no peak, or the newest of the n is at least 1 s old
 abbrev pub isNewAt : ℕ → List ℕ → ℕ → Bool
-isNewAt n times time = pick (eqb n 0) true (leb 1_000_000_000 (time - getD times (n - 1) 0))
+isNewAt n times time = pick (eqb n 0) true (leb nanos (time - getD times (n - 1) 0))
 
 -- "joins the newest peak if that is under 1 s old, else is a new peak": the times
 unfoldable pub joinTimes : List ℕ → Lag → ℕ → List ℕ

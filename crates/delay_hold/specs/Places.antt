@@ -4,6 +4,7 @@ use Prim.Native.Nat.{ℕ, _+_, _-_, _≤_, _<_, max}
 use mathlib.Core.List.{List}
 use lib.ListN.{length, getD, set, take}
 use Rattle.base.specs.Choice.{pick}
+use Rattle.base.specs.Limits.{nanos, spanLimit}
 use Rattle.base.specs.Lists.{padded}
 use Rattle.delay_hold.specs.declared.Lag.{Lag}
 use Rattle.delay_hold.specs.declared.Lag.the-variants.{None, Of}
@@ -28,6 +29,6 @@ pub record Placed (n : ℕ) (times lags : List ℕ) (window : ℕ) : Type 0 wher
   pub lags-padded : lags ≡ padded 600 (take n lags)
   pub times-long : length times ≡ 600
   pub lags-long : length lags ≡ 600
-  pub spaced : (i : ℕ) → i + 1 < n → getD times i 0 + 1_000_000_000 ≤ getD times (i + 1) 0
-  pub window-least : 1_000_000_000 ≤ window
-  pub window-most : window ≤ 600_000_000_000
+  pub spaced : (i : ℕ) → i + 1 < n → getD times i 0 + nanos ≤ getD times (i + 1) 0
+  pub window-least : nanos ≤ window
+  pub window-most : window ≤ spanLimit

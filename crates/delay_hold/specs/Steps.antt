@@ -1,9 +1,10 @@
 -- Document 01, "DelayHold", steps 1 to 3: startup, the seed, and what the largest lag tells. Assumes nothing.
 -- 1. "The first call sets started."
-use Prim.Native.Nat.{ℕ, _+_, _-_, min}
+use Prim.Native.Nat.{ℕ, _+_, _-_, _*_, min}
 use mathlib.Core.Bool.{Bool, true, false, not, _&&_}
 use lib.Dec.{ltb, leb}
 use Rattle.base.specs.Choice.{pick}
+use Rattle.base.specs.Limits.{nanos}
 use Rattle.policy.specs.declared.DelayPolicy.{DelayPolicy}
 use Rattle.policy.specs.Need.{needOf}
 use Rattle.delay_hold.specs.declared.Moment.{Moment}
@@ -20,14 +21,14 @@ startedAt (At t) time = t
 
 -- 1. "Startup is: under 60 s since, and fewer than two startup lates."
 abbrev pub startupAt : ℕ → ℕ → ℕ → Bool
-startupAt started lates time = ltb (time - started) 60_000_000_000 && ltb lates 2
+startupAt started lates time = ltb (time - started) (60 * nanos) && ltb lates 2
 
 abbrev pub inStartup : DelayHold → ℕ → Bool
 inStartup h time = startupAt (startedAt (h .started) time) (h .«startup_late») time
 
 -- 1. "In startup hold and window are each at most 5 s."
 abbrev pub capped : Bool → ℕ → ℕ
-capped startup x = pick startup (min x 5_000_000_000) x
+capped startup x = pick startup (min x (5 * nanos)) x
 
 -- 2. "A seed of age at least the policy's hold (not the startup one) goes."
 abbrev pub seedLeft : Seed → ℕ → ℕ → Seed

@@ -4,6 +4,7 @@ use Prim.Native.Nat.{ℕ, _+_, _-_}
 use mathlib.Core.Bool.{Bool, true}
 use lib.Dec.{leb, ltb, eqb}
 use Rattle.base.specs.Choice.{pick, both}
+use Rattle.base.specs.Limits.{nanos, timeLimit}
 use Rattle.base.specs.Lists.{blankFrom}
 use Rattle.policy.specs.declared.DelayPolicy.{DelayPolicy}
 use Rattle.delay_hold.specs.declared.Moment.{Moment}
@@ -16,7 +17,7 @@ use Rattle.delay_hold.specs.Rows.{apart, upTo, spanOf}
 use Rattle.delay_hold.specs.Next.{Held}
 
 abbrev pub latest : ℕ
-latest = 4_000_000_000_000_000_000
+latest = timeLimit
 
 abbrev pub momentTimely : Moment → Bool
 momentTimely Never = true
@@ -46,7 +47,7 @@ peakMost policy width = policy .«read_offset» + policy .«delay_max» + width
 unfoldable pub wholePeaks : DelayPolicy → ℕ → Held → Bool
 wholePeaks policy width s =
     both (leb (s .hold .peaks) 600)
-    (both (apart 1_000_000_000 (s .hold .peaks - 1) (s .times))
+    (both (apart nanos (s .hold .peaks - 1) (s .times))
     (both (ltb (spanOf (s .hold .peaks) (s .times)) (policy .window))
     (both (blankFrom (s .hold .peaks) (s .times))
     (both (blankFrom (s .hold .peaks) (s .lags))

@@ -1,6 +1,6 @@
 // The hold by value, for the crates above, which have checked what is asked here.
 ghost use mathlib.Core.Path.{_≡_};
-ghost use Prim.Native.Nat.{_+_, _≤_, _<_, _^_};
+ghost use Prim.Native.Nat.{_≤_, _<_, _^_};
 ghost use lib.ListN.{length, take};
 ghost use Rattle.delay_hold.specs.Peaks.{worstOf};
 ghost use Rattle.delay_hold.specs.Decide.{timerOff, withLower};

@@ -1,7 +1,7 @@
 // Steps 5 to 8 of `next`: whether the delay changes, and to what.
 ghost use mathlib.Core.Path.{_≡_};
 ghost use mathlib.Core.Bool.{true, _&&_};
-ghost use Prim.Native.Nat.{_+_, _≤_, _<_, _^_};
+ghost use Prim.Native.Nat.{_≤_};
 ghost use lib.Dec.{ltb};
 ghost use Rattle.policy.specs.Settings.{Sound};
 ghost use Rattle.delay_hold.specs.Decide.{floorOf, timerOff, timerMet, heldSince, withLower, keeps, changes, lowering, weighed, urgentAt, decideAt, decideFor, decide};

@@ -15,6 +15,9 @@ mod peaks;
 mod steps;
 mod whole;
 
+// The widest bucket, in samples.
+const MOST_WIDTH: u32 = 4800;
+
 // A moment that may not have been yet.
 pub enum Moment {
     Never,
@@ -118,7 +121,7 @@ fn settings_number(policy: DelayPolicy, width: u32) -> u32
     if width < 1 {
         return 2;
     }
-    if 4800 < width {
+    if MOST_WIDTH < width {
         return 2;
     }
     if !policy.times_allowed() {
@@ -170,7 +173,7 @@ impl DelayHold {
         if !core::whole(self, policy, width, times, lags) {
             return 6;
         }
-        if whole::LATEST < time {
+        if base::TIME_LIMIT < time {
             return 8;
         }
         if policy.delay_max < current {

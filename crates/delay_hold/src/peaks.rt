@@ -1,7 +1,7 @@
 // Step 4 of `next`: the peaks in two lent lists of 600, oldest first, unused places zero.
 ghost use mathlib.Core.Path.{_≡_};
 ghost use mathlib.Core.Bool.{true};
-ghost use Prim.Native.Nat.{_+_, _-_, _≤_, _<_};
+ghost use Prim.Native.Nat.{_≤_, _<_};
 ghost use lib.ListN.{length, take};
 ghost use Rattle.base.specs.Lists.{padded};
 ghost use Rattle.delay_hold.specs.Peaks.{isNewAt, oldCount, timesAfter, lagsAfter};
@@ -9,8 +9,6 @@ ghost use Rattle.delay_hold.specs.Places.{countJoined, timesJoined, lags
 use super::Lag;
 use base::age;
 use base::most;
-
-const SECOND: u64 = 1_000_000_000;
 
 // How many of the oldest of the n peaks are at least window old.
 fn count_old(times: &[u64], n: usize, window: u64, time: u64) -> usize
@@ -35,7 +33,7 @@ fn is_new(times: &[u64], n: usize, time: u64) -> bool
     if n == 0 {
         return true;
     }
-    SECOND <= age(time, times[n - 1])
+    base::NANOS <= age(time, times[n - 1])
 }
 
 // A lag joins the newest peak if that is under 1 s old, else is a new peak.

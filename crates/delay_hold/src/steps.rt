@@ -1,9 +1,7 @@
 // Steps 1 to 3 of `next`: startup, the seed, and what the largest lag tells.
 ghost use mathlib.Core.Path.{_≡_};
-ghost use Prim.Native.Nat.{_-_};
 ghost use Rattle.policy.specs.Settings.{Sound};
 ghost use Rattle.delay_hold.specs.Steps.{startedAt, startupAt, capped, seedLeft, lagWithin, lateAt, latesNext, latesSeeded, noted};
-ghost use Rattle.delay_hold.specs.Decide.{floorOf};
 ghost use Rattle.delay_hold.specs.Peaks.{largerLag};
 ghost use Rattle.delay_hold.specs.Next.{oneMillisecond};
 use super::DelayHold;
@@ -17,9 +15,9 @@ use policy::core::need;
 // One millisecond of samples: the delay goes down only where the need is at least so much lower.
 pub(crate) const MILLISECOND: u32 = 48;
 // How long the startup phase lasts, and the longest hold and window in it.
-const STARTUP: u64 = 60_000_000_000;
+const STARTUP: u64 = 60 * base::NANOS;
 
-const STARTUP_HOLD: u64 = 5_000_000_000;
+const STARTUP_HOLD: u64 = 5 * base::NANOS;
 
 impl Moment {
     pub(crate) fn started(self, time: u64) -> u64

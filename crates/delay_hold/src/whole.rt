@@ -1,19 +1,16 @@
 // Check 6 of one hold.
 ghost use mathlib.Core.Path.{_≡_};
-ghost use Prim.Native.Nat.{_-_, _+_, _≤_, _<_, _^_};
+ghost use Prim.Native.Nat.{_-_, _≤_, _<_, _^_};
 ghost use lib.ListN.{length};
 ghost use Rattle.delay_hold.specs.Rows.{apart, upTo, spanOf};
 ghost use Rattle.delay_hold.specs.Next.{held};
-ghost use Rattle.delay_hold.specs.Whole.{latest, momentTimely, seedFits, seedTimely, timerFits, peakMost, wholePeaks, wholeTimes};
+ghost use Rattle.delay_hold.specs.Whole.{momentTimely, seedFits, seedTimely, timerFits, peakMost, wholePeaks, wholeTimes};
 use super::DelayHold;
 use super::LowerTimer;
 use super::Moment;
 use super::Seed;
 use base::age;
 use policy::DelayPolicy;
-
-// The last time that is allowed: 4 times 10^18 ns.
-pub(crate) const LATEST: u64 = 4_000_000_000_000_000_000;
 
 // Each of the n times is at least gap after the one before.
 fn spaced(gap: u64, n: usize, times: &[u64]) -> bool
@@ -81,7 +78,7 @@ impl Moment {
         let Moment::At(t) = self else {
             return true;
         };
-        t <= LATEST
+        t <= base::TIME_LIMIT
     }
 }
 
@@ -101,7 +98,7 @@ impl Seed {
         let Seed::From(t, _) = self else {
             return true;
         };
-        t <= LATEST
+        t <= base::TIME_LIMIT
     }
 }
 
@@ -132,10 +129,10 @@ impl DelayHold {
         ensures { λ r. ⌜ r ≡ wholePeaks policy width (held self (now (times .entry)) (now (lags .entry))) ⌝ }
     {
         let n = self.peaks;
-        if 600 < n {
+        if DelayHold::PLACES < n {
             return false;
         }
-        if !spaced(1_000_000_000, n, times) {
+        if !spaced(base::NANOS, n, times) {
             return false;
         }
         if policy.window <= span(n, times) {
@@ -150,7 +147,7 @@ impl DelayHold {
         if !up_to_u32(policy.read_offset + policy.delay_max + width, n, lags) {
             return false;
         }
-        up_to_u64(LATEST, n, times)
+        up_to_u64(base::TIME_LIMIT, n, times)
     }
 
     // The seed, the timer and the other times.
@@ -170,7 +167,7 @@ impl DelayHold {
         if !last.timely() {
             return false;
         }
-        if LATEST < timer.since {
+        if base::TIME_LIMIT < timer.since {
             return false;
         }
         if !started.timely() {

@@ -2,45 +2,25 @@
 use Prim.Native.Nat.{ℕ, zero, suc, _+_, _-_, _*_, _<_, _≤_}
 use mathlib.Core.Bool.{Bool, true, false}
 use mathlib.Core.Path.{_≡_, refl, sym, ap, subst, _∙_}
-use mathlib.Core.List.{List, [], _∷_, _++_, append-assoc}
+use mathlib.Core.List.{List, [], _∷_, _++_}
 use native.Mathlib.Nat.{sub-self, not-suc-le-zero, le-of-suc-le-suc, add-mul, suc-mul}
 use native.Mathlib.Numerals.{add-one}
 use native.Mathlib.Omega.{arith}
-use lib.ListN.{length, getD, set, take, drop, replicate, length-append, length-take, length-drop, length-replicate, replicate-append-replicate}
-use lib.Seq.{getD-take, getD-drop, drop-append-le, length-take-le, ext-getD}
+use lib.ListN.{length, getD, set, drop, replicate, length-append, length-drop, length-set, length-replicate}
+use lib.Seq.{getD-drop, drop-append-le, length-take-le}
 use Rattle.base.specs.Choice.{pick}
-use Rattle.base.specs.Lists.{padded, shifted, bumped}
-use Rattle.base.proofs.Choices.{by-le}
-use Rattle.base.proofs.Points.{past-end, shifted-at}
-use Rattle.base.proofs.Pads.{length-padded, getD-padded, padded-set, padded-push, shifted-padded}
+use Rattle.base.specs.Lists.{padded, shifted}
+use Rattle.base.proofs.Points.{shifted-at}
+use Rattle.base.proofs.Pads.{getD-padded, padded-push, shifted-padded, take-padded}
 use Rattle.base.proofs.Flat.{row-le, flat-lt}
 use Rattle.lag_window.specs.Window.{Window, inUse, laid, opens, added, opened, stale, without, dropped, bucketOf, counted, pushed}
 use Rattle.lag_window.specs.InPlace.{droppedInPlace, openedInPlace, pushedInPlace}
+use Rattle.lag_window.proofs.Padding.{padded-take, padded-zeros, padded-bumped}
 use Rattle.lag_window.proofs.Stales.{stale-le}
 use Rattle.lag_window.proofs.WholeAt.{Whole}
 use Rattle.lag_window.proofs.Keeps.{dropped-whole, opens-dropped, open-fits, near, opened-pos, bucket-lt}
 
--- ---- lists padded with zeros
--- what is in use, padded, is the list where the other places are zero
-pub padded-take : (n k : ℕ) (xs : List ℕ) → length xs ≡ n → k ≤ n → ((i : ℕ) → k ≤ i → getD xs i 0 ≡ 0) → padded n (take k xs) ≡ xs
-padded-take n k xs e h blank =
-    ext-getD 0 (padded n (take k xs)) xs (long ∙ sym e)
-    (λ i l. getD-padded n (take k xs) i ∙ by-le k i (λ g. past-end (take k xs) i (simp length-take (omega arith)) ∙ sym (blank i g)) (λ g. getD-take k xs i 0 g))
-  where
-    long : length (padded n (take k xs)) ≡ n
-    long = length-padded n (take k xs) (simp length-take (omega arith))
-
--- zeros at the end are as good as no place in use
-pub padded-zeros : (n k : ℕ) (xs : List ℕ) → length xs + k ≤ n → padded n (xs ++ replicate k 0) ≡ padded n xs
-unfolding padded
-padded-zeros n k xs h =
-    let e : length (xs ++ replicate {A = ℕ} k 0) ≡ length xs + k = simp (length-append, length-replicate) in
-    let f : k + (n - (length xs + k)) ≡ n - length xs = omega arith in
-    rw (e, append-assoc, replicate-append-replicate, f)
-
-pub padded-bumped : (n : ℕ) (xs : List ℕ) (i : ℕ) → i < length xs → bumped i (padded n xs) ≡ padded n (bumped i xs)
-padded-bumped n xs i h = ap (λ (v : ℕ). set (padded n xs) i (v + 1)) (getD-padded n xs i) ∙ padded-set n xs i (getD xs i 0 + 1) h
-
+-- ---- old seconds and opening, read in the seconds in use
 stale-append : (t n : ℕ) (xs ys : List ℕ) → n ≤ length xs → stale t n (xs ++ ys) ≡ stale t n xs
 stale-append t zero xs ys h = refl
 stale-append t (suc n) [] ys h = absurd (not-suc-le-zero h)
@@ -211,6 +191,15 @@ opened-buckets t u = go (opens t (u .seconds) (u .starts))
     go true = refl
     go false = refl
 
+-- there is room for a second that opens once the old ones are gone
+open-room : (t : ℕ) (w : Window) → Whole w → opens t ((dropped t (inUse w)) .seconds) ((dropped t (inUse w)) .starts) ≡ true → (dropped t (inUse w)) .seconds < 11
+unfolding laid
+open-room t w h o =
+    subst (λ (x : Window). opens t (x .seconds) (x .starts) ≡ true → x .seconds < 11)
+    (ap (droppedInPlace t) (sym (laid-in-use w h)) ∙ dropped-laid t (inUse w) (in-use-exact w h))
+    (open-fits t (droppedInPlace t w) (dropped-whole t w h) (near t w h))
+    (opens-padded t ((dropped t (inUse w)) .seconds) 11 ((dropped t (inUse w)) .starts) ∙ o)
+
 pub in-place : (lag t : ℕ) (w : Window) → Whole w → 0 < w .buckets → pushedInPlace lag t w ≡ pushed lag t w
 unfolding pushedInPlace pushed laid inUse dropped
 in-place lag t w h some =
@@ -234,13 +223,32 @@ in-place lag t w h some =
     first = ap (droppedInPlace t) (sym (laid-in-use w h)) ∙ dropped-laid t u ux
 
     room : opens t (v .seconds) (v .starts) ≡ true → v .seconds < 11
-    room o =
-        subst (λ (x : Window). opens t (x .seconds) (x .starts) ≡ true → x .seconds < 11) first
-        (open-fits t (droppedInPlace t w) (dropped-whole t w h) (near t w h))
-        (opens-padded t (v .seconds) 11 (v .starts) ∙ o)
+    room = open-room t w h
 
     second : openedInPlace t (droppedInPlace t w) ≡ laid (opened t v)
     second = ap (openedInPlace t) first ∙ opened-laid t v vx room
 
     pos : 0 < (opened t v) .seconds
     pos = subst (λ (x : Window). 0 < x .seconds) (opened-laid t v vx room) (opened-pos t (laid v))
+
+-- ---- the seconds in use after a push
+pub in-use-laid : (u : Window) → Exact u → inUse (laid u) ≡ u
+unfolding inUse laid
+in-use-laid u h =
+    rw (
+      take-padded 11 (u .starts) (u .seconds) (h .es),
+      take-padded 11 (u .totals) (u .seconds) (h .et),
+      take-padded (11 * u .buckets) (u .counts) (u .seconds * u .buckets) (h .ec),
+    )
+
+counted-exact : (lag : ℕ) (u : Window) → Exact u → Exact (counted lag u)
+unfolding counted
+counted-exact lag u h =
+    record { few = h .few; es = h .es; et = length-set (u .totals) _ _ ∙ h .et; ec = length-set (u .counts) _ _ ∙ h .ec }
+
+-- the seconds in use after a push: document 01's three steps on the seconds in use before it
+pub pushed-in-use : (lag t : ℕ) (w : Window) → Whole w → inUse (pushed lag t w) ≡ counted lag (dropped t (opened t (inUse w)))
+unfolding pushed
+pushed-in-use lag t w h =
+    in-use-laid (counted lag (dropped t (opened t (inUse w))))
+    (counted-exact lag (dropped t (opened t (inUse w))) (subst Exact (drop-then-open t (inUse w) (in-use-exact w h)) (opened-exact t (dropped t (inUse w)) (dropped-exact t (inUse w) (in-use-exact w h)) (open-room t w h))))

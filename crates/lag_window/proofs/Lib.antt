@@ -1,6 +1,7 @@
 pub mod Stales
 pub mod WholeAt
 pub mod Keeps
+pub mod Padding
 pub mod InUse
 pub mod Pushing
 pub mod Checking
@@ -12,3 +13,5 @@ pub mod Numbers
 pub mod PushCalls
 pub mod Ticks
 pub mod Parting
+pub mod Laws
+pub mod Answers

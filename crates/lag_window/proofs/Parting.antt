@@ -3,9 +3,8 @@ use Prim.Native.Nat.{ℕ, _+_, _-_, _*_, _≤_}
 use mathlib.Core.Bool.{Bool, true, false}
 use mathlib.Core.Path.{_≡_, refl, sym, ap, subst, _∙_}
 use mathlib.Core.List.{List, [], _∷_}
-use native.Mathlib.Omega.{arith}
 use lib.Ieee.{Float}
-use lib.ListN.{length, take, length-take, length-drop}
+use lib.ListN.{length, take}
 use Rattle.base.specs.Choice.{pick}
 use Rattle.base.specs.Lists.{part, patched}
 use Rattle.lag_window.specs.declared.LagWindow.{LagWindow}
@@ -15,9 +14,7 @@ use Rattle.lag_window.specs.Whole.{wholeWindow, Shaped, Sound}
 use Rattle.lag_window.specs.Checks.{roomFor}
 use Rattle.lag_window.specs.Quantile.{quantileUpto, Placeable}
 use Rattle.lag_window.specs.Parts.{partOf, placed, Held}
-
-pub part-length : (a k : ℕ) (xs : List ℕ) → a + k ≤ length xs → length (part a k xs) ≡ k
-part-length a k xs h = simp (length-take, length-drop) (omega arith)
+use Rattle.lag_window.proofs.Padding.{part-length}
 
 -- what input j holds has the sizes and lengths of a window
 pub held-shaped : (j : ℕ) (w : Window) → Held j w → Shaped (partOf j w)

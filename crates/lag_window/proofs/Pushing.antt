@@ -1,10 +1,9 @@
 -- The steps of a push and the room check, as the code makes them. Assumes nothing.
-use Prim.Native.Nat.{ℕ, zero, suc, _+_, _-_, _*_, _/_, _<_, _≤_, _^_, min}
+use Prim.Native.Nat.{ℕ, zero, suc, _+_, _-_, _*_, _/_, _<_, _≤_, _^_}
 use mathlib.Core.Bool.{Bool, true, false}
 use mathlib.Core.Path.{_≡_, refl, sym, ap, _∙_}
 use mathlib.Core.List.{List}
 use native.Mathlib.Omega.{arith}
-use mathlib.Core.List.{append-nil}
 use native.Mathlib.Nat.{div-le-self, sub-zero, zero-mul}
 use borrow.Author.Tests.{le-leb, lt-leb}
 use mir.Syntax.{w32, w64}
@@ -18,6 +17,7 @@ use Rattle.lag_window.specs.declared.LagWindow.{LagWindow}
 use Rattle.lag_window.specs.Window.{lent, stale, opens, bucketOf, counted}
 use Rattle.lag_window.specs.InPlace.{droppedInPlace, openedInPlace}
 use Rattle.lag_window.specs.Checks.{newestOf, roomOf}
+use Rattle.lag_window.proofs.Padding.{shifted-none}
 use Rattle.lag_window.proofs.Stales.{stale-le}
 
 -- ---- old seconds go: k of them
@@ -31,10 +31,6 @@ module _ (t n : ℕ) (xs : List ℕ) (k : ℕ) (e : k ≡ stale t n xs) where
 pub dropped-by : (w : LagWindow) (time k : ℕ) (s s′ t t′ c c′ : List ℕ) → k ≡ stale time (w .seconds) s → s′ ≡ shifted k s → t′ ≡ shifted k t → c′ ≡ shifted (k * w .buckets) c → lent (record { seconds = w .seconds - k; buckets = w .buckets; width = w .width }) s′ t′ c′ ≡ droppedInPlace time (lent w s t c)
 unfolding droppedInPlace
 dropped-by w time k s s′ t t′ c c′ e es et ec = rw (← e, es, et, ec)
-
-pub shifted-none : (xs : List ℕ) → shifted 0 xs ≡ xs
-unfolding shifted
-shifted-none xs = let q : min 0 (length xs) ≡ 0 = omega arith in rw (q, append-nil)
 
 pub dropped-none : (w : LagWindow) (time k : ℕ) (s t c : List ℕ) → k ≡ stale time (w .seconds) s → k ≡ 0 → lent w s t c ≡ droppedInPlace time (lent w s t c)
 unfolding droppedInPlace

@@ -121,7 +121,7 @@ running-none limit W B n cs = sum-none _
 
 -- ---- the quantile
 -- a bucket that is found is one of the buckets
-found-below : (target limit W B n : ℕ) (cs : List ℕ) (d c b : ℕ) → reach target limit W B n cs d c ≡ At b → b < c + d
+pub found-below : (target limit W B n : ℕ) (cs : List ℕ) (d c b : ℕ) → reach target limit W B n cs d c ≡ At b → b < c + d
 unfolding reach
 found-below target limit W B n cs zero c b e = let z : _≡_ {A = ℕ} 0 1 = cc in absurd (omega arith)
 found-below target limit W B n cs (suc d) c b e = go (leb target (running limit W B n cs (c + 1))) e (λ f. found-below target limit W B n cs d (c + 1) b f)

@@ -1,7 +1,7 @@
--- Sums over rows are sums over columns, and a sum whose later terms are zero. Of general use. Assumes nothing.
-use Prim.Native.Nat.{ℕ, zero, suc, _+_, _-_, _<_, _≤_}
+-- Sums over rows are sums over columns; a sum whose later terms are zero; bounds of sums. Of general use. Assumes nothing.
+use Prim.Native.Nat.{ℕ, zero, suc, _+_, _*_, _-_, _<_, _≤_}
 use mathlib.Core.Path.{_≡_, refl, sym, ap, _∙_}
-use native.Mathlib.Nat.{not-suc-le-zero}
+use native.Mathlib.Nat.{not-suc-le-zero, suc-mul}
 use native.Mathlib.Omega.{arith}
 use Rattle.base.specs.Lists.{sum}
 use Rattle.base.proofs.Choices.{by-le}
@@ -24,3 +24,13 @@ sum-past f (suc m) zero h z = absurd (not-suc-le-zero h)
 sum-past f m (suc n) h z =
     by-le m n (λ l. omega (arith, sum-past f m n l (λ i g k. z i g (omega arith)), z n l (omega arith)))
     (λ l. let e : m ≡ suc n = omega arith in rw e)
+
+pub sum-le : (f g : ℕ → ℕ) (n : ℕ) → ((i : ℕ) → i < n → f i ≤ g i) → sum f n ≤ sum g n
+unfolding sum
+sum-le f g zero h = omega arith
+sum-le f g (suc n) h = omega (arith, sum-le f g n (λ i l. h i (omega arith)), h n (omega arith))
+
+pub sum-bound : (f : ℕ → ℕ) (most n : ℕ) → ((i : ℕ) → i < n → f i ≤ most) → sum f n ≤ n * most
+unfolding sum
+sum-bound f most zero h = omega arith
+sum-bound f most (suc n) h = omega (arith, sum-bound f most n (λ i l. h i (omega arith)), h n (omega arith), suc-mul n most)

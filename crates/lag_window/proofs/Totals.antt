@@ -1,26 +1,16 @@
 -- A sound window counts at most 11 times 4,294,967,295 lags. Assumes nothing.
-use Prim.Native.Nat.{ℕ, zero, suc, _+_, _-_, _*_, _<_, _≤_}
+use Prim.Native.Nat.{ℕ, _+_, _-_, _*_, _≤_}
 use mathlib.Core.List.{List}
 use native.Mathlib.Omega.{arith}
 use lib.Dec.{leb}
 use lib.ListN.{getD}
-use Rattle.base.specs.Lists.{sum, sumFrom, rowSum}
+use Rattle.base.specs.Lists.{sumFrom, rowSum}
 use Rattle.base.proofs.Choices.{pick-all}
 use Rattle.lag_window.specs.Window.{Window}
 use Rattle.lag_window.specs.Whole.{Sound}
 use Rattle.lag_window.specs.Quantile.{column, within, running, totalUpto}
 use Rattle.lag_window.proofs.WholeAt.{Whole, whole-of}
-use Rattle.lag_window.proofs.Sums.{sum-swap}
-
-pub sum-le : (f g : ℕ → ℕ) (n : ℕ) → ((i : ℕ) → i < n → f i ≤ g i) → sum f n ≤ sum g n
-unfolding sum
-sum-le f g zero h = omega arith
-sum-le f g (suc n) h = omega (arith, sum-le f g n (λ i l. h i (omega arith)), h n (omega arith))
-
-pub sum-bound : (f : ℕ → ℕ) (n : ℕ) → ((i : ℕ) → i < n → f i ≤ 4294967295) → sum f n ≤ n * 4294967295
-unfolding sum
-sum-bound f zero h = omega arith
-sum-bound f (suc n) h = omega (arith, sum-bound f n (λ i l. h i (omega arith)), h n (omega arith))
+use Rattle.lag_window.proofs.Sums.{sum-swap, sum-le, sum-bound}
 
 -- a bucket brings at most the lags that it holds
 pub within-le : (limit W B n : ℕ) (cs : List ℕ) (b : ℕ) → within limit W B n cs b ≤ column B b n cs
@@ -36,5 +26,5 @@ total-few limit w s =
       h .few,
       sum-le (within limit (w .width) (w .buckets) (w .seconds) (w .counts)) (λ b. column (w .buckets) b (w .seconds) (w .counts)) (w .buckets) (λ b l. within-le limit (w .width) (w .buckets) (w .seconds) (w .counts) b),
       sum-swap (λ r b. getD (w .counts) (r * w .buckets + b) 0) (w .buckets) (w .seconds),
-      sum-bound (λ r. rowSum (w .buckets) (w .counts) r) (w .seconds) (λ r l. omega (arith, h .sums r l, h .small r l)),
+      sum-bound (λ r. rowSum (w .buckets) (w .counts) r) 4294967295 (w .seconds) (λ r l. omega (arith, h .sums r l, h .small r l)),
     )

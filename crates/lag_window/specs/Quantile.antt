@@ -49,6 +49,10 @@ quantileUpto q limit w = quantileIn q limit (w .width) (w .buckets) (w .seconds)
 abbrev pub quantileOf : Float → Window → Quantile
 quantileOf q w = quantileUpto q 4294967295 w
 
+-- the lags of bucket b in all seconds of a window
+abbrev pub lagsIn : Window → ℕ → ℕ
+lagsIn w b = column (w .buckets) b (w .seconds) (w .counts)
+
 -- all the lags that `quantile_upto` counts
 abbrev pub totalUpto : ℕ → Window → ℕ
 totalUpto limit w = running limit (w .width) (w .buckets) (w .seconds) (w .counts) (w .buckets)

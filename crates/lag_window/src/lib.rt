@@ -41,7 +41,7 @@ pub enum Quantile {
 }
 
 // A bucket that was searched for.
-pub enum Found {
+pub(crate) enum Found {
     At(usize),
     Nowhere,
 }
@@ -55,15 +55,23 @@ impl LagWindow {
     // A second opens once the newest is this old: 1 s.
     pub const SECOND: u64 = 1_000_000_000;
 
+    // The settings that check 2 lets through: offset and maximum, a bucket's width, and how many buckets.
+    pub(crate) const FARTHEST: u32 = 96_000;
+
+    pub(crate) const WIDEST: u32 = 4_800;
+
+    pub(crate) const MOST_BUCKETS: usize = 4_096;
+
     // The samples of a tenth of a second: how far the buckets reach beyond offset and maximum.
-    pub const TENTH: u32 = 4_800;
+    pub(crate) const TENTH: u32 = 4_800;
 
     // The latest time that the calls admit (check 8).
-    pub const LATEST: u64 = 4_000_000_000_000_000_000;
+    pub(crate) const LATEST: u64 = 4_000_000_000_000_000_000;
 
     // The most lags that one second counts (check 11).
-    pub const MOST: u64 = 4_294_967_295;
+    pub(crate) const MOST: u64 = 4_294_967_295;
 
+    // The checks of `new`, 2 and 5: the number of the first that says no, or 0.
     fn new_number(
         offset: u32,
         maximum: u32,
@@ -74,20 +82,20 @@ impl LagWindow {
     ) -> u32
         ensures { λ r. ⌜ r ≡ newNumber offset maximum width starts totals counts ⌝ }
     {
-        if 96_000 < offset {
+        if LagWindow::FARTHEST < offset {
             return 2;
         }
-        if 96_000 < maximum {
+        if LagWindow::FARTHEST < maximum {
             return 2;
         }
         if width < 1 {
             return 2;
         }
-        if 4_800 < width {
+        if LagWindow::WIDEST < width {
             return 2;
         }
         let buckets = core::buckets_of(offset, maximum, width);
-        if 4_096 < buckets {
+        if LagWindow::MOST_BUCKETS < buckets {
             return 2;
         }
         if starts != LagWindow::SECONDS {
@@ -168,13 +176,13 @@ impl LagWindow {
         if self.width < 1 {
             return 2;
         }
-        if 4_800 < self.width {
+        if LagWindow::WIDEST < self.width {
             return 2;
         }
         if self.buckets < 2 {
             return 2;
         }
-        if 4_096 < self.buckets {
+        if LagWindow::MOST_BUCKETS < self.buckets {
             return 2;
         }
         if starts.len() != LagWindow::SECONDS {
@@ -192,6 +200,7 @@ impl LagWindow {
         0
     }
 
+    // The checks of a push: those of a window, then 8 and 11.
     fn push_number(self, time: u64, starts: &[u64], totals: &[u64], counts: &[u32]) -> u32
         ensures { λ r. ⌜ r ≡ pushNumber time (lent self (now (starts .entry)) (now (totals .entry)) (now (counts .entry))) ⌝ }
     {
@@ -267,6 +276,7 @@ impl LagWindow {
         false
     }
 
+    // The checks of a quantile: those of a window, then 14.
     fn quantile_number(self, q: f64, starts: &[u64], totals: &[u64], counts: &[u32]) -> u32
         ensures { λ r. ⌜ r ≡ quantileNumber q (lent self (now (starts .entry)) (now (totals .entry)) (now (counts .entry))) ⌝ }
     {

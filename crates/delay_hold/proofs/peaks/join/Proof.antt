@@ -88,7 +88,7 @@ returns-3 c =
     let c2 = c .before .before in
     let c3 = c2 .before in
     let c6 = c3 .before .before .before in
-    (simp (c6 .lag .given .1, ← c3 .is-new .ensures, c2 .if1 .left, c .most .ensures), simp (c6 .lag .given .1, ← c3 .is-new .ensures, c2 .if1 .left, c .most .ensures), simp (c6 .lag .given .1, ← c3 .is-new .ensures, c2 .if1 .left, c .most .ensures))
+    (simp (c6 .lag .given .1, ← c3 .is-new .ensures, c2 .if1 .left), simp (c6 .lag .given .1, ← c3 .is-new .ensures, c2 .if1 .left), simp (c6 .lag .given .1, ← c3 .is-new .ensures, c2 .if1 .left, c .most .ensures))
 
 pub join-spec : {M : Type 1} → statement M
 join-spec =

@@ -1,0 +1,2 @@
+-- Laws of commands that crates above cite.
+pub mod Steps

@@ -1,0 +1,3 @@
+-- Laws of the flow table that crates above cite.
+mod Cases
+pub mod Table

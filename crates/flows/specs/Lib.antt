@@ -1,0 +1,2 @@
+-- The flow table.
+pub mod Flows

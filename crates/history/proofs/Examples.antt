@@ -1,0 +1,140 @@
+-- A night in small, computed on the definitions: a tick with a lag of 4,000, then one every 5 s with a lag of 480. Hold 0, window 1 s, W 480.
+-- Assumes nothing.
+use Prim.Native.Nat.{ℕ, zero, suc, _+_, _*_, _≤_}
+use mathlib.Core.Path.{_≡_, refl}
+use mathlib.Core.Bool.{false}
+use mathlib.Core.List.{List, [], _∷_, _++_}
+use native.Mathlib.Omega.{arith}
+use lib.IntN.{negsuc}
+use lib.Ieee.{fin, round, mul, ofInt, le}
+use Rattle.base.specs.Limits.{nanos}
+use Rattle.base.specs.Lists.{padded, sum}
+use Rattle.doubles.specs.Doubles.{halfAway, ceilOf}
+use Rattle.doubles.specs.Quantile.{placeOf}
+use Rattle.policy.specs.declared.DelayPolicy.{DelayPolicy}
+use Rattle.policy.specs.Need.{needOf, shareOf}
+use Rattle.lag_window.specs.Window.{fresh, bucketsOf, inUse, laid, opened, dropped, counted, pushed, pushedAll}
+use Rattle.lag_window.specs.Checks.{newestOf}
+use Rattle.lag_window.specs.Quantile.{column, within, running, reach, quantileIn}
+use Rattle.delay_hold.specs.Steps.{noted}
+use Rattle.delay_hold.specs.Peaks.{joinTimes, joinLags, oldCount, timesAfter, lagsAfter}
+use Rattle.delay_hold.specs.Decide.{lowering, weighed, decideAt, decide}
+use Rattle.delay_hold.specs.Next.{nextOf}
+use Rattle.history.specs.View.{Tick, permille999, p999Of, tickedView}
+use Rattle.history.specs.Events.{freshView, after, history}
+use Rattle.history.specs.Stretch.{Allowed, runningTicks, bucketEnd}
+use Rattle.history.specs.Demand.{delayOf, Accepted}
+use Rattle.history.proofs.Demand.{ceiling-after}
+
+abbrev small : DelayPolicy
+small = record { «read_offset» = 480; «delay_max» = 4800; hold = 0; window = nanos; margin = 96; «margin_share» = fin false 1 (negsuc 0) }
+
+abbrev late : Tick
+late = record { time = 0; lags = 4000 ∷ [] }
+
+-- n ticks from t on, 5 s apart
+abbrev calm : ℕ → ℕ → List Tick
+calm zero t = []
+calm (suc n) t = record { time = t; lags = 480 ∷ [] } ∷ calm n (t + 5 * nanos)
+
+-- the delay after the late tick and n calm ones
+abbrev after-calm : ℕ → ℕ
+after-calm n = delayOf small 480 (runningTicks (late ∷ calm n (5 * nanos)))
+
+-- it covers the late lag while that counts, and falls to the need of 960, the end of the bucket of 480
+fell : after-calm 0 ∷ after-calm 2 ∷ after-calm 3 ∷ after-calm 8 ∷ needOf small (bucketEnd small 480 480) ∷ [] ≡ 4800 ∷ 4800 ∷ 816 ∷ 816 ∷ 816 ∷ []
+unfolding history after freshView tickedView p999Of permille999 bucketEnd pushedAll pushed laid counted dropped opened inUse padded fresh bucketsOf quantileIn running within column reach sum placeOf ceilOf halfAway needOf shareOf mul ofInt round nextOf noted joinTimes joinLags oldCount timesAfter lagsAfter lowering weighed decideAt decide
+fell = refl
+
+-- ---- the theorem's hypotheses can be met: the calm ticks are a stretch, long enough, of an accepted list
+
+allowed : Allowed small 480
+unfolding le bucketsOf
+allowed =
+    record {
+      sound = record { offset = omega arith; maximum = omega arith; margins = omega arith; low = tt; high = tt };
+      hold-most = omega arith;
+      window-least = omega arith;
+      window-most = omega arith;
+      width-least = omega arith;
+      width-most = omega arith;
+      buckets-most = omega arith;
+    }
+
+abbrev first : Tick
+first = record { time = 5 * nanos; lags = 480 ∷ [] }
+
+accepted : Accepted small 480 (runningTicks (late ∷ []) ++ runningTicks (first ∷ calm 7 (10 * nanos)))
+unfolding history after freshView tickedView p999Of permille999 pushedAll pushed laid counted dropped opened inUse padded fresh bucketsOf newestOf
+accepted = (
+  omega arith,
+  omega arith,
+  tt,
+  refl,
+  (
+    omega arith,
+    omega arith,
+    tt,
+    refl,
+    (
+      omega arith,
+      omega arith,
+      tt,
+      refl,
+      (
+        omega arith,
+        omega arith,
+        tt,
+        refl,
+        (
+          omega arith,
+          omega arith,
+          tt,
+          refl,
+          (
+            omega arith,
+            omega arith,
+            tt,
+            refl,
+            (omega arith, omega arith, tt, refl, (omega arith, omega arith, tt, refl, (omega arith, omega arith, tt, refl, tt))),
+          ),
+        ),
+      ),
+    ),
+  ),
+)
+
+settles : delayOf small 480 (runningTicks (late ∷ []) ++ runningTicks (first ∷ calm 7 (10 * nanos))) ≤ needOf small (bucketEnd small 480 480) + 47
+settles =
+    ceiling-after small 480 allowed (runningTicks (late ∷ [])) first (calm 7 (10 * nanos)) 480 accepted tt (omega arith, tt) (
+      omega arith,
+      tt,
+      (omega arith, tt),
+      (
+        omega arith,
+        tt,
+        (omega arith, tt),
+        (
+          omega arith,
+          tt,
+          (omega arith, tt),
+          (
+            omega arith,
+            tt,
+            (omega arith, tt),
+            (
+              omega arith,
+              tt,
+              (omega arith, tt),
+              (
+                omega arith,
+                tt,
+                (omega arith, tt),
+                (omega arith, tt, (omega arith, tt), tt),
+              ),
+            ),
+          ),
+        ),
+      ),
+    )
+    (omega arith)

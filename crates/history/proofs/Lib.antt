@@ -1,0 +1,12 @@
+pub mod Timer
+pub mod Phase
+pub mod Pushed
+pub mod Quantiles
+pub mod Seconds
+pub mod Windows
+pub mod Steady
+pub mod Kept
+pub mod Sanity
+pub mod Ceiling
+pub mod Demand
+pub mod Examples

@@ -1,0 +1,6 @@
+-- The definitions of the third demand.
+pub mod View
+pub mod Events
+pub mod Stretch
+pub mod Whole
+pub mod Demand

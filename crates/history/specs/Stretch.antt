@@ -1,0 +1,49 @@
+-- The words of the third demand, of one input: the settings that `new` accepts, a stretch of ticks, and the end of a lag's bucket. Assumes nothing.
+use Prim.Native.Nat.{ℕ, _+_, _*_, _≤_}
+use mathlib.Core.List.{List, [], _∷_}
+use Rattle.base.specs.Limits.{nanos}
+use Rattle.policy.specs.declared.DelayPolicy.{DelayPolicy}
+use Rattle.policy.specs.Settings as policies
+use Rattle.lag_window.specs.Window.{bucketsOf, bucketOf}
+use Rattle.history.specs.View.{Tick}
+use Rattle.history.specs.Events.{Event, ticks}
+
+-- what checks 2, 3 and 4 of `new` let through
+pub record Allowed (policy : DelayPolicy) (width : ℕ) : Type 0 where
+  pub sound : policies.Sound policy
+  pub hold-most : policy .hold ≤ 600 * nanos
+  pub window-least : nanos ≤ policy .window
+  pub window-most : policy .window ≤ 600 * nanos
+  pub width-least : 1 ≤ width
+  pub width-most : width ≤ 4800
+  pub buckets-most : bucketsOf (policy .«read_offset») (policy .«delay_max») width ≤ 4096
+
+-- ticks that all leave the input running on automatic
+abbrev pub runningTicks : List Tick → List Event
+runningTicks [] = []
+runningTicks (tick ∷ later) = ticks tick ∷ runningTicks later
+
+-- "bring it lags"
+abbrev pub NonEmpty : List ℕ → Type 0
+NonEmpty [] = ⊥
+NonEmpty (lag ∷ lags) = Unit {0}
+
+-- "none above L"
+abbrev pub NoneAbove : ℕ → List ℕ → Type 0
+NoneAbove L [] = Unit {0}
+NoneAbove L (lag ∷ lags) = (lag ≤ L) × NoneAbove L lags
+
+-- successive ticks, "each at most 5 s after the one before" (the first after `before`), that bring lags, none above L
+abbrev pub Stretch : (L before : ℕ) → List Tick → Type 0
+Stretch L before [] = Unit {0}
+Stretch L before (tick ∷ later) =
+    (tick .time ≤ before + 5 * nanos) × NonEmpty (tick .lags) × NoneAbove L (tick .lags) × Stretch L (tick .time) later
+
+-- the time of the last of them
+abbrev pub ending : ℕ → List Tick → ℕ
+ending before [] = before
+ending before (tick ∷ later) = ending (tick .time) later
+
+-- "the end of L's bucket (the end that `quantile_upto` answers)"
+unfoldable pub bucketEnd : DelayPolicy → (width L : ℕ) → ℕ
+bucketEnd policy width L = (bucketOf L width (bucketsOf (policy .«read_offset») (policy .«delay_max») width) + 1) * width

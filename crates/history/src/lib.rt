@@ -1,0 +1,1 @@
+// The third demand over lists of calls: definitions and theorems, no code.

@@ -1,0 +1,113 @@
+-- The definitions of the instance table as the code comes to them. Assumes nothing.
+use Prim.Native.Nat.{ℕ, zero, suc, _+_, _-_, _<_, _≤_}
+use mathlib.Core.Bool.{Bool, true, false}
+use mathlib.Core.Path.{_≡_, refl, sym, ap, _∙_}
+use mathlib.Core.List.{List, [], _∷_, _++_, append-nil}
+use native.Mathlib.Nat.{add-zero, zero-add, add-suc, suc-add, sub-zero, zero-sub, suc-sub-suc}
+use native.Mathlib.Numerals.{add-one}
+use native.Mathlib.Omega.{arith}
+use lib.ListN.{length, set, drop, replicate, length-append, length-replicate}
+use lib.Seq.{sets, sets-eq}
+use borrow.Author.Tests.{eq-eqb, ne-eqb}
+use Rattle.base.proofs.Choices.{yes-pick, no-pick}
+use Rattle.slots.specs.declared.Instance.{Instance}
+use Rattle.slots.specs.declared.Slot.{Slot}
+use Rattle.slots.specs.declared.Inputs.{Inputs}
+use Rattle.slots.specs.Inputs.{slotAt, withInstances}
+use Rattle.instances.specs.declared.Extra.{Extra}
+use Rattle.instances.specs.Instances.{sameKey, noKey, keyAt, held, holdsKey, keyBelow, newKeyAt, usesKey, wantedKey, keepOne, keptKeys, withKeys, pruned}
+
+pub held-most : (s : Inputs) → held s ≤ 18
+unfolding held
+held-most s = omega arith
+
+-- what a test of the code told of a place, or of an input
+pub told-key : (s : Inputs) (key : Instance) (place : ℕ) {at : Instance} {r b : Bool} → at ≡ keyAt s place → r ≡ sameKey at key → r ≡ b → holdsKey s key place ≡ b
+told-key s key place e h g = ap (λ (x : Instance). sameKey x key) (sym e) ∙ sym h ∙ g
+
+pub told-uses : (s : Inputs) (key : Instance) (i : ℕ) {slot : Slot} {r b : Bool} → slot ≡ slotAt s i → r ≡ usesKey slot key → r ≡ b → usesKey (slotAt s i) key ≡ b
+told-uses s key i e h g = ap (λ (x : Slot). usesKey x key) (sym e) ∙ sym h ∙ g
+
+module _ (s : Inputs) (place : ℕ) {at : Instance} {r : ℕ} (e : at ≡ keyAt s place) (h : r ≡ keyBelow place s at) where
+  here : r ≡ keyBelow place s (keyAt s place)
+  here = h ∙ ap (keyBelow place s) e
+
+  pub told-new : r ≡ place → newKeyAt s place ≡ true
+  told-new g = eq-eqb _ _ (sym here ∙ g)
+
+  pub told-twice : (r ≡ place → ⊥) → newKeyAt s place ≡ false
+  told-twice g = ne-eqb _ _ (λ w. g (here ∙ w))
+
+-- ---- pruning, place by place
+
+-- what is stored after the keys stands after them
+sets-more : {A : Type 0} (l : List A) (u : ℕ) (vs : List A) (a : A) → set (sets l u vs) (u + length vs) a ≡ sets l u (vs ++ (a ∷ []))
+sets-more l u [] a = rw add-zero
+sets-more l u (b ∷ vs) a = rw (add-suc u (length vs), ← suc-add u (length vs)) (sets-more (set l u b) (suc u) vs a)
+
+abbrev unused : List Instance
+unused = replicate 18 noKey
+
+pub record Pruning (s : Inputs) (extra : Extra) (n i : ℕ) (kept : List Instance) (count : ℕ) : Type 0 where
+  pub within : i ≤ n
+  pub stored : kept ≡ sets unused 0 (keptKeys s extra i)
+  pub counted : count ≡ length (keptKeys s extra i)
+  pub few : count ≤ i
+
+pub prune-start : (s : Inputs) (extra : Extra) (n : ℕ) → Pruning s extra n 0 unused 0
+unfolding keptKeys
+prune-start s extra n = record { within = omega arith; stored = refl; counted = refl; few = omega arith }
+
+module _ {s : Inputs} {extra : Extra} {n i : ℕ} {kept : List Instance} {count : ℕ} (v : Pruning s extra n i kept count) (l : i < n) {key : Instance} (at : key ≡ keyAt s i) {r : Bool} (told : r ≡ wantedKey s extra key) where
+  told-here : wantedKey s extra (keyAt s i) ≡ r
+  told-here = ap (wantedKey s extra) (sym at) ∙ sym told
+
+  pub prune-keeps : r ≡ true → {kept′ : List Instance} {count′ : ℕ} → kept′ ≡ set kept count key → count′ ≡ count + 1 → Pruning s extra n (i + 1) kept′ count′
+  unfolding keptKeys keepOne
+  prune-keeps h a b =
+      let keys : List Instance = keptKeys s extra i in
+      let e : keptKeys s extra (i + 1) ≡ keys ++ (keyAt s i ∷ []) = rw (add-one i) (ap (λ (x : List Instance). keys ++ x) (yes-pick _ _ (told-here ∙ h))) in
+      record {
+        within = omega arith;
+        stored =
+            a
+            ∙ ap (λ (x : List Instance). set x count key) (v .stored)
+            ∙ ap (λ (m : ℕ). set (sets unused 0 keys) m key) (v .counted ∙ sym (zero-add (length keys)))
+            ∙ ap (set (sets unused 0 keys) (0 + length keys)) at
+            ∙ sets-more unused 0 keys (keyAt s i)
+            ∙ ap (sets unused 0) (sym e);
+        counted = b ∙ ap (λ (m : ℕ). m + 1) (v .counted) ∙ sym (length-append keys (keyAt s i ∷ [])) ∙ ap length (sym e);
+        few = omega (arith, b, v .few);
+      }
+
+  pub prune-drops : r ≡ false → {kept′ : List Instance} {count′ : ℕ} → kept′ ≡ kept → count′ ≡ count → Pruning s extra n (i + 1) kept′ count′
+  unfolding keptKeys keepOne
+  prune-drops h a b =
+      let keys : List Instance = keptKeys s extra i in
+      let e : keptKeys s extra (i + 1) ≡ keys = rw (add-one i) (ap (λ (x : List Instance). keys ++ x) (no-pick _ _ (told-here ∙ h)) ∙ append-nil keys) in
+      record {
+        within = omega arith;
+        stored = a ∙ v .stored ∙ ap (sets unused 0) (sym e);
+        counted = b ∙ v .counted ∙ ap length (sym e);
+        few = omega (arith, b, v .few);
+      }
+
+drop-unused : (k m : ℕ) → drop k (replicate m noKey) ≡ replicate (m - k) noKey
+drop-unused zero m = rw (sub-zero m)
+drop-unused (suc k) zero = rw (zero-sub (suc k))
+drop-unused (suc k) (suc m) = rw (suc-sub-suc m k) (drop-unused k m)
+
+laid : (keys : List Instance) → length keys ≤ 18 → sets unused 0 keys ≡ keys ++ replicate (18 - length keys) noKey
+laid keys h =
+    sets-eq keys unused 0 (rw (zero-add (length keys), length-replicate 18 noKey) h)
+    ∙ ap (λ (k : ℕ). keys ++ drop k unused) (zero-add (length keys))
+    ∙ ap (λ (x : List Instance). keys ++ x) (drop-unused (length keys) 18)
+
+pub prune-ends : {s : Inputs} {extra : Extra} {n i : ℕ} {kept : List Instance} {count : ℕ} → Pruning s extra n i kept count → n ≤ i → n ≡ held s → withInstances s kept count ≡ pruned s extra
+unfolding pruned withKeys
+prune-ends {s} {extra} {n} {i} {kept} {count} v h e =
+    let q : i ≡ held s = omega (arith, v .within) in
+    let keys : List Instance = keptKeys s extra (held s) in
+    let b : count ≡ length keys = v .counted ∙ ap (λ (m : ℕ). length (keptKeys s extra m)) q in
+    let a : kept ≡ keys ++ replicate (18 - length keys) noKey = v .stored ∙ ap (λ (m : ℕ). sets unused 0 (keptKeys s extra m)) q ∙ laid keys (omega (arith, v .few, b, q, held-most s)) in
+    rw (a, b)

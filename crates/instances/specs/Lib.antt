@@ -1,0 +1,3 @@
+-- The instance table.
+pub mod Any
+pub mod Instances

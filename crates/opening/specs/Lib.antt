@@ -1,0 +1,2 @@
+-- Opening a flow.
+pub mod Opening

@@ -1,0 +1,170 @@
+-- The definitions of check 6 as the code comes to them. Assumes nothing.
+use Prim.Native.Nat.{ℕ, _*_, _<_, _≤_}
+use mathlib.Core.Bool.{Bool, true, false}
+use mathlib.Core.Path.{_≡_, sym, ap, _∙_}
+use mathlib.Core.List.{List}
+use native.Mathlib.Nat.{mul-le-mul}
+use native.Mathlib.Omega.{arith}
+use mir.Syntax.{w64}
+use mir.Val.{Fits}
+use lib.Dec.{eqb, leb, ltb}
+use lib.ListN.{getD, take, drop}
+use borrow.Author.Tests.{eq-eqb, ne-eqb, leb-true, lt-ltb, le-ltb}
+use Rattle.base.proofs.All.{both-yes, both-no}
+use Rattle.base.proofs.Choices.{yes-pick, no-pick}
+use Rattle.base.proofs.Points.{both-true}
+use Rattle.policy.specs.declared.DelayPolicy.{DelayPolicy}
+use Rattle.policy.specs.Settings.{reachesAllowed}
+use Rattle.lag_window.specs.Window.{lent, bucketsOf}
+use Rattle.lag_window.specs.Whole.{wholeWindow}
+use Rattle.lag_window.specs.Parts.{partOf, Held}
+use Rattle.delay_hold.specs.declared.Moment.{Moment}
+use Rattle.delay_hold.specs.declared.Moment.the-variants.{Never, At}
+use Rattle.delay_hold.specs.Next.{held}
+use Rattle.delay_hold.specs.Whole.{momentTimely, wholeHold}
+use Rattle.slots.specs.declared.Flow.{Flow}
+use Rattle.slots.specs.declared.Proposal.{Proposal}
+use Rattle.slots.specs.declared.Proposal.the-variants.{Nothing, Pending}
+use Rattle.slots.specs.declared.Remembered.{Remembered}
+use Rattle.slots.specs.declared.Route.{Route}
+use Rattle.slots.specs.declared.Routed.{Routed}
+use Rattle.slots.specs.declared.Routed.the-variants.{Nowhere, To}
+use Rattle.slots.specs.declared.State.{State}
+use Rattle.slots.specs.declared.Slot.{Slot}
+use Rattle.slots.specs.declared.Instance.{Instance}
+use Rattle.slots.specs.declared.Inputs.{Inputs}
+use Rattle.slots.specs.Slots.{stateNumber}
+use Rattle.slots.specs.Inputs.{slotAt}
+use Rattle.flows.specs.Flows.{entryAt, flowAt, recalled}
+use Rattle.instances.specs.Instances.{noKey, keyAt}
+use Rattle.record.specs.declared.Commands.{Commands}
+use Rattle.record.specs.declared.Commands.the-variants.{Absent, Words}
+use Rattle.record.specs.Lent.{Lists, lists, bucketsIn, windowOf, heldOf}
+use Rattle.record.specs.Places.{proposalFits, routeFits, noDelay, unusedEntry, entryFits, unusedKey, keyFits, unusedSlot}
+use Rattle.record.specs.Record.{wholeInput, inputFits}
+use Rattle.record.specs.Checks.{inputsAllowed, bucketsAllowed, listsFit, commandsFit, Fitting}
+use Rattle.record.proofs.Shapes.{window-held}
+
+-- ---- the parts of a slot
+pub no-proposed : (proposed : Proposal) (maximum : ℕ) → proposed ≡ Nothing → true ≡ proposalFits proposed maximum
+no-proposed proposed maximum e = sym (ap (λ (x : Proposal). proposalFits x maximum) e)
+
+pub some-proposed : (proposed : Proposal) (maximum : ℕ) {delay : ℕ} → proposed ≡ Pending delay → leb delay maximum ≡ proposalFits proposed maximum
+some-proposed proposed maximum e = sym (ap (λ (x : Proposal). proposalFits x maximum) e)
+
+pub no-moment : (moment : Moment) → moment ≡ Never → true ≡ momentTimely moment
+no-moment moment e = sym (ap momentTimely e)
+
+pub some-moment : (moment : Moment) {time : ℕ} → moment ≡ At time → leb time 4000000000000000000 ≡ momentTimely moment
+some-moment moment e = sym (ap momentTimely e)
+
+pub no-commands : (n : ℕ) (commands : Commands) → commands ≡ Absent → true ≡ commandsFit n commands
+no-commands n commands e = sym (ap (commandsFit n) e)
+
+pub some-commands : (n : ℕ) (commands : Commands) {words : ℕ} → commands ≡ Words words → eqb words (n * 12) ≡ commandsFit n commands
+some-commands n commands e = sym (ap (commandsFit n) e)
+
+module _ (to : Routed) (state : State) (n : ℕ) {number : ℕ} (e : number ≡ stateNumber state) where
+  pub route-nowhere : to ≡ Nowhere → eqb number 0 ≡ routeFits to state n
+  unfolding routeFits
+  route-nowhere f = ap (λ (k : ℕ). eqb k 0) e ∙ sym (ap (λ (x : Routed). routeFits x state n) f)
+
+  pub route-known : {route : Route} → to ≡ To route → route .flow < n → leb 1 number ≡ routeFits to state n
+  unfolding routeFits
+  route-known f h = both-yes _ _ _ (lt-ltb _ _ h) (ap (leb 1) e) ∙ sym (ap (λ (x : Routed). routeFits x state n) f)
+
+pub route-unknown : (to : Routed) (state : State) (n : ℕ) {route : Route} → to ≡ To route → n ≤ route .flow → false ≡ routeFits to state n
+unfolding routeFits
+route-unknown to state n f h = both-no _ _ (le-ltb _ _ h) ∙ sym (ap (λ (x : Routed). routeFits x state n) f)
+
+-- ---- a place of the flow table
+module _ (s : Inputs) (place : ℕ) where
+  pub entry-in-use : place < s .«flow_count» → true ≡ entryFits s place
+  entry-in-use h = sym (yes-pick _ _ (lt-ltb _ _ h))
+
+  module _ (h : s .«flow_count» ≤ place) {flow : Flow} (e : flow ≡ flowAt s place) where
+    past : unusedEntry (entryAt s place) ≡ entryFits s place
+    past = sym (no-pick _ _ (le-ltb _ _ h))
+
+    high : flow .high ≡ entryAt s place .flow .high
+    unfolding flowAt
+    high = ap (λ (x : Flow). x .high) e
+
+    low : flow .low ≡ entryAt s place .flow .low
+    unfolding flowAt
+    low = ap (λ (x : Flow). x .low) e
+
+    pub entry-high : (flow .high ≡ 0 → ⊥) → false ≡ entryFits s place
+    unfolding unusedEntry
+    entry-high none = both-no _ _ (ne-eqb _ _ (λ z. none (high ∙ z))) ∙ past
+
+    module _ (first : flow .high ≡ 0) where
+      pub entry-low : (flow .low ≡ 0 → ⊥) → false ≡ entryFits s place
+      unfolding unusedEntry
+      entry-low none = both-yes _ _ _ (eq-eqb _ _ (sym high ∙ first)) (both-no _ _ (ne-eqb _ _ (λ z. none (low ∙ z)))) ∙ past
+
+      pub entry-last : flow .low ≡ 0 → {last : Remembered} {r : Bool} → last ≡ recalled s place → r ≡ noDelay last → r ≡ entryFits s place
+      unfolding unusedEntry recalled
+      entry-last second f g = both-yes _ _ _ (eq-eqb _ _ (sym high ∙ first)) (both-yes _ _ _ (eq-eqb _ _ (sym low ∙ second)) (g ∙ ap noDelay f)) ∙ past
+
+  -- ---- a place of the instance table
+  module _ (within : place < 18) {key : Instance} (e : key ≡ getD (s .instances) place (record { flow = 0; inode = 0 })) where
+    key-is : key ≡ keyAt s place
+    unfolding keyAt noKey
+    key-is = e ∙ sym (yes-pick _ _ (lt-ltb _ _ within))
+
+    pub key-in-use : place < s .«instance_count» → ltb (key .flow) (s .«flow_count») ≡ keyFits s place
+    key-in-use h = ap (λ (x : Instance). ltb (x .flow) (s .«flow_count»)) key-is ∙ sym (yes-pick _ _ (lt-ltb _ _ h))
+
+    pub key-unused : s .«instance_count» ≤ place → unusedKey key ≡ keyFits s place
+    key-unused h = ap unusedKey key-is ∙ sym (no-pick _ _ (le-ltb _ _ h))
+
+-- ---- checks 2 and 5
+pub reaches-ask : (policy : DelayPolicy) (width : ℕ) → reachesAllowed policy ≡ true → 1 ≤ width → (policy .«read_offset» ≤ 96000) × (policy .«delay_max» ≤ 96000) × (1 ≤ width)
+unfolding reachesAllowed
+reaches-ask policy width h low = let t = both-true _ _ h in (leb-true _ _ (t .0), leb-true _ _ (t .1), low)
+
+pub buckets-ask : (policy : DelayPolicy) (width : ℕ) → bucketsAllowed policy width ≡ true → (policy .«read_offset» ≤ 96000) × (policy .«delay_max» ≤ 96000) × (1 ≤ width)
+unfolding bucketsAllowed
+buckets-ask policy width h = let t = both-true _ _ h in reaches-ask policy width (t .0) (leb-true _ _ (both-true _ _ (t .1) .0))
+
+pub buckets-few : (policy : DelayPolicy) (width : ℕ) {buckets : ℕ} → bucketsAllowed policy width ≡ true → buckets ≡ bucketsOf (policy .«read_offset») (policy .«delay_max») width → buckets ≤ 4096
+unfolding bucketsAllowed
+buckets-few policy width h e = rw e (leb-true _ _ (both-true _ _ (both-true _ _ (both-true _ _ h .1) .1) .1))
+
+pub inputs-few : (n : ℕ) → inputsAllowed n ≡ true → n ≤ 16
+unfolding inputsAllowed
+inputs-few n h = leb-true _ _ (both-true _ _ h .1)
+
+pub counts-fit : (n buckets : ℕ) → n ≤ 16 → buckets ≤ 4096 → Fits w64 (n * (11 * buckets))
+counts-fit n buckets h k = let rows : 11 * buckets ≤ 45056 = omega arith in omega (arith, mul-le-mul h rows)
+
+pub told-lists : (s : Inputs) (l : Lists) {buckets : ℕ} {r : Bool} → buckets ≡ bucketsOf (s .policy .«read_offset») (s .policy .«delay_max») (s .width) → r ≡ listsFit (s .count) buckets l → r ≡ listsFit (s .count) (bucketsIn s) l
+unfolding bucketsIn
+told-lists s l e g = g ∙ ap (λ (b : ℕ). listsFit (s .count) b l) e
+
+-- ---- input i
+module _ (s : Inputs) (i : ℕ) (starts totals counts times lags : List ℕ) where
+  abbrev given : Lists
+  given = lists starts totals counts times lags
+
+  module _ (f : Fitting s given) (h : i < s .count) where
+    -- what `lag_window::core::whole` asks
+    pub window-asks : (slot : Slot) {buckets : ℕ} → buckets ≡ bucketsOf (s .policy .«read_offset») (s .policy .«delay_max») (s .width) → Held i (lent (record { seconds = slot .«lag_seconds»; buckets = buckets; width = s .width }) starts totals counts)
+    unfolding bucketsIn
+    window-asks slot e = rw e (window-held s given f i slot h)
+
+  module _ {slot : Slot} (e : slot ≡ slotAt s i) where
+    -- what the calls told, of the input's window and hold
+    pub told-window : {buckets : ℕ} {r : Bool} → buckets ≡ bucketsOf (s .policy .«read_offset») (s .policy .«delay_max») (s .width) → r ≡ wholeWindow (partOf i (lent (record { seconds = slot .«lag_seconds»; buckets = buckets; width = s .width }) starts totals counts)) → r ≡ wholeWindow (windowOf s given i)
+    unfolding bucketsIn
+    told-window b g = g ∙ (λ t. wholeWindow (partOf i (lent (record { seconds = e t .«lag_seconds»; buckets = b t; width = s .width }) starts totals counts)))
+
+    pub told-hold : {k : ℕ} {r : Bool} → k ≡ 600 → r ≡ wholeHold (s .policy) (s .width) (held (slot .hold) (take k (drop (i * 600) times)) (take k (drop (i * 600) lags))) → r ≡ wholeHold (s .policy) (s .width) (heldOf s given i)
+    told-hold k g = g ∙ (λ t. wholeHold (s .policy) (s .width) (held (e t .hold) (take (k t) (drop (i * 600) times)) (take (k t) (drop (i * 600) lags))))
+
+    pub told-unused : {r : Bool} → s .count ≤ i → r ≡ unusedSlot slot → r ≡ inputFits s given i
+    told-unused h g = g ∙ ap unusedSlot e ∙ sym (no-pick _ _ (le-ltb _ _ h))
+
+  pub told-input : {r : Bool} → i < s .count → r ≡ wholeInput s given i → r ≡ inputFits s given i
+  told-input h g = g ∙ sym (yes-pick _ _ (lt-ltb _ _ h))

@@ -1,0 +1,11 @@
+-- Laws of whole records that crates above cite.
+pub mod Unused
+pub mod Facts
+pub mod Checked
+pub mod Blocks
+pub mod Beside
+pub mod Keep
+pub mod Shapes
+pub mod Tables
+pub mod Pruned
+mod Cases

@@ -1,0 +1,54 @@
+-- `record::places::entries_fit` meets its contract. Assumes nothing.
+use Prim.Native.Nat.{_-_, _≤_}
+use mathlib.Core.Path.{_≡_}
+use mathlib.Core.Bool.{true}
+use native.Mathlib.Omega.{arith}
+use borrow.Author.Needs.{needs}
+use Rattle.base.proofs.All.{all-end, all-more, all-none, all-stop, told-no, told-yes}
+use Rattle.base.specs.Lists.{all}
+use Rattle.record.specs.Places.{entriesFit, entryFits}
+use Rattle.record.proofs.places.entries_fit.Statement.{statement}
+use Rattle.record.proofs.places.entries_fit.Tie as tie
+
+abbrev Inv-loop : tie.InvT-loop
+Inv-loop inputs place₀ place = (place ≤ 64) × (all (entryFits inputs) place ≡ true)
+
+abbrev μ-loop : tie.MeasureT-loop
+μ-loop inputs place₀ place = 64 - place
+
+loop-holds : tie.Need-loop-holds Inv-loop μ-loop
+loop-holds c = (omega arith, all-none _)
+
+entry-fits-requires : tie.Need-entry-fits-requires Inv-loop μ-loop
+entry-fits-requires c κs = search needs
+
+returns : tie.Need-returns Inv-loop μ-loop
+unfolding entriesFit
+returns c = all-stop (entryFits (c .before .before .before .before .args .inputs)) 64 _ (c .before .before .loop-test .taken) (told-no _ _ (c .before .entry-fits .ensures) (c .if1 .taken))
+
+add-place : tie.Need-add-place Inv-loop μ-loop
+add-place c = omega arith
+
+loop-less : tie.Need-loop-less Inv-loop μ-loop
+loop-less c = omega arith
+
+loop-again : tie.Need-loop-again Inv-loop μ-loop
+loop-again c = (omega arith, all-more (entryFits (c .before .before .before .before .args .inputs)) _ (c .before .before .before .loop .inv .1) (told-yes _ _ (c .before .entry-fits .ensures) (c .if1 .left)))
+
+returns-2 : tie.Need-returns-2 Inv-loop μ-loop
+unfolding entriesFit
+returns-2 c = all-end (entryFits (c .before .before .args .inputs)) 64 _ (c .before .loop .inv .1) (c .before .loop .inv .0) (c .loop-test .left)
+
+pub entries-fit-spec : {M : Type 1} → statement M
+entries-fit-spec =
+    tie.close
+    (tie.spec
+    Inv-loop
+    μ-loop
+    loop-holds
+    entry-fits-requires
+    returns
+    add-place
+    loop-less
+    loop-again
+    returns-2)

@@ -1,0 +1,5 @@
+-- The definitions that the contracts of `record` cite.
+pub mod Lent
+pub mod Places
+pub mod Record
+pub mod Checks

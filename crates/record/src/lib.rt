@@ -1,0 +1,106 @@
+// The whole record of a supervisor with the lists lent for it: checks 1 to 6 of every call (document 01, "The gatekeeper's questions").
+ghost use mathlib.Core.Path.{_≡_};
+ghost use Rattle.slots.proofs.Sized.{Sized};
+ghost use Rattle.record.specs.Lent.{lists};
+ghost use Rattle.record.specs.Checks.{inputsAllowed, bucketsAllowed, pausesAllowed, recordNumber};
+use policy::DelayPolicy;
+use slots::Inputs;
+
+// Functions that ask something of their caller; the crates above use them after their checks.
+pub mod core;
+mod places;
+
+// The length of the lent commands, where the call takes them.
+pub enum Commands {
+    Absent,
+    Words(usize),
+}
+
+// Are there 1 to 16 inputs (check 1)?
+pub fn inputs_allowed(n: usize) -> bool
+    ensures { λ r. ⌜ r ≡ inputsAllowed n ⌝ }
+{
+    if n < 1 {
+        return false;
+    }
+    n <= 16
+}
+
+// Are offset and maximum at most 96,000, W 1 to 4,800, buckets at most 4,096 (check 2)?
+pub fn buckets_allowed(policy: DelayPolicy, width: u32) -> bool
+    ensures { λ r. ⌜ r ≡ bucketsAllowed policy width ⌝ }
+{
+    if !policy.reaches_allowed() {
+        return false;
+    }
+    if width < 1 {
+        return false;
+    }
+    if 4_800 < width {
+        return false;
+    }
+    lag_window::core::buckets_of(policy.read_offset, policy.delay_max, width) <= 4_096
+}
+
+// Are hold and stall at most 600 s, window 1 to 600 s (check 3)?
+pub fn pauses_allowed(policy: DelayPolicy, stall: u64) -> bool
+    ensures { λ r. ⌜ r ≡ pausesAllowed policy stall ⌝ }
+{
+    if !policy.times_allowed() {
+        return false;
+    }
+    stall <= base::SPAN_LIMIT
+}
+
+fn first_refused(
+    inputs: Inputs,
+    starts: &[u64],
+    totals: &[u64],
+    counts: &[u32],
+    times: &[u64],
+    lags: &[u32],
+    commands: Commands,
+) -> u32
+    ensures { λ r. ⌜ r ≡ recordNumber inputs (lists (now (starts .entry)) (now (totals .entry)) (now (counts .entry)) (now (times .entry)) (now (lags .entry))) commands 0 ⌝ }
+{
+    if !inputs_allowed(inputs.count) {
+        return 1;
+    }
+    let policy = inputs.policy;
+    if !buckets_allowed(policy, inputs.width) {
+        return 2;
+    }
+    if !pauses_allowed(policy, inputs.stall) {
+        return 3;
+    }
+    if !policy.margins_allowed() {
+        return 4;
+    }
+    let buckets = lag_window::core::buckets_of(policy.read_offset, policy.delay_max, inputs.width);
+    if !core::lists_fit(inputs.count, buckets, starts, totals, counts, times, lags) {
+        return 5;
+    }
+    if !core::commands_fit(inputs.count, commands) {
+        return 5;
+    }
+    if !core::whole(inputs, starts, totals, counts, times, lags) {
+        return 6;
+    }
+    0
+}
+
+// The number of the first of checks 1 to 6 that says no, or 0. The record's tables have their places, as in every value of its type.
+pub fn checks(
+    inputs: Inputs,
+    starts: &[u64],
+    totals: &[u64],
+    counts: &[u32],
+    times: &[u64],
+    lags: &[u32],
+    commands: Commands,
+) -> u32
+    ensures { λ r. ⌜ r ≡ recordNumber inputs (lists (now (starts .entry)) (now (totals .entry)) (now (counts .entry)) (now (times .entry)) (now (lags .entry))) commands 0 ⌝ }
+    ensures { λ _. ⌜ Sized inputs ⌝ }
+{
+    first_refused(inputs, starts, totals, counts, times, lags, commands)
+}

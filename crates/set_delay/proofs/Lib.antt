@@ -1,0 +1,2 @@
+-- Laws of setting a delay that crates above cite.
+pub mod Stored

@@ -1,0 +1,2 @@
+-- Setting a delay.
+pub mod SetDelay

@@ -1,0 +1,15 @@
+-- `slots::empty_slot` meets its contract. Assumes nothing.
+use borrow.Author.Needs.{needs}
+use Rattle.slots.specs.Slots.{emptySlot, emptyHold}
+use Rattle.slots.proofs.empty_slot.Statement.{statement}
+use Rattle.slots.proofs.empty_slot.Tie as tie
+
+fresh-requires : tie.Need-fresh-requires
+fresh-requires c κs = search needs
+
+returns : tie.Need-returns
+unfolding emptySlot emptyHold
+returns c = rw (c .fresh .ensures)
+
+pub empty-slot-spec : {M : Type 1} → statement M
+empty-slot-spec = tie.close (tie.spec fresh-requires returns)

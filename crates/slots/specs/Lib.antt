@@ -1,0 +1,4 @@
+-- The record of the inputs.
+pub mod First
+pub mod Slots
+pub mod Inputs

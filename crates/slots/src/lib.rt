@@ -1,0 +1,402 @@
+// The record of one input and of all inputs, by value, with a function for each part that changes.
+ghost use mathlib.Core.Path.{_≡_};
+ghost use Rattle.slots.specs.Slots.{withConfig, withState, withRoute, withInode, withHead, withReopens, withLagSeconds, withLastLag, withDelay, withProposed, withHold, withDelayChanges, withLate, stateNumber, isAuto, emptySlot};
+ghost use Rattle.slots.specs.Inputs.{slotAt, putSlot};
+use delay_hold::DelayHold;
+use delay_hold::Moment;
+use policy::DelayPolicy;
+
+pub enum AutoTag {
+    Auto,
+}
+
+// An input's extra delay: measured, or fixed in milliseconds.
+pub enum ExtraDelay {
+    Auto(AutoTag),
+    Ms(f64),
+}
+
+pub struct InputConfig {
+    pub extra_delay: ExtraDelay,
+}
+
+pub enum State {
+    Unrouted,
+    Waiting,
+    Running,
+    Stalled,
+}
+
+// Where an input reads from. The domain is the host's number for its path; the flow is its place in the flow table, which it never leaves.
+pub struct Route {
+    pub domain: u64,
+    pub flow: usize,
+}
+
+pub enum Routed {
+    Nowhere,
+    To(Route),
+}
+
+// The inode of a flow's data file, or none.
+pub enum Inode {
+    Gone,
+    Of(u64),
+}
+
+// An automatic delay that waits for confirmation, or none.
+pub enum Proposal {
+    Nothing,
+    Pending(u32),
+}
+
+pub struct Slot {
+    pub config: InputConfig,
+    pub state: State,
+    pub route: Routed,
+    pub inode: Inode,
+    pub last_head: u64,
+    // When the head was last seen to move.
+    pub head_changed: u64,
+    pub reopens: u64,
+    // How many of its 11 lent seconds of lags are in use.
+    pub lag_seconds: usize,
+    pub last_lag: u32,
+    // The extra delay that was sent last (samples).
+    pub delay: u32,
+    pub proposed: Proposal,
+    pub hold: DelayHold,
+    // Automatic delay changes (each one a fade), and ticks with a late block after one without.
+    pub delay_changes: u64,
+    pub late_events: u64,
+    pub late_before: bool,
+    // When the last SetDelay went to this input.
+    pub last_set: Moment,
+}
+
+// A flow's 16 bytes, the first weighing most: eight in high, eight in low.
+pub struct Flow {
+    pub high: u64,
+    pub low: u64,
+}
+
+// The last automatic delay of a flow (samples), or none.
+pub enum Remembered {
+    Never,
+    Delay(u32),
+}
+
+pub struct FlowEntry {
+    pub flow: Flow,
+    pub remembered: Remembered,
+}
+
+// One generation of a flow: the flow's place and the inode of its data file.
+pub struct Instance {
+    pub flow: usize,
+    pub inode: u64,
+}
+
+pub struct Inputs {
+    // How many of the slots are inputs; the others are empty.
+    pub count: usize,
+    pub policy: DelayPolicy,
+    // The width of a lag window's bucket (samples).
+    pub width: u32,
+    // How long the head may stand still.
+    pub stall: u64,
+    // Whether an automatic delay waits for confirmation.
+    pub confirm: bool,
+    pub slots: [Slot; 16],
+    pub flows: [FlowEntry; 64],
+    pub flow_count: usize,
+    // A remembered delay changed since the table was last saved.
+    pub unsaved: bool,
+    pub instances: [Instance; 18],
+    pub instance_count: usize,
+}
+
+// The state's number, as document 01 gives it.
+pub fn code(state: State) -> u32
+    ensures { λ r. ⌜ r ≡ stateNumber state ⌝ }
+{
+    match state {
+        State::Unrouted => 0,
+        State::Waiting => 1,
+        State::Running => 2,
+        State::Stalled => 3,
+    }
+}
+
+// Is the input's delay automatic?
+pub fn automatic(slot: Slot) -> bool
+    ensures { λ r. ⌜ r ≡ isAuto (slot .config .«extra_delay») ⌝ }
+{
+    let config = slot.config;
+    let delay = config.extra_delay;
+    match delay {
+        ExtraDelay::Auto(_) => true,
+        ExtraDelay::Ms(_) => false,
+    }
+}
+
+// An unused place: automatic, without a route, every number zero.
+pub fn empty_slot() -> Slot
+    ensures { λ r. ⌜ r ≡ emptySlot ⌝ }
+{
+    let extra_delay = ExtraDelay::Auto(AutoTag::Auto);
+    let config = InputConfig { extra_delay };
+    let hold = delay_hold::core::fresh();
+    Slot {
+        config,
+        state: State::Unrouted,
+        route: Routed::Nowhere,
+        inode: Inode::Gone,
+        last_head: 0,
+        head_changed: 0,
+        reopens: 0,
+        lag_seconds: 0,
+        last_lag: 0,
+        delay: 0,
+        proposed: Proposal::Nothing,
+        hold,
+        delay_changes: 0,
+        late_events: 0,
+        late_before: false,
+        last_set: Moment::Never,
+    }
+}
+
+// The slot of input i; there are 16 places.
+pub fn slot_at(inputs: Inputs, i: usize) -> Slot
+    ensures { λ r. ⌜ r ≡ slotAt inputs i ⌝ }
+{
+    if i < 16 {
+        return inputs.slots[i];
+    }
+    empty_slot()
+}
+
+pub fn put_slot(inputs: Inputs, i: usize, slot: Slot) -> Inputs
+    ensures { λ r. ⌜ r ≡ putSlot inputs i slot ⌝ }
+{
+    if i < 16 {
+        let mut all = inputs;
+        all.slots[i] = slot;
+        return all;
+    }
+    inputs
+}
+
+pub fn with_config(slot: Slot, config: InputConfig) -> Slot
+    ensures { λ r. ⌜ r ≡ withConfig slot config ⌝ }
+{
+    let mut changed = slot;
+    changed.config = config;
+    changed
+}
+
+pub fn with_state(slot: Slot, state: State) -> Slot
+    ensures { λ r. ⌜ r ≡ withState slot state ⌝ }
+{
+    let config = slot.config;
+    let route = slot.route;
+    let inode = slot.inode;
+    let proposed = slot.proposed;
+    let hold = slot.hold;
+    let last_set = slot.last_set;
+    Slot {
+        config,
+        state,
+        route,
+        inode,
+        last_head: slot.last_head,
+        head_changed: slot.head_changed,
+        reopens: slot.reopens,
+        lag_seconds: slot.lag_seconds,
+        last_lag: slot.last_lag,
+        delay: slot.delay,
+        proposed,
+        hold,
+        delay_changes: slot.delay_changes,
+        late_events: slot.late_events,
+        late_before: slot.late_before,
+        last_set,
+    }
+}
+
+pub fn with_route(slot: Slot, route: Routed) -> Slot
+    ensures { λ r. ⌜ r ≡ withRoute slot route ⌝ }
+{
+    let config = slot.config;
+    let state = slot.state;
+    let inode = slot.inode;
+    let proposed = slot.proposed;
+    let hold = slot.hold;
+    let last_set = slot.last_set;
+    Slot {
+        config,
+        state,
+        route,
+        inode,
+        last_head: slot.last_head,
+        head_changed: slot.head_changed,
+        reopens: slot.reopens,
+        lag_seconds: slot.lag_seconds,
+        last_lag: slot.last_lag,
+        delay: slot.delay,
+        proposed,
+        hold,
+        delay_changes: slot.delay_changes,
+        late_events: slot.late_events,
+        late_before: slot.late_before,
+        last_set,
+    }
+}
+
+pub fn with_inode(slot: Slot, inode: Inode) -> Slot
+    ensures { λ r. ⌜ r ≡ withInode slot inode ⌝ }
+{
+    let config = slot.config;
+    let state = slot.state;
+    let route = slot.route;
+    let proposed = slot.proposed;
+    let hold = slot.hold;
+    let last_set = slot.last_set;
+    Slot {
+        config,
+        state,
+        route,
+        inode,
+        last_head: slot.last_head,
+        head_changed: slot.head_changed,
+        reopens: slot.reopens,
+        lag_seconds: slot.lag_seconds,
+        last_lag: slot.last_lag,
+        delay: slot.delay,
+        proposed,
+        hold,
+        delay_changes: slot.delay_changes,
+        late_events: slot.late_events,
+        late_before: slot.late_before,
+        last_set,
+    }
+}
+
+pub fn with_head(slot: Slot, head: u64, time: u64) -> Slot
+    ensures { λ r. ⌜ r ≡ withHead slot head time ⌝ }
+{
+    let mut changed = slot;
+    changed.last_head = head;
+    changed.head_changed = time;
+    changed
+}
+
+pub fn with_reopens(slot: Slot, reopens: u64) -> Slot
+    ensures { λ r. ⌜ r ≡ withReopens slot reopens ⌝ }
+{
+    let mut changed = slot;
+    changed.reopens = reopens;
+    changed
+}
+
+pub fn with_lag_seconds(slot: Slot, lag_seconds: usize) -> Slot
+    ensures { λ r. ⌜ r ≡ withLagSeconds slot «lag_seconds» ⌝ }
+{
+    let mut changed = slot;
+    changed.lag_seconds = lag_seconds;
+    changed
+}
+
+pub fn with_last_lag(slot: Slot, last_lag: u32) -> Slot
+    ensures { λ r. ⌜ r ≡ withLastLag slot «last_lag» ⌝ }
+{
+    let mut changed = slot;
+    changed.last_lag = last_lag;
+    changed
+}
+
+// A delay that is sent at this time.
+pub fn with_delay(slot: Slot, delay: u32, time: u64) -> Slot
+    ensures { λ r. ⌜ r ≡ withDelay slot delay time ⌝ }
+{
+    let last_set = Moment::At(time);
+    let config = slot.config;
+    let state = slot.state;
+    let route = slot.route;
+    let inode = slot.inode;
+    let proposed = slot.proposed;
+    let hold = slot.hold;
+    Slot {
+        config,
+        state,
+        route,
+        inode,
+        last_head: slot.last_head,
+        head_changed: slot.head_changed,
+        reopens: slot.reopens,
+        lag_seconds: slot.lag_seconds,
+        last_lag: slot.last_lag,
+        delay,
+        proposed,
+        hold,
+        delay_changes: slot.delay_changes,
+        late_events: slot.late_events,
+        late_before: slot.late_before,
+        last_set,
+    }
+}
+
+pub fn with_proposed(slot: Slot, proposed: Proposal) -> Slot
+    ensures { λ r. ⌜ r ≡ withProposed slot proposed ⌝ }
+{
+    let config = slot.config;
+    let state = slot.state;
+    let route = slot.route;
+    let inode = slot.inode;
+    let hold = slot.hold;
+    let last_set = slot.last_set;
+    Slot {
+        config,
+        state,
+        route,
+        inode,
+        last_head: slot.last_head,
+        head_changed: slot.head_changed,
+        reopens: slot.reopens,
+        lag_seconds: slot.lag_seconds,
+        last_lag: slot.last_lag,
+        delay: slot.delay,
+        proposed,
+        hold,
+        delay_changes: slot.delay_changes,
+        late_events: slot.late_events,
+        late_before: slot.late_before,
+        last_set,
+    }
+}
+
+pub fn with_hold(slot: Slot, hold: DelayHold) -> Slot
+    ensures { λ r. ⌜ r ≡ withHold slot hold ⌝ }
+{
+    let mut changed = slot;
+    changed.hold = hold;
+    changed
+}
+
+pub fn with_delay_changes(slot: Slot, delay_changes: u64) -> Slot
+    ensures { λ r. ⌜ r ≡ withDelayChanges slot «delay_changes» ⌝ }
+{
+    let mut changed = slot;
+    changed.delay_changes = delay_changes;
+    changed
+}
+
+pub fn with_late(slot: Slot, late_events: u64, late_before: bool) -> Slot
+    ensures { λ r. ⌜ r ≡ withLate slot «late_events» «late_before» ⌝ }
+{
+    let mut changed = slot;
+    changed.late_events = late_events;
+    changed.late_before = late_before;
+    changed
+}

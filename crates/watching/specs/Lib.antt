@@ -1,0 +1,2 @@
+-- Watching an input.
+pub mod Watching
