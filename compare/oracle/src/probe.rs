@@ -191,9 +191,17 @@ fn opt2(out: &mut String, v: Option<(Instant, u32)>) {
         None => out.push_str(" -"),
     }
 }
+/// A double's bits; every NaN is written as one.
+fn pattern(v: f64) -> u64 {
+    if v.is_nan() {
+        0x7ff8_0000_0000_0000
+    } else {
+        v.to_bits()
+    }
+}
 pub fn bits(out: &mut String, v: Option<f64>) {
     match v {
-        Some(v) => write!(out, " {:x}", v.to_bits()).unwrap(),
+        Some(v) => write!(out, " {:x}", pattern(v)).unwrap(),
         None => out.push_str(" -"),
     }
 }
@@ -240,7 +248,7 @@ fn show_window(l: &LagWindow, out: &mut String, full: bool) {
 fn show_kind(kind: ExtraDelay, out: &mut String) {
     match kind {
         ExtraDelay::Auto(_) => out.push_str(" A"),
-        ExtraDelay::Ms(m) => write!(out, " M{:x}", m.to_bits()).unwrap(),
+        ExtraDelay::Ms(m) => write!(out, " M{:x}", pattern(m)).unwrap(),
     }
 }
 

@@ -1,5 +1,6 @@
 // The text protocol of compare/README.md: the words of a line are scanned, answers are printed into a lent buffer.
 // Every function takes any place: one past the end finds nothing and writes nothing.
+pub mod bits;
 pub mod bytes;
 pub mod fields;
 pub mod print;

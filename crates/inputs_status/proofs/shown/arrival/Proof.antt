@@ -1,0 +1,35 @@
+-- `inputs_status::shown::arrival` meets its contract. Assumes nothing.
+use mathlib.Core.List.{[]}
+use mathlib.Core.Path.{_∙_}
+use native.Mathlib.Omega.{arith}
+use borrow.Author.Needs.{needs}
+use Rattle.lag_window.specs.Parts.{partOf}
+use Rattle.lag_window.specs.Window.{lent}
+use Rattle.inputs_status.proofs.Shows.{half-is, high-is, highest-is, quantile-asks, arrival-by}
+use Rattle.inputs_status.proofs.shown.arrival.Statement.{statement}
+use Rattle.inputs_status.proofs.shown.arrival.Tie as tie
+
+quantile-upto-requires : tie.Need-quantile-upto-requires
+quantile-upto-requires c κs = quantile-asks (c .before .pre) 500 half-is (omega arith)
+
+quantile-upto-requires-2 : tie.Need-quantile-upto-requires-2
+quantile-upto-requires-2 c κs = quantile-asks (c .before .before .pre) 990 high-is (omega arith)
+
+quantile-upto-requires-3 : tie.Need-quantile-upto-requires-3
+quantile-upto-requires-3 c κs = quantile-asks (c .before .before .before .pre) 999 highest-is (omega arith)
+
+arrival-of-requires : tie.Need-arrival-of-requires
+arrival-of-requires c κs = search needs
+
+returns : tie.Need-returns
+returns c = c .arrival-of .ensures ∙ arrival-by (partOf (c .before .before .before .before .before .args .i) (lent (c .before .before .before .before .before .args .window) [] [] (c .before .before .before .before .before .args .counts .now))) (c .before .before .before .quantile-upto .ensures) half-is (c .before .before .quantile-upto2 .ensures) high-is (c .before .quantile-upto3 .ensures) highest-is
+
+pub arrival-spec : {M : Type 1} → statement M
+arrival-spec =
+    tie.close
+    (tie.spec
+    quantile-upto-requires
+    quantile-upto-requires-2
+    quantile-upto-requires-3
+    arrival-of-requires
+    returns)

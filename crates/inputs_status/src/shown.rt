@@ -1,0 +1,180 @@
+// What a status shows of one input, for a record and lists that the checks let through.
+ghost use mathlib.Core.Path.{_≡_};
+ghost use mathlib.Core.List.{[]};
+ghost use Prim.Native.Nat.{_≤_};
+ghost use lib.ListN.{length};
+ghost use Rattle.policy.specs.Settings.{Sound};
+ghost use Rattle.lag_window.specs.Window.{lent};
+ghost use Rattle.lag_window.specs.Parts.{partOf};
+ghost use Rattle.record.specs.Lent.{lists, windowIn};
+ghost use Rattle.inputs_status.specs.Status.{sourceOf, channelsShown, proposedMs, lagMs, worstMs, arrivalOf, arrivalIn, statusOf};
+ghost use Rattle.inputs_status.specs.Asked.{Countable, Showable};
+use super::Arrival;
+use super::ArrivalLag;
+use super::InputStatus;
+use super::Milliseconds;
+use super::Source;
+use super::Sourced;
+use delay_hold::Lag;
+use doubles::ms;
+use lag_window::LagWindow;
+use lag_window::Quantile;
+use slots::Inputs;
+use slots::Proposal;
+use slots::Routed;
+use slots::Slot;
+use slots::State;
+
+// The peaks that are kept of an input.
+const PEAKS: usize = 600;
+
+// No lag is above this: a quantile without a limit.
+const NO_LIMIT: u32 = 4_294_967_295;
+
+fn source_of(inputs: Inputs, to: Routed) -> Sourced
+    ensures { λ r. ⌜ r ≡ sourceOf inputs to ⌝ }
+{
+    let Routed::To(route) = to else {
+        return Sourced::Nowhere;
+    };
+    let flow = flows::flow_at(inputs, route.flow);
+    let source = Source {
+        flow,
+        domain: route.domain,
+    };
+    Sourced::From(source)
+}
+
+// None where there is no route.
+fn channels_shown(state: State, channels: u32) -> u32
+    ensures { λ r. ⌜ r ≡ channelsShown state channels ⌝ }
+{
+    if slots::code(state) == 0 {
+        return 0;
+    }
+    channels
+}
+
+fn proposed_ms(proposed: Proposal) -> Milliseconds
+    ensures { λ r. ⌜ r ≡ proposedMs proposed ⌝ }
+{
+    let Proposal::Pending(delay) = proposed else {
+        return Milliseconds::None;
+    };
+    Milliseconds::Of(ms(delay))
+}
+
+fn lag_ms(lag: Lag) -> Milliseconds
+    ensures { λ r. ⌜ r ≡ lagMs lag ⌝ }
+{
+    let Lag::Of(samples) = lag else {
+        return Milliseconds::None;
+    };
+    Milliseconds::Of(ms(samples))
+}
+
+// The greatest of an automatic input's peaks, which stand first in its lags.
+fn worst_ms(slot: Slot, lags: &[u32]) -> Milliseconds
+    requires { ⌜ slot .hold .peaks ≤ length (now lags) ⌝ }
+    ensures { λ r. ⌜ r ≡ worstMs slot (now (lags .entry)) ⌝ }
+{
+    if !slots::automatic(slot) {
+        return Milliseconds::None;
+    }
+    let hold = slot.hold;
+    lag_ms(delay_hold::core::worst(lags, hold.peaks))
+}
+
+// The quantiles, where all three are there.
+fn arrival_of(half: Quantile, high: Quantile, highest: Quantile) -> Arrival
+    ensures { λ r. ⌜ r ≡ arrivalOf half high highest ⌝ }
+{
+    let Quantile::End(p50) = half else {
+        return Arrival::None;
+    };
+    let Quantile::End(p99) = high else {
+        return Arrival::None;
+    };
+    let Quantile::End(p999) = highest else {
+        return Arrival::None;
+    };
+    let lag = ArrivalLag {
+        p50: ms(p50),
+        p99: ms(p99),
+        p999: ms(p999),
+    };
+    Arrival::Of(lag)
+}
+
+// The quantiles of the lags of input i, without a limit.
+fn arrival(window: LagWindow, i: usize, counts: &[u32]) -> Arrival
+    requires { ⌜ Countable window i (now counts) ⌝ }
+    ensures { λ r. ⌜ r ≡ arrivalIn (partOf i (lent window [] [] (now (counts .entry)))) ⌝ }
+{
+    let half = lag_window::core::quantile_upto(window, i, 0.5, NO_LIMIT, counts);
+    let high = lag_window::core::quantile_upto(window, i, 0.99, NO_LIMIT, counts);
+    let highest = lag_window::core::quantile_upto(window, i, 0.999, NO_LIMIT, counts);
+    arrival_of(half, high, highest)
+}
+
+// The window of the input with this slot.
+fn window_in(inputs: Inputs, slot: Slot) -> LagWindow
+    requires { ⌜ Sound (inputs .policy) ⌝ }
+    requires { ⌜ 1 ≤ inputs .width ⌝ }
+    ensures { λ r. ⌜ r ≡ windowIn inputs slot ⌝ }
+{
+    let policy = inputs.policy;
+    let buckets = lag_window::core::buckets_of(policy.read_offset, policy.delay_max, inputs.width);
+    LagWindow {
+        seconds: slot.lag_seconds,
+        buckets,
+        width: inputs.width,
+    }
+}
+
+// The status of input i.
+pub(crate) fn status(
+    inputs: Inputs,
+    i: usize,
+    applied: u32,
+    channels: u32,
+    starts: &[u64],
+    totals: &[u64],
+    counts: &[u32],
+    times: &[u64],
+    lags: &[u32],
+) -> InputStatus
+    requires { ⌜ Showable inputs (lists (now starts) (now totals) (now counts) (now times) (now lags)) i applied ⌝ }
+    ensures { λ r. ⌜ r ≡ statusOf inputs (lists (now (starts .entry)) (now (totals .entry)) (now (counts .entry)) (now (times .entry)) (now (lags .entry))) i applied channels ⌝ }
+{
+    let slot = slots::slot_at(inputs, i);
+    let policy = inputs.policy;
+    let config = slot.config;
+    let state = slot.state;
+    let to = slot.route;
+    let proposed = slot.proposed;
+    let extra_delay = config.extra_delay;
+    let source = source_of(inputs, to);
+    let window = window_in(inputs, slot);
+    let arrival_lag_ms = arrival(window, i, counts);
+    let from = i * PEAKS;
+    let end = from + PEAKS;
+    let worst_lag_ms = worst_ms(slot, &lags[from..end]);
+    let proposed_delay_ms = proposed_ms(proposed);
+    InputStatus {
+        number: 0,
+        state: slots::code(state),
+        source,
+        channels: channels_shown(state, channels),
+        extra_delay,
+        extra_delay_ms: ms(applied),
+        effective_delay_ms: ms(policy.read_offset + applied),
+        proposed_delay_ms,
+        lag_ms: ms(slot.last_lag),
+        arrival_lag_ms,
+        worst_lag_ms,
+        delay_changes: slot.delay_changes,
+        late_events: slot.late_events,
+        reopens: slot.reopens,
+    }
+}
