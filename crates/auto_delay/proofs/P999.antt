@@ -23,7 +23,8 @@ use Rattle.lag_window.specs.declared.LagWindow.{LagWindow}
 use Rattle.lag_window.specs.declared.Quantile.{Quantile}
 use Rattle.lag_window.specs.declared.Quantile.the-variants as Quantile
 use Rattle.lag_window.proofs.Quantile.{the-type}
-use Rattle.lag_window.specs.Window.{Window, lent, spanOf}
+use Rattle.base.specs.Rows.{spanOf}
+use Rattle.lag_window.specs.Window.{Window, lent}
 use Rattle.lag_window.specs.Parts.{partOf}
 use Rattle.lag_window.specs.Quantile.{quantileUpto}
 use Rattle.lag_window.specs.Checks.{fromZeroToOne}

@@ -8,7 +8,8 @@ use Rattle.base.specs.Choice.{pick, both}
 use Rattle.base.specs.Limits.{nanos}
 use Rattle.lag_window.specs.declared.Quantile.{Quantile}
 use Rattle.lag_window.specs.declared.Quantile.the-variants as Quantile
-use Rattle.lag_window.specs.Window.{Window, spanOf}
+use Rattle.base.specs.Rows.{spanOf}
+use Rattle.lag_window.specs.Window.{Window}
 use Rattle.lag_window.specs.Quantile.{quantileUpto}
 use Rattle.policy.specs.declared.DelayPolicy.{DelayPolicy}
 use Rattle.delay_hold.specs.declared.Lag.{Lag}

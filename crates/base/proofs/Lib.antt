@@ -7,3 +7,4 @@ pub mod Patch
 pub mod Pads
 pub mod Words
 pub mod Calls
+pub mod Rows

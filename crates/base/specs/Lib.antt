@@ -2,3 +2,4 @@
 pub mod Choice
 pub mod Limits
 pub mod Lists
+pub mod Rows

@@ -4,6 +4,9 @@ ghost use Prim.Native.Nat.{_-_, min, max};
 ghost use lib.ListN.{length, getD, replicate};
 ghost use Rattle.base.specs.Lists.{shifted, blankFrom};
 
+// Functions that ask something of their caller.
+pub mod core;
+
 // The nanoseconds of a second.
 pub const NANOS: u64 = 1_000_000_000;
 

@@ -19,7 +19,7 @@ use Rattle.delay_hold.specs.Steps.{noted}
 use Rattle.delay_hold.specs.Peaks.{joinTimes, joinLags, oldCount, timesAfter, lagsAfter}
 use Rattle.delay_hold.specs.Decide.{lowering, weighed, decideAt, decide}
 use Rattle.delay_hold.specs.Next.{Held, held, freshHold, nextOf}
-use Rattle.delay_hold.specs.Rows.{apart, upTo}
+use Rattle.base.specs.Rows.{apart, upTo}
 use Rattle.delay_hold.specs.Whole.{timerFits, wholePeaks, wholeTimes, wholeHold}
 use Rattle.delay_hold.specs.Checks.{listsFit, settingsNumber, stateNumber, nextNumber, nextReply}
 

@@ -31,7 +31,7 @@ use Rattle.delay_hold.specs.Peaks.{largerLag, timesAfter, lagsAfter}
 use Rattle.delay_hold.specs.Places.{Placed}
 use Rattle.delay_hold.specs.Decide.{timerMet, needFor, decide}
 use Rattle.delay_hold.specs.Next.{Held, held, timesIn, lagsIn, windowNow, timesNow, lagsNow, holdBefore, decision, nextOf, delayAfter, oneMillisecond, alwaysLower}
-use Rattle.delay_hold.specs.Rows.{spanOf}
+use Rattle.base.specs.Rows.{spanOf}
 use Rattle.delay_hold.specs.Whole.{latest, peakMost, momentTimely, seedFits, seedTimely, timerFits, wholeHold}
 use Rattle.delay_hold.specs.Checks.{lagUpTo, AskedFor, nextNumber, nextReply}
 use Rattle.delay_hold.proofs.Order.{after-in, after-same}

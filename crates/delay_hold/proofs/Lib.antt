@@ -1,4 +1,3 @@
-pub mod Rows
 pub mod Loops
 pub mod Order
 pub mod Bounds

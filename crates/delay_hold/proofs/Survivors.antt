@@ -14,8 +14,8 @@ use Rattle.base.proofs.Choices.{by-bool, yes-pick, no-pick}
 use Rattle.delay_hold.specs.declared.Lag.{Lag}
 use Rattle.delay_hold.specs.declared.Lag.the-variants.{None, Of}
 use Rattle.delay_hold.specs.Peaks.{isNewAt, oldCount, joinTimes, joinLags, timesAfter, lagsAfter, greatest}
-use Rattle.delay_hold.specs.Rows.{spanOf}
-use Rattle.delay_hold.proofs.Rows.{span-some}
+use Rattle.base.specs.Rows.{spanOf}
+use Rattle.base.proofs.Rows.{span-some}
 use Rattle.delay_hold.proofs.Loops.{new-pos}
 use Rattle.delay_hold.proofs.Order.{joined-same, old-front, old-each, far, new-some}
 use Rattle.delay_hold.proofs.Bounds.{getD-greatest}

@@ -18,9 +18,9 @@ use Rattle.delay_hold.specs.Peaks.{greatest}
 use Rattle.delay_hold.specs.Places.{Placed}
 use Rattle.delay_hold.specs.Decide.{floorOf}
 use Rattle.delay_hold.specs.Next.{Held, timesIn, lagsIn}
-use Rattle.delay_hold.specs.Rows.{spanOf}
+use Rattle.base.specs.Rows.{spanOf}
 use Rattle.delay_hold.specs.Whole.{latest, peakMost, momentTimely, seedFits, seedTimely, timerFits, wholePeaks, wholeTimes, wholeHold}
-use Rattle.delay_hold.proofs.Rows.{apart-at, apart-intro, upTo-at, upTo-intro, blank-padded}
+use Rattle.base.proofs.Rows.{apart-at, apart-intro, upTo-at, upTo-intro, blank-padded}
 use Rattle.delay_hold.proofs.Bounds.{greatest-up}
 
 pub record WholePeaks (policy : DelayPolicy) (width : ℕ) (s : Held) : Type 0 where

@@ -1,6 +1,4 @@
 -- Document 01's checks of `new` and of `next` alone, the answers, and what each call leaves. Assumes nothing.
--- ---- making a hold
--- 5: both lists have 600 places
 use Prim.Native.Nat.{ℕ, zero, suc, _+_, _≤_}
 use mathlib.Core.Path.{_≡_}
 use mathlib.Core.Bool.{Bool, true}
@@ -22,6 +20,8 @@ use Rattle.delay_hold.specs.declared.NewHold.{NewHold}
 use Rattle.delay_hold.specs.Next.{Held, held, Decided, nextOf, freshHold, clearedHold, oneMillisecond, alwaysLower}
 use Rattle.delay_hold.specs.Whole.{latest, peakMost, wholeHold}
 
+-- ---- making a hold
+-- 5: both lists have 600 places
 unfoldable pub listsFit : Held → Bool
 listsFit s = both (eqb (length (s .times)) 600) (eqb (length (s .lags)) 600)
 

@@ -1,6 +1,5 @@
 -- Document 01, "DelayHold", steps 5 to 8: whether the delay changes, and to what. Assumes nothing.
 -- `millisecond` is document 01's 48 samples; `mayLower` says whether a due lowering happens at this call or waits.
--- the timer that is off
 use Prim.Native.Nat.{ℕ, _+_, _-_, _/_, max}
 use mathlib.Core.Bool.{Bool, true, false, not, _&&_, _||_}
 use lib.Dec.{ltb, leb}
@@ -19,6 +18,7 @@ use Rattle.delay_hold.specs.declared.Next.{Next}
 use Rattle.delay_hold.specs.declared.Change.the-variants.{Keep, To}
 use Rattle.delay_hold.specs.Peaks.{largerLag}
 
+-- the timer that is off
 abbrev pub timerOff : LowerTimer
 timerOff = record { on = false; since = 0; highest = 0 }
 

@@ -5,6 +5,5 @@ pub mod Peaks
 pub mod Places
 pub mod Decide
 pub mod Next
-pub mod Rows
 pub mod Whole
 pub mod Checks

@@ -1,5 +1,4 @@
 -- Document 01, "DelayHold": steps 1 to 8 in their order, on a hold with its two lent lists of 600; and what is left of it. Assumes nothing.
--- document 01's 48: one millisecond of samples
 use Prim.Native.Nat.{ℕ}
 use mathlib.Core.Bool.{Bool, true, false}
 use mathlib.Core.List.{List}
@@ -17,6 +16,7 @@ use Rattle.delay_hold.specs.Steps.{inStartup, capped, lagOf, lateOf, not
 use Rattle.delay_hold.specs.Peaks.{largerLag, timesAfter, lagsAfter, worstOf}
 use Rattle.delay_hold.specs.Decide.{decide, timerOff}
 
+-- document 01's 48: one millisecond of samples
 abbrev pub oneMillisecond : ℕ
 oneMillisecond = 48
 

@@ -1,5 +1,4 @@
 -- Document 01, "DelayHold", step 4: the peaks in use, oldest first, their times and their lags. Assumes nothing.
--- "The larger of lag and p999", where either may be missing
 use Prim.Native.Nat.{ℕ, suc, _+_, _-_, max}
 use mathlib.Core.Bool.{Bool, true}
 use mathlib.Core.List.{List, [], _∷_, _++_}
@@ -10,6 +9,7 @@ use Rattle.base.specs.Limits.{nanos}
 use Rattle.delay_hold.specs.declared.Lag.{Lag}
 use Rattle.delay_hold.specs.declared.Lag.the-variants.{None, Of}
 
+-- "The larger of lag and p999", where either may be missing
 abbrev pub largerLag : Lag → Lag → Lag
 largerLag None b = b
 largerLag (Of x) None = Of x

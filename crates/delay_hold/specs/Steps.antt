@@ -1,5 +1,4 @@
 -- Document 01, "DelayHold", steps 1 to 3: startup, the seed, and what the largest lag tells. Assumes nothing.
--- 1. "The first call sets started."
 use Prim.Native.Nat.{ℕ, _+_, _-_, _*_, min}
 use mathlib.Core.Bool.{Bool, true, false, not, _&&_}
 use lib.Dec.{ltb, leb}
@@ -15,6 +14,7 @@ use Rattle.delay_hold.specs.declared.Lag.{Lag}
 use Rattle.delay_hold.specs.declared.Lag.the-variants.{None, Of}
 use Rattle.delay_hold.specs.declared.DelayHold.{DelayHold}
 
+-- 1. "The first call sets started."
 abbrev pub startedAt : Moment → ℕ → ℕ
 startedAt Never time = time
 startedAt (At t) time = t

@@ -1,5 +1,4 @@
 -- Document 01, check 6, of one hold: "`next` alone sees one hold". Assumes nothing.
--- "times within 8": at most 4 times 10^18
 use Prim.Native.Nat.{ℕ, _+_, _-_}
 use mathlib.Core.Bool.{Bool, true}
 use lib.Dec.{leb, ltb, eqb}
@@ -13,9 +12,10 @@ use Rattle.delay_hold.specs.declared.Seed.{Seed}
 use Rattle.delay_hold.specs.declared.Seed.the-variants.{Nothing, From}
 use Rattle.delay_hold.specs.declared.LowerTimer.{LowerTimer}
 use Rattle.delay_hold.specs.declared.DelayHold.{DelayHold}
-use Rattle.delay_hold.specs.Rows.{apart, upTo, spanOf}
+use Rattle.base.specs.Rows.{apart, upTo, spanOf}
 use Rattle.delay_hold.specs.Next.{Held}
 
+-- "times within 8": at most 4 times 10^18
 abbrev pub latest : ℕ
 latest = timeLimit
 

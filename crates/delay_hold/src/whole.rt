@@ -1,75 +1,14 @@
 // Check 6 of one hold.
 ghost use mathlib.Core.Path.{_≡_};
-ghost use Prim.Native.Nat.{_-_, _≤_, _<_, _^_};
+ghost use Prim.Native.Nat.{_<_, _^_};
 ghost use lib.ListN.{length};
-ghost use Rattle.delay_hold.specs.Rows.{apart, upTo, spanOf};
 ghost use Rattle.delay_hold.specs.Next.{held};
 ghost use Rattle.delay_hold.specs.Whole.{momentTimely, seedFits, seedTimely, timerFits, peakMost, wholePeaks, wholeTimes};
 use super::DelayHold;
 use super::LowerTimer;
 use super::Moment;
 use super::Seed;
-use base::age;
 use policy::DelayPolicy;
-
-// Each of the n times is at least gap after the one before.
-fn spaced(gap: u64, n: usize, times: &[u64]) -> bool
-    requires { ⌜ n ≤ length (now times) ⌝ }
-    ensures { λ r. ⌜ r ≡ apart gap (n - 1) (now (times .entry)) ⌝ }
-{
-    if n == 0 {
-        return true;
-    }
-    let m = n - 1;
-    let mut i = 0;
-    while i < m {
-        if age(times[i + 1], times[i]) < gap {
-            return false;
-        }
-        i += 1;
-    }
-    true
-}
-
-// The newest time less the oldest, 0 where there is none.
-fn span(n: usize, times: &[u64]) -> u64
-    requires { ⌜ n ≤ length (now times) ⌝ }
-    ensures { λ r. ⌜ r ≡ spanOf n (now (times .entry)) ⌝ }
-{
-    if n == 0 {
-        return 0;
-    }
-    age(times[n - 1], times[0])
-}
-
-// Each of the n numbers is at most the limit.
-fn up_to_u64(limit: u64, n: usize, xs: &[u64]) -> bool
-    requires { ⌜ n ≤ length (now xs) ⌝ }
-    ensures { λ r. ⌜ r ≡ upTo limit n (now (xs .entry)) ⌝ }
-{
-    let mut i = 0;
-    while i < n {
-        if limit < xs[i] {
-            return false;
-        }
-        i += 1;
-    }
-    true
-}
-
-fn up_to_u32(limit: u32, n: usize, xs: &[u32]) -> bool
-    requires { ⌜ n ≤ length (now xs) ⌝ }
-    ensures { λ r. ⌜ r ≡ upTo limit n (now (xs .entry)) ⌝ }
-{
-    let mut i = 0;
-    while i < n {
-        if limit < xs[i] {
-            return false;
-        }
-        i += 1;
-    }
-    true
-}
 
 impl Moment {
     fn timely(self) -> bool
@@ -132,10 +71,10 @@ impl DelayHold {
         if DelayHold::PLACES < n {
             return false;
         }
-        if !spaced(base::NANOS, n, times) {
+        if !base::core::spaced(base::NANOS, n, times) {
             return false;
         }
-        if policy.window <= span(n, times) {
+        if policy.window <= base::core::span(n, times) {
             return false;
         }
         if !base::blank_u64(times, n) {
@@ -144,10 +83,10 @@ impl DelayHold {
         if !base::blank_u32(lags, n) {
             return false;
         }
-        if !up_to_u32(policy.read_offset + policy.delay_max + width, n, lags) {
+        if !base::core::up_to_u32(policy.read_offset + policy.delay_max + width, n, lags) {
             return false;
         }
-        up_to_u64(base::TIME_LIMIT, n, times)
+        base::core::up_to_u64(base::TIME_LIMIT, n, times)
     }
 
     // The seed, the timer and the other times.

@@ -11,7 +11,8 @@ use Rattle.base.specs.Choice.{pick}
 use Rattle.base.proofs.Choices.{le-rule}
 use Rattle.base.proofs.Points.{both-true, true-both, zeros-at}
 use Rattle.policy.specs.declared.DelayPolicy.{DelayPolicy}
-use Rattle.lag_window.specs.Window.{Window, fresh, bucketsOf, pushedAll, spanOf}
+use Rattle.base.specs.Rows.{spanOf}
+use Rattle.lag_window.specs.Window.{Window, fresh, bucketsOf, pushedAll}
 use Rattle.lag_window.specs.Whole as windows
 use Rattle.lag_window.specs.Quantile.{quantileUpto}
 use Rattle.lag_window.specs.Checks.{roomFor, newest}

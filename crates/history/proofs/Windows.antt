@@ -14,7 +14,8 @@ use Rattle.base.specs.Limits.{nanos, timeLimit}
 use Rattle.base.proofs.Choices.{le-rule}
 use Rattle.policy.specs.declared.DelayPolicy.{DelayPolicy}
 use Rattle.delay_hold.specs.declared.Lag.the-variants.{None}
-use Rattle.lag_window.specs.Window.{Window, bucketsOf, bucketOf, pushed, pushedAll, spanOf}
+use Rattle.base.specs.Rows.{spanOf}
+use Rattle.lag_window.specs.Window.{Window, bucketsOf, bucketOf, pushed, pushedAll}
 use Rattle.lag_window.specs.Quantile.{quantileUpto}
 use Rattle.lag_window.specs.Checks.{newest}
 use Rattle.lag_window.specs.Whole.{Sound}

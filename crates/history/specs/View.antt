@@ -10,7 +10,8 @@ use Rattle.base.specs.Choice.{pick}
 use Rattle.policy.specs.declared.DelayPolicy.{DelayPolicy}
 use Rattle.lag_window.specs.declared.Quantile.{Quantile}
 use Rattle.lag_window.specs.declared.Quantile.the-variants as quantiles
-use Rattle.lag_window.specs.Window.{Window, pushedAll, spanOf}
+use Rattle.base.specs.Rows.{spanOf}
+use Rattle.lag_window.specs.Window.{Window, pushedAll}
 use Rattle.lag_window.specs.Quantile.{quantileUpto}
 use Rattle.delay_hold.specs.declared.Lag.{Lag}
 use Rattle.delay_hold.specs.declared.Lag.the-variants.{None, Of}

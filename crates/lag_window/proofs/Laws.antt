@@ -2,7 +2,7 @@
 use Prim.Native.Nat.{ℕ, zero, suc, _+_, _-_, _*_, _<_, _≤_}
 use mathlib.Core.Bool.{Bool, true, false}
 use mathlib.Core.Path.{_≡_, refl, sym, ap, subst, _∙_}
-use mathlib.Core.Logic.{_⊎_, inl, inr}
+use mathlib.Core.Logic.{_⊎_, inl, inr, ⊎-elim}
 use mathlib.Core.List.{List, [], _∷_}
 use native.Mathlib.Nat.{not-suc-le-zero, mul-le-mul-right, add-zero, sub-self}
 use native.Mathlib.Numerals.{add-one}
@@ -12,7 +12,7 @@ use lib.Dec.{leb, eqb}
 use lib.Ieee.{Float}
 use lib.ListN.{length, getD, set, length-replicate}
 use lib.Seq.{getD-set-same, getD-set-other}
-use Rattle.base.specs.Choice.{pick}
+use Rattle.base.specs.Choice.{pick, accepted}
 use Rattle.base.specs.Lists.{sum}
 use Rattle.base.proofs.Choices.{by-le, by-bool, no-pick, yes-pick}
 use Rattle.base.proofs.Points.{zeros-at, sum-at-le}
@@ -21,10 +21,11 @@ use Rattle.doubles.proofs.Places.{place-at-least, place-at-most}
 use Rattle.lag_window.specs.declared.Quantile.the-variants.{End, None}
 use Rattle.lag_window.specs.declared.Found.{Found}
 use Rattle.lag_window.specs.declared.Found.the-variants.{At, Nowhere}
-use Rattle.lag_window.specs.Window.{Window, fresh, cleared, opens, counted, pushed, pushedAll, spanOf}
+use Rattle.base.specs.Rows.{spanOf}
+use Rattle.lag_window.specs.Window.{Window, fresh, cleared, opens, counted, pushed, pushedAll}
 use Rattle.lag_window.specs.Whole.{Shaped, Sound}
 use Rattle.lag_window.specs.InPlace.{droppedInPlace, openedInPlace, pushedInPlace}
-use Rattle.lag_window.specs.Checks.{newest, newestOf, roomFor}
+use Rattle.lag_window.specs.Checks.{newest, newestOf, roomFor, quantileNumber, quantileUptoReply, answered, numberOf, valueOf}
 use Rattle.lag_window.specs.Quantile.{column, within, running, reach, endOf, quantileIn, quantileUpto, lagsIn, totalUpto, Placeable}
 use Rattle.lag_window.proofs.WholeAt.{Whole, whole-of, of-whole, later, span-ends}
 use Rattle.lag_window.proofs.Keeps.{dropped-whole, opened-whole, opened-yes-is, opened-no-is, near}
@@ -281,3 +282,20 @@ module _ (q : Float) (limit : ℕ) (w : Window) where
       go true f = inl refl
       go false (At b) = inr ((b + 1) * w .width, refl)
       go false Nowhere = inl refl
+
+  -- the answer has document 01's number, and its value where that is 0, else the value 0
+  pub reply-number : numberOf (quantileUptoReply q limit w) ≡ quantileNumber q w
+  unfolding quantileUptoReply
+  reply-number = by-number (quantileNumber q w)
+    where
+      by-number : (n : ℕ) → numberOf (answered n (quantileUpto q limit w)) ≡ n
+      by-number zero = ⊎-elim (λ e. ap numberOf e) (λ found. ap numberOf (found .1)) quantile-cases
+      by-number (suc n) = refl
+
+  pub reply-value : valueOf (quantileUptoReply q limit w) ≡ accepted (quantileNumber q w) 0 (valueOf (quantileUpto q limit w))
+  unfolding quantileUptoReply
+  reply-value = by-number (quantileNumber q w)
+    where
+      by-number : (n : ℕ) → valueOf (answered n (quantileUpto q limit w)) ≡ accepted n 0 (valueOf (quantileUpto q limit w))
+      by-number zero = refl
+      by-number (suc n) = refl

@@ -14,7 +14,8 @@ use Rattle.base.proofs.Points.{both-true}
 use Rattle.lag_window.specs.declared.LagWindow.{LagWindow}
 use Rattle.lag_window.specs.declared.Quantile.{Quantile}
 use Rattle.lag_window.specs.declared.Quantile.the-variants.{Refused}
-use Rattle.lag_window.specs.Window.{Window, lent, bucketsOf, fresh, cleared, pushed, spanOf}
+use Rattle.base.specs.Rows.{spanOf}
+use Rattle.lag_window.specs.Window.{Window, lent, bucketsOf, fresh, cleared, pushed}
 use Rattle.lag_window.specs.Whole.{wholeWindow, Shaped, Sound}
 use Rattle.lag_window.specs.Quantile.{quantileUpto, Placeable}
 use Rattle.lag_window.specs.Checks.{checked, newest, roomFor, fromZeroToOne, newNumber, pushNumber, quantileNumber, replied, nothing, newReply, pushReply, clearReply, spanReply, answered, quantileUptoReply}

@@ -11,8 +11,10 @@ use lib.Dec.{leb}
 use Rattle.base.specs.Lists.{sumFrom, rowSum, blankFrom}
 use Rattle.base.proofs.Points.{both-true, true-both, all-at, all-intro, blank-at, blank-intro, sum-zero}
 use Rattle.base.proofs.Flat.{row-le}
-use Rattle.lag_window.specs.Window.{Window, spanOf}
-use Rattle.lag_window.specs.Whole.{apart, timely, summed, wholeWindow, Sound}
+use Rattle.base.specs.Limits.{nanos, timeLimit}
+use Rattle.base.specs.Rows.{apart, upTo, spanOf}
+use Rattle.lag_window.specs.Window.{Window}
+use Rattle.lag_window.specs.Whole.{summed, wholeWindow, Sound}
 
 pub record Whole (w : Window) : Type 0 where
   pub few : w .seconds ≤ 11
@@ -31,13 +33,13 @@ pub record Whole (w : Window) : Type 0 where
 -- the parts of check 6, each by itself
 pub record Parts (w : Window) : Type 0 where
   pub within : leb (w .seconds) 11 ≡ true
-  pub apart-is : apart (w .seconds - 1) (w .starts) ≡ true
+  pub apart-is : apart nanos (w .seconds - 1) (w .starts) ≡ true
   pub span-is : leb (spanOf (w .seconds) (w .starts)) 10000000000 ≡ true
   pub summed-is : summed (w .seconds) (w .buckets) (w .totals) (w .counts) ≡ true
   pub starts-blank : blankFrom (w .seconds) (w .starts) ≡ true
   pub totals-blank : blankFrom (w .seconds) (w .totals) ≡ true
   pub counts-blank : blankFrom (w .seconds * w .buckets) (w .counts) ≡ true
-  pub timely-is : timely (w .seconds) (w .starts) ≡ true
+  pub timely-is : upTo timeLimit (w .seconds) (w .starts) ≡ true
 
 pub parts-of : (w : Window) → wholeWindow w ≡ true → Parts w
 unfolding wholeWindow
@@ -72,7 +74,7 @@ of-parts w p =
     (true-both _ _ (p .counts-blank) (p .timely-is)))))))
 
 pub whole-of : (w : Window) → Sound w → Whole w
-unfolding apart timely summed
+unfolding apart upTo summed
 whole-of w s =
     let p = parts-of w (s .whole) in
     record {
@@ -91,7 +93,7 @@ whole-of w s =
     }
 
 pub of-whole : (w : Window) → Whole w → wholeWindow w ≡ true
-unfolding apart timely summed
+unfolding apart upTo summed
 of-whole w h =
     of-parts w
     (record {

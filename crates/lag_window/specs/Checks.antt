@@ -11,7 +11,9 @@ use Rattle.lag_window.specs.declared.WindowAnswer.{WindowAnswer}
 use Rattle.lag_window.specs.declared.SpanAnswer.{SpanAnswer}
 use Rattle.lag_window.specs.declared.Quantile.{Quantile}
 use Rattle.lag_window.specs.declared.Quantile.the-variants.{End, None, Refused}
-use Rattle.lag_window.specs.Window.{Window, lent, bucketsOf, fresh, cleared, opens, pushed, spanOf}
+use Rattle.base.specs.Limits.{timely}
+use Rattle.base.specs.Rows.{spanOf}
+use Rattle.lag_window.specs.Window.{Window, lent, bucketsOf, fresh, cleared, opens, pushed}
 use Rattle.lag_window.specs.Whole.{wholeWindow}
 use Rattle.lag_window.specs.Quantile.{quantileUpto, quantileOf}
 
@@ -58,7 +60,7 @@ newNumber offset maximum width starts totals counts =
     (ask 5 (eqb counts (11 * bucketsOf offset maximum width)) 0)))))))
 
 unfoldable pub pushNumber : ℕ → Window → ℕ
-pushNumber time w = checked w (ask 8 (leb time 4000000000000000000) (ask 11 (roomFor time 1 w) 0))
+pushNumber time w = checked w (ask 8 (timely time) (ask 11 (roomFor time 1 w) 0))
 
 unfoldable pub quantileNumber : Float → Window → ℕ
 quantileNumber q w = checked w (ask 14 (fromZeroToOne q) 0)
@@ -90,6 +92,7 @@ pushReply lag time w = replied (pushNumber time w) w (pushed lag time w)
 unfoldable pub clearReply : Window → Reply
 clearReply w = replied (checked w 0) w (cleared w)
 
+-- "Span is newest start − oldest start, 0 with no second"
 unfoldable pub spanReply : Window → SpanAnswer
 spanReply w = record { number = checked w 0; span = accepted (checked w 0) 0 (spanOf (w .seconds) (w .starts)) }
 

@@ -7,31 +7,25 @@ use lib.Dec.{leb, eqb}
 use lib.ListN.{length, getD}
 use Rattle.base.specs.Choice.{both}
 use Rattle.base.specs.Lists.{all, blankFrom, rowSum}
-use Rattle.lag_window.specs.Window.{Window, spanOf}
-
--- 6: "each at least 1 s after the one before": the m starts after the first
-unfoldable pub apart : ℕ → List ℕ → Bool
-apart m starts = all (λ i. leb 1000000000 (getD starts (i + 1) 0 - getD starts i 0)) m
+use Rattle.base.specs.Limits.{nanos, timeLimit}
+use Rattle.base.specs.Rows.{apart, upTo, spanOf}
+use Rattle.lag_window.specs.Window.{Window}
 
 -- 6: "row sums equal to totals up to 4,294,967,295"
 unfoldable pub summed : ℕ → ℕ → List ℕ → List ℕ → Bool
 summed n buckets totals counts = all (λ r. both (leb (getD totals r 0) 4294967295) (eqb (rowSum buckets counts r) (getD totals r 0))) n
 
--- 6: "times within 8"
-unfoldable pub timely : ℕ → List ℕ → Bool
-timely n starts = all (λ i. leb (getD starts i 0) 4000000000000000000) n
-
--- 6: seconds within number and apart, "spanning at most 10 s", sums equal to totals, "unused places zero", times within 8
+-- 6: "seconds .. within number, each at least 1 s after the one before", "spanning at most 10 s", sums equal to totals, "unused places zero", times within 8
 unfoldable pub wholeWindow : Window → Bool
 wholeWindow w =
     both (leb (w .seconds) 11)
-    (both (apart (w .seconds - 1) (w .starts))
+    (both (apart nanos (w .seconds - 1) (w .starts))
     (both (leb (spanOf (w .seconds) (w .starts)) 10000000000)
     (both (summed (w .seconds) (w .buckets) (w .totals) (w .counts))
     (both (blankFrom (w .seconds) (w .starts))
     (both (blankFrom (w .seconds) (w .totals))
     (both (blankFrom (w .seconds * w .buckets) (w .counts))
-    (timely (w .seconds) (w .starts))))))))
+    (upTo timeLimit (w .seconds) (w .starts))))))))
 
 -- a window that 2 and 5 let through
 pub record Shaped (w : Window) : Type 0 where

@@ -1,10 +1,11 @@
--- Document 01, "LagWindow": a window over its lent lists, made, pushed, cleared, and its span. Assumes nothing.
+-- Document 01, "LagWindow": a window over its lent lists, made, pushed and cleared. Assumes nothing.
 use Prim.Native.Nat.{ℕ, zero, suc, _+_, _-_, _*_, _/_, min}
 use mathlib.Core.Bool.{Bool, true}
 use mathlib.Core.List.{List, [], _∷_, _++_}
 use lib.Dec.{leb, ltb}
 use lib.ListN.{getD, take, drop, replicate}
 use Rattle.base.specs.Choice.{pick}
+use Rattle.base.specs.Limits.{nanos}
 use Rattle.base.specs.Lists.{padded, bumped}
 use Rattle.lag_window.specs.declared.LagWindow.{LagWindow}
 
@@ -64,7 +65,7 @@ laid w =
 -- "A push opens a second if none exists or the newest is at least 1 s old"
 abbrev pub opens : ℕ → ℕ → List ℕ → Bool
 opens time zero starts = true
-opens time (suc n) starts = leb 1000000000 (time - getD starts n 0)
+opens time (suc n) starts = leb nanos (time - getD starts n 0)
 
 abbrev pub added : ℕ → Window → Window
 added time w =
@@ -123,8 +124,3 @@ pushed lag time w = laid (counted lag (dropped time (opened time (inUse w))))
 unfoldable pub pushedAll : ℕ → List ℕ → Window → Window
 pushedAll time [] w = w
 pushedAll time (lag ∷ lags) w = pushedAll time lags (pushed lag time w)
-
--- "Span is newest start − oldest start, 0 with no second"
-abbrev pub spanOf : ℕ → List ℕ → ℕ
-spanOf zero starts = 0
-spanOf (suc n) starts = getD starts n 0 - getD starts 0 0

@@ -5,7 +5,8 @@ ghost use mathlib.Core.List.{[]};
 ghost use Prim.Native.Nat.{_+_, _*_, _≤_};
 ghost use lib.ListN.{length};
 ghost use Rattle.base.specs.Lists.{part};
-ghost use Rattle.lag_window.specs.Window.{lent, bucketsOf, cleared, pushedAll, spanOf};
+ghost use Rattle.base.specs.Rows.{spanOf};
+ghost use Rattle.lag_window.specs.Window.{lent, bucketsOf, cleared, pushedAll};
 ghost use Rattle.lag_window.specs.Whole.{wholeWindow};
 ghost use Rattle.lag_window.specs.Checks.{roomFor};
 ghost use Rattle.lag_window.specs.Quantile.{quantileUpto, Placeable};
@@ -111,7 +112,7 @@ pub fn span(window: LagWindow, j: usize, starts: &[u64]) -> u64
 {
     let a = j * LagWindow::SECONDS;
     let e = a + LagWindow::SECONDS;
-    checks::span(window.seconds, &starts[a..e])
+    base::core::span(window.seconds, &starts[a..e])
 }
 
 // The quantile q of the lags of input j up to limit.

@@ -7,8 +7,8 @@ ghost use Rattle.lag_window.specs.Checks.{checked, fromZeroToOne, newNum
 use base::zero_u32;
 use base::zero_u64;
 
-// Functions that ask something of their caller; the crates above use them after their checks.
 mod checks;
+// Functions that ask something of their caller; the crates above use them after their checks.
 pub mod core;
 mod rows;
 mod steps;
@@ -53,7 +53,7 @@ impl LagWindow {
     pub const LIMIT: u64 = 10_000_000_000;
 
     // A second opens once the newest is this old: 1 s.
-    pub const SECOND: u64 = 1_000_000_000;
+    pub const SECOND: u64 = base::NANOS;
 
     // The settings that check 2 lets through: offset and maximum, a bucket's width, and how many buckets.
     pub(crate) const FARTHEST: u32 = 96_000;
@@ -66,7 +66,7 @@ impl LagWindow {
     pub(crate) const TENTH: u32 = 4_800;
 
     // The latest time that the calls admit (check 8).
-    pub(crate) const LATEST: u64 = 4_000_000_000_000_000_000;
+    pub(crate) const LATEST: u64 = base::TIME_LIMIT;
 
     // The most lags that one second counts (check 11).
     pub(crate) const MOST: u64 = 4_294_967_295;
@@ -262,7 +262,7 @@ impl LagWindow {
         if number != 0 {
             return SpanAnswer { number, span: 0 };
         }
-        let span = checks::span(self.seconds, starts);
+        let span = base::core::span(self.seconds, starts);
         SpanAnswer { number, span }
     }
 

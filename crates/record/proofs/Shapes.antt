@@ -12,12 +12,12 @@ use Rattle.base.proofs.Points.{true-both, blank-intro, zeros-at}
 use Rattle.policy.specs.declared.DelayPolicy.{DelayPolicy}
 use Rattle.lag_window.specs.Window.{lent, bucketsOf, fresh}
 use Rattle.lag_window.specs.Parts as parts
-use Rattle.lag_window.specs.Whole.{apart, summed, timely, wholeWindow, Shaped, Sound}
+use Rattle.lag_window.specs.Whole.{summed, wholeWindow, Shaped, Sound}
 use Rattle.delay_hold.specs.declared.Lag.{Lag}
 use Rattle.delay_hold.specs.Next.{Held, freshHold, clearedHold}
 use Rattle.delay_hold.specs.Checks.{lagUpTo, AskedFor}
 use Rattle.delay_hold.specs.Whole.{peakMost, wholePeaks, wholeTimes, timerFits, wholeHold}
-use Rattle.delay_hold.specs.Rows as rows
+use Rattle.base.specs.Rows as rows
 use Rattle.slots.specs.declared.Slot.{Slot}
 use Rattle.slots.specs.declared.Inputs.{Inputs}
 use Rattle.slots.specs.Inputs.{slotAt}
@@ -80,7 +80,7 @@ module _ (s : Inputs) (l : Lists) (f : Fitting s l) where
   }
 
 pub fresh-whole : (buckets width : ℕ) → wholeWindow (fresh buckets width) ≡ true
-unfolding wholeWindow fresh apart summed timely
+unfolding wholeWindow fresh rows.apart summed rows.upTo
 fresh-whole buckets width =
     true-both _ _ (le-leb 0 11 (omega arith))
     (true-both _ _ (all-none _)

@@ -1,6 +1,6 @@
 -- `delay_hold::DelayHold::whole_peaks` meets its contract. Assumes nothing.
 use Rattle.delay_hold.specs.Whole.{wholePeaks}
-use Rattle.delay_hold.proofs.Rows.{told-lt, told-ge}
+use Rattle.base.proofs.Rows.{told-lt, told-ge}
 use Rattle.base.proofs.All.{both-yes, both-no, told-yes, told-no}
 use borrow.Author.Tests.{le-leb, lt-leb}
 use borrow.Author.Needs.{needs}

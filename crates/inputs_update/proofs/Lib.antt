@@ -1,0 +1,7 @@
+-- Laws of the calls that change an input's delay.
+pub mod Numbers
+pub mod Parts
+pub mod Replies
+pub mod Keeps
+pub mod Frames
+pub mod Delays

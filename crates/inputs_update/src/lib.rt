@@ -1,0 +1,194 @@
+// What the host changes of an input's delay (document 01, "Supervision"): its kind, and a proposal that is confirmed.
+ghost use mathlib.Core.Path.{_≡_};
+ghost use Rattle.record.specs.Lent.{lists};
+ghost use Rattle.inputs_update.specs.Checks.{inputNumber, manualFits, kindFits, updateNumber};
+ghost use Rattle.inputs_update.specs.Reply.{left, updateReply, confirmReply};
+use record::Commands;
+use slots::ExtraDelay;
+use slots::Inputs;
+use slots::Proposal;
+
+mod steps;
+
+// The number of the first check that says no, or 0, and the record.
+pub struct InputsAnswer {
+    pub number: u32,
+    pub inputs: Inputs,
+}
+
+// ---- the checks
+// 1 to 8, which both calls make.
+fn input_number(
+    inputs: Inputs,
+    input: usize,
+    time: u64,
+    starts: &[u64],
+    totals: &[u64],
+    counts: &[u32],
+    times: &[u64],
+    lags: &[u32],
+    words: usize,
+) -> u32
+    ensures { λ r. ⌜ r ≡ inputNumber inputs (lists (now (starts .entry)) (now (totals .entry)) (now (counts .entry)) (now (times .entry)) (now (lags .entry))) words input time 0 ⌝ }
+{
+    let number = record::checks(
+        inputs,
+        starts,
+        totals,
+        counts,
+        times,
+        lags,
+        Commands::Words(words),
+    );
+    if number != 0 {
+        return number;
+    }
+    if inputs.count <= input {
+        return 7;
+    }
+    if base::TIME_LIMIT < time {
+        return 8;
+    }
+    0
+}
+
+// Is a manual delay from 0 to the largest (check 12)?
+fn manual_fits(delay: f64, maximum: u32) -> bool
+    ensures { λ r. ⌜ r ≡ manualFits delay maximum ⌝ }
+{
+    if delay >= 0.0 {
+        return delay <= doubles::ms(maximum);
+    }
+    false
+}
+
+fn kind_fits(kind: ExtraDelay, maximum: u32) -> bool
+    ensures { λ r. ⌜ r ≡ kindFits kind maximum ⌝ }
+{
+    let ExtraDelay::Ms(delay) = kind else {
+        return true;
+    };
+    manual_fits(delay, maximum)
+}
+
+fn update_number(
+    inputs: Inputs,
+    input: usize,
+    kind: ExtraDelay,
+    time: u64,
+    starts: &[u64],
+    totals: &[u64],
+    counts: &[u32],
+    times: &[u64],
+    lags: &[u32],
+    words: usize,
+) -> u32
+    ensures { λ r. ⌜ r ≡ updateNumber inputs (lists (now (starts .entry)) (now (totals .entry)) (now (counts .entry)) (now (times .entry)) (now (lags .entry))) words input kind time ⌝ }
+{
+    let number = input_number(
+        inputs,
+        input,
+        time,
+        starts,
+        totals,
+        counts,
+        times,
+        lags,
+        words,
+    );
+    if number != 0 {
+        return number;
+    }
+    let policy = inputs.policy;
+    if !kind_fits(kind, policy.delay_max) {
+        return 12;
+    }
+    0
+}
+
+// ---- the calls
+// An input gets another kind of delay: a manual one is sent, an automatic one starts to measure anew.
+pub fn update(
+    inputs: Inputs,
+    input: usize,
+    kind: ExtraDelay,
+    time: u64,
+    starts: &mut [u64],
+    totals: &mut [u64],
+    counts: &mut [u32],
+    times: &mut [u64],
+    lags: &mut [u32],
+    commands: &mut [u32],
+) -> InputsAnswer
+    ensures { λ r. ⌜ left r (lists (now (starts .exit)) (now (totals .exit)) (now (counts .exit)) (now (times .exit)) (now (lags .exit))) (now (commands .exit)) ≡ updateReply inputs (lists (now (starts .entry)) (now (totals .entry)) (now (counts .entry)) (now (times .entry)) (now (lags .entry))) (now (commands .entry)) input kind time ⌝ }
+{
+    let number = update_number(
+        inputs,
+        input,
+        kind,
+        time,
+        starts,
+        totals,
+        counts,
+        times,
+        lags,
+        commands.len(),
+    );
+    if number != 0 {
+        return InputsAnswer { number, inputs };
+    }
+    let slot = steps::with_kind(slots::slot_at(inputs, input), kind);
+    let ExtraDelay::Ms(delay) = kind else {
+        base::zero_u32(commands);
+        let all = steps::cleared(inputs, input, slot, starts, totals, counts, times, lags);
+        return InputsAnswer {
+            number,
+            inputs: all,
+        };
+    };
+    let all = steps::delay_set(inputs, input, slot, doubles::samples(delay), time, commands);
+    InputsAnswer {
+        number,
+        inputs: all,
+    }
+}
+
+// The proposed delay of an input is set.
+pub fn confirm_delay(
+    inputs: Inputs,
+    input: usize,
+    time: u64,
+    starts: &[u64],
+    totals: &[u64],
+    counts: &[u32],
+    times: &[u64],
+    lags: &[u32],
+    commands: &mut [u32],
+) -> InputsAnswer
+    ensures { λ r. ⌜ left r (lists (now (starts .entry)) (now (totals .entry)) (now (counts .entry)) (now (times .entry)) (now (lags .entry))) (now (commands .exit)) ≡ confirmReply inputs (lists (now (starts .entry)) (now (totals .entry)) (now (counts .entry)) (now (times .entry)) (now (lags .entry))) (now (commands .entry)) input time ⌝ }
+{
+    let number = input_number(
+        inputs,
+        input,
+        time,
+        starts,
+        totals,
+        counts,
+        times,
+        lags,
+        commands.len(),
+    );
+    if number != 0 {
+        return InputsAnswer { number, inputs };
+    }
+    let slot = slots::slot_at(inputs, input);
+    let proposed = slot.proposed;
+    let Proposal::Pending(delay) = proposed else {
+        return InputsAnswer { number: 13, inputs };
+    };
+    let all = steps::delay_set(inputs, input, steps::taken(slot), delay, time, commands);
+    InputsAnswer {
+        number,
+        inputs: all,
+    }
+}
