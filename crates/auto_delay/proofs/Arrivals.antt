@@ -12,7 +12,7 @@ use Rattle.slots.specs.declared.Inputs.{Inputs}
 use Rattle.slots.specs.Slots.{withLagSeconds, withLastLag}
 use Rattle.slots.specs.Inputs.{slotAt, putSlot}
 use Rattle.record.specs.Lent.{lists, windowIn}
-use Rattle.auto_delay.specs.Effects.{silent}
+use Rattle.record.specs.Effects.{silent}
 use Rattle.auto_delay.specs.Arrival.{windowAfter, lastLag, arrived}
 
 -- ---- the last lag

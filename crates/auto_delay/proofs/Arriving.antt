@@ -23,7 +23,7 @@ use Rattle.record.proofs.Keep.{window-keeps}
 use Rattle.auto_delay.specs.Arrival.{windowAfter, lastLag, arrivedSlot, arrived}
 use Rattle.auto_delay.specs.Asked.{Ready}
 use Rattle.auto_delay.proofs.Asks.{ready-sound, ready-window}
-use Rattle.auto_delay.proofs.Settings.{SameSettings, settings-put}
+use Rattle.keeping.proofs.Settings.{SameSettings, settings-put}
 use Rattle.auto_delay.proofs.Readiness.{ready-of, put-ready}
 use Rattle.auto_delay.proofs.Counters.{Raised, raised-by}
 

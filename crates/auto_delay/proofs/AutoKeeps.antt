@@ -32,16 +32,16 @@ use Rattle.record.proofs.Checked.{Checked}
 use Rattle.record.proofs.Beside.{Beside, beside-same, beside-held}
 use Rattle.record.proofs.Keep.{input-keeps, hold-keeps}
 use Rattle.record.proofs.Shapes.{held-times, held-lags}
-use Rattle.auto_delay.specs.Effects.{Effect, silent, beside}
+use Rattle.record.specs.Effects.{Effect, silent, beside}
 use Rattle.auto_delay.specs.Auto.{p999Of, currentOf, nextFor, proposing, changing, answered, decidedFor, interrupted, goesOn, autoDelayed}
 use Rattle.auto_delay.specs.Asked.{Ready}
 use Rattle.auto_delay.proofs.P999.{p999-most}
 use Rattle.auto_delay.proofs.Asks.{current-fits}
-use Rattle.auto_delay.proofs.Settings.{SameSettings, settings-then, settings-put, settings-stored}
+use Rattle.keeping.proofs.Settings.{SameSettings, settings-then, settings-put, settings-stored}
 use Rattle.auto_delay.proofs.Readiness.{ready-of}
 use Rattle.auto_delay.proofs.Counters.{Raised, raised-by}
 use Rattle.auto_delay.proofs.Interrupts.{interrupt-keeps-whole}
-use Rattle.auto_delay.proofs.StoredKeeps.{stored-keeps}
+use Rattle.keeping.proofs.Stored.{stored-keeps}
 
 -- ---- what `next` is asked, and what it keeps
 module _ (i : ℕ) (largest : Lag) (time : ℕ) (s : Inputs) (l : Lists) (r : Ready s l i) where

@@ -24,7 +24,7 @@ use Rattle.slots.specs.Inputs.{slotAt, putSlot}
 use Rattle.commands.specs.Commands.{quiet}
 use Rattle.set_delay.specs.SetDelay.{setDelayOf}
 use Rattle.record.specs.Lent.{Lists, lists, windowFor, heldFor}
-use Rattle.auto_delay.specs.Effects.{silent, beside}
+use Rattle.record.specs.Effects.{silent, beside}
 use Rattle.auto_delay.specs.Auto.{p999Of, proposedOr, currentOf, nextFor, Answered, proposing, changing, answered, decidedFor, interrupted, goesOn, autoDelayed}
 
 module _ (i : ℕ) (largest : Lag) (time : ℕ) (s : Inputs) (l : Lists) where

@@ -17,7 +17,7 @@ use Rattle.record.proofs.Checked.{Checked}
 use Rattle.record.proofs.Keep.{slot-keeps}
 use Rattle.auto_delay.specs.Arrival.{lateNow, lateEvents, lateSlot, lateEvent}
 use Rattle.auto_delay.specs.Asked.{Ready}
-use Rattle.auto_delay.proofs.Settings.{SameSettings, settings-put}
+use Rattle.keeping.proofs.Settings.{SameSettings, settings-put}
 use Rattle.auto_delay.proofs.Readiness.{put-ready}
 use Rattle.auto_delay.proofs.Counters.{Raised, raised-by}
 

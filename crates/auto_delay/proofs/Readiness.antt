@@ -19,7 +19,7 @@ use Rattle.record.specs.Checks.{Long}
 use Rattle.record.proofs.Checked.{Checked}
 use Rattle.record.proofs.Beside.{Beside}
 use Rattle.auto_delay.specs.Asked.{Ready}
-use Rattle.auto_delay.proofs.Settings.{SameSettings}
+use Rattle.keeping.proofs.Settings.{SameSettings}
 
 pub ready-of : (s : Inputs) (l : Lists) → Checked s l → (i : ℕ) → i < s .count → Ready s l i
 ready-of s l c i h =

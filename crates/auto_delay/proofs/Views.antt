@@ -34,7 +34,7 @@ use Rattle.record.proofs.Beside.{held-same}
 use Rattle.auto_delay.specs.Arrival.{windowAfter, arrived, lateEvent}
 use Rattle.auto_delay.specs.Auto.{nextFor, changing, goesOn, autoDelayed}
 use Rattle.auto_delay.specs.Asked.{Ready}
-use Rattle.auto_delay.proofs.Settings.{SameSettings}
+use Rattle.keeping.proofs.Settings.{SameSettings}
 use Rattle.auto_delay.proofs.Readiness.{ready-low}
 use Rattle.auto_delay.proofs.Arriving.{arrived-slot, arrived-settings, arrived-read}
 use Rattle.auto_delay.proofs.LateKeeps.{late-slot, late-settings}

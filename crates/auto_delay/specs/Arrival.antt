@@ -15,7 +15,7 @@ use Rattle.slots.specs.declared.Inputs.{Inputs}
 use Rattle.slots.specs.Slots.{stateNumber, withLagSeconds, withLastLag, withLate}
 use Rattle.slots.specs.Inputs.{slotAt, putSlot}
 use Rattle.record.specs.Lent.{Lists, bucketsIn, windowOf, withWindow}
-use Rattle.auto_delay.specs.Effects.{Effect, silent}
+use Rattle.record.specs.Effects.{Effect, silent}
 
 -- "push lags": the window of input i with the lags of the tick pushed in a row
 unfoldable pub windowAfter : (i time : ℕ) → List ℕ → Inputs → Lists → Window

@@ -28,7 +28,7 @@ use Rattle.slots.specs.Inputs.{slotAt, putSlot}
 use Rattle.commands.specs.Commands.{Done, quiet}
 use Rattle.set_delay.specs.SetDelay.{setDelayOf}
 use Rattle.record.specs.Lent.{Lists, windowOf, heldOf, withHeld}
-use Rattle.auto_delay.specs.Effects.{Effect, silent, beside}
+use Rattle.record.specs.Effects.{Effect, silent, beside}
 
 -- "0.999" as a double
 unfoldable pub permille999 : Float

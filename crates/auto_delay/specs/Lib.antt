@@ -1,5 +1,4 @@
 -- The definitions that the contracts of `auto_delay` cite.
-pub mod Effects
 pub mod Arrival
 pub mod Auto
 pub mod Asked

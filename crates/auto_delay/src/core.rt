@@ -4,7 +4,7 @@ ghost use mathlib.Core.List.{List, []};
 ghost use Prim.Native.Nat.{ℕ, _+_, _≤_};
 ghost use lib.ListN.{length};
 ghost use Rattle.record.specs.Lent.{lists};
-ghost use Rattle.auto_delay.specs.Effects.{silent, Effected};
+ghost use Rattle.record.specs.Effects.{silent, Effected};
 ghost use Rattle.auto_delay.specs.Arrival.{arrived, largestOf, lateEvent};
 ghost use Rattle.auto_delay.specs.Auto.{autoDelayed};
 ghost use Rattle.auto_delay.specs.Asked.{ArriveAsked, LateAsked, AutoAsked};

@@ -22,7 +22,8 @@ use Rattle.commands.specs.Commands.{setDelay, quiet, first}
 use Rattle.set_delay.specs.SetDelay.{delayStored, setDelayOf}
 use Rattle.set_delay.proofs.Stored.{stored-same}
 use Rattle.record.specs.Lent.{Lists}
-use Rattle.inputs_update.specs.Update.{kindStored, clearedSlot, cleared, delaySet, updated, taken, confirmedBy, confirmed}
+use Rattle.clearing.specs.Clearing.{clearedSlot, cleared}
+use Rattle.inputs_update.specs.Update.{kindStored, delaySet, updated, taken, confirmedBy, confirmed}
 
 -- a delay of an input that is not automatic is not remembered
 unremembered : (route : Routed) (automatic : Bool) (s : Inputs) (delay : ℕ) → automatic ≡ false → rememberedBy route automatic s delay ≡ s

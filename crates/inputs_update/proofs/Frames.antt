@@ -19,13 +19,16 @@ use Rattle.set_delay.specs.SetDelay.{delayStored, setDelayOf}
 use Rattle.set_delay.proofs.Stored.{stored-other}
 use Rattle.record.specs.Lent.{Lists, bucketsIn, heldOf, withWindow}
 use Rattle.record.specs.Checks.{Fitting}
+use Rattle.record.specs.Reply.{Reply}
 use Rattle.record.proofs.Beside.{Beside, beside-same, beside-window, beside-held, beside-then}
 use Rattle.record.proofs.Shapes.{held-times, held-lags}
-use Rattle.auto_delay.proofs.Settings.{SameSettings, settings-then, settings-put, settings-stored}
+use Rattle.clearing.specs.Clearing.{clearedSlot, clearedLists, cleared}
+use Rattle.clearing.proofs.Frames.{cleared-beside}
+use Rattle.keeping.proofs.Settings.{SameSettings, settings-then, settings-put, settings-stored}
 use Rattle.inputs_update.specs.Checks.{updateNumber, confirmNumber}
-use Rattle.inputs_update.specs.Update.{kindStored, clearedSlot, clearedLists, cleared, delaySet, updated, taken, confirmedBy, confirmed}
-use Rattle.inputs_update.specs.Reply.{Reply, updateReply, confirmReply}
-use Rattle.inputs_update.proofs.Numbers.{call-fitting, call-input}
+use Rattle.inputs_update.specs.Update.{kindStored, delaySet, updated, taken, confirmedBy, confirmed}
+use Rattle.inputs_update.specs.Reply.{updateReply, confirmReply}
+use Rattle.record.proofs.Numbers.{call-fitting, call-input}
 
 module _ (s : Inputs) (i : ℕ) where
   -- ---- a delay is set
@@ -49,19 +52,10 @@ module _ (s : Inputs) (i : ℕ) where
     updated-settings (Ms delay) time = set-settings (kindStored (slotAt s i) (Ms delay)) _ time
     updated-settings (Auto tag) time = settings-put s i (clearedSlot (kindStored (slotAt s i) (Auto tag)))
 
-    cleared-beside : Fitting s l → i < s .count → Beside (s .count) (bucketsIn s) i l (clearedLists i s l)
-    unfolding fresh
-    cleared-beside f h =
-        let window : Beside (s .count) (bucketsIn s) i l (withWindow (bucketsIn s) i (fresh (bucketsIn s) (s .width)) l) = beside-window (s .count) (bucketsIn s) i l (f .long) h (fresh (bucketsIn s) (s .width)) (length-replicate {A = ℕ} 11 0) (length-replicate {A = ℕ} 11 0) (length-replicate {A = ℕ} _ 0) in
-        beside-then (s .count) (bucketsIn s) i l (withWindow (bucketsIn s) i (fresh (bucketsIn s) (s .width)) l) (clearedLists i s l) window
-        (beside-held (s .count) (bucketsIn s) i (withWindow (bucketsIn s) i (fresh (bucketsIn s) (s .width)) l) (window .long) h (clearedHold (heldOf s l i))
-        (length-replicate {A = ℕ} (length (heldOf s l i .times)) 0 ∙ held-times s l f i h)
-        (length-replicate {A = ℕ} (length (heldOf s l i .lags)) 0 ∙ held-lags s l f i h))
-
     updated-beside : Fitting s l → i < s .count → (kind : ExtraDelay) (time : ℕ) → Beside (s .count) (bucketsIn s) i l (updated i kind time s l .lists)
     unfolding updated cleared
     updated-beside f h (Ms delay) time = beside-same (s .count) (bucketsIn s) i l (f .long)
-    updated-beside f h (Auto tag) time = cleared-beside f h
+    updated-beside f h (Auto tag) time = cleared-beside s l i f h
 
     -- ---- `confirm_delay`
     confirmed-other : (proposal : Proposal) (time j : ℕ) → (j ≡ i → ⊥) → slotAt (confirmedBy proposal i time s l .inputs) j ≡ slotAt s j

@@ -22,16 +22,18 @@ use Rattle.slots.specs.Inputs.{slotAt, putSlot}
 use Rattle.commands.specs.Commands.{quiet, first}
 use Rattle.set_delay.specs.SetDelay.{setDelayOf}
 use Rattle.record.specs.Lent.{Lists}
+use Rattle.record.specs.Reply.{Reply}
 use Rattle.record.specs.Places.{proposalFits}
 use Rattle.record.proofs.Facts.{WholeSlot}
 use Rattle.record.proofs.Checked.{Checked}
 use Rattle.record.proofs.Keep.{slot-keeps, cleared-keeps}
-use Rattle.auto_delay.proofs.Settings.{settings-put}
-use Rattle.auto_delay.proofs.StoredKeeps.{stored-keeps}
+use Rattle.clearing.specs.Clearing.{clearedSlot, cleared}
+use Rattle.keeping.proofs.Settings.{settings-put}
+use Rattle.keeping.proofs.Stored.{stored-keeps}
 use Rattle.inputs_update.specs.Checks.{manualFits, kindFits, updateNumber, confirmNumber}
-use Rattle.inputs_update.specs.Update.{kindStored, clearedSlot, cleared, delaySet, updated, taken, confirmedBy, confirmed}
-use Rattle.inputs_update.specs.Reply.{Reply, updateReply, confirmReply}
-use Rattle.inputs_update.proofs.Numbers.{input-told}
+use Rattle.inputs_update.specs.Update.{kindStored, delaySet, updated, taken, confirmedBy, confirmed}
+use Rattle.inputs_update.specs.Reply.{updateReply, confirmReply}
+use Rattle.record.proofs.Numbers.{input-told}
 
 -- "Is a manual delay from 0 to `ms`(maximum)?": then its samples are at most maximum
 pub manual-most : (delay : Float) (maximum : ℕ) → maximum ≤ 96000 → manualFits delay maximum ≡ true → samplesOf delay ≤ maximum

@@ -1,5 +1,4 @@
 -- Laws of the calls that change an input's delay.
-pub mod Numbers
 pub mod Parts
 pub mod Replies
 pub mod Keeps

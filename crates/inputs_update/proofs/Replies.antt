@@ -6,7 +6,7 @@ use native.Mathlib.Omega.{arith}
 use lib.Ieee.{Float}
 use lib.ListN.{length, replicate}
 use Rattle.base.specs.Lists.{padded}
-use Rattle.base.proofs.Choices.{yes-ask, no-ask, refused-old, accepted-new}
+use Rattle.base.proofs.Choices.{yes-ask, no-ask}
 use Rattle.base.proofs.Words.{laid}
 use Rattle.doubles.specs.Doubles.{samplesOf}
 use Rattle.slots.specs.declared.AutoTag.{AutoTag}
@@ -18,26 +18,15 @@ use Rattle.slots.specs.declared.Slot.{Slot}
 use Rattle.slots.specs.declared.Inputs.{Inputs}
 use Rattle.slots.specs.Inputs.{slotAt}
 use Rattle.record.specs.Lent.{Lists}
-use Rattle.record.specs.Checks.{Fitting}
-use Rattle.auto_delay.specs.Effects.{Effect, silent, beside}
-use Rattle.inputs_update.specs.Checks.{inputNumber, updateNumber, pending, confirmNumber}
-use Rattle.inputs_update.specs.Update.{kindStored, cleared, delaySet, updated, taken, confirmedBy, confirmed}
-use Rattle.inputs_update.specs.Reply.{Reply, carriedOut, replied, updateReply, confirmReply}
-use Rattle.inputs_update.proofs.Numbers.{passed-by, call-fitting, call-input, call-low, call-room, call-changes}
-
--- ---- by the number of the checks
-module _ (s : Inputs) (l : Lists) (commands : List ℕ) (effect : Effect) {n : ℕ} (number : ℕ) (is-number : n ≡ number) where
-  pub reply-refused : (n ≡ 0 → ⊥) → _≡_ {A = Reply} (record { number = n; inputs = s; lists = l; commands = commands }) (replied number s l commands effect)
-  reply-refused h =
-      (λ t. record { number = is-number t; inputs = s; lists = l; commands = commands })
-      ∙ sym (refused-old number _ _ (λ e. h (is-number ∙ e)))
-
-  pub reply-accepted : n ≡ 0 → (same : Effect) {all : Inputs} {m : Lists} {after : List ℕ} → same ≡ effect → all ≡ same .inputs → m ≡ same .lists → after ≡ padded (length commands) (same .words)
-      → _≡_ {A = Reply} (record { number = n; inputs = all; lists = m; commands = after }) (replied number s l commands effect)
-  reply-accepted passed same is-same is-all is-lists is-after =
-      (λ t. record { number = is-number t; inputs = is-all t; lists = is-lists t; commands = is-after t })
-      ∙ ap (carriedOut number commands) is-same
-      ∙ sym (accepted-new number _ _ (sym is-number ∙ passed))
+use Rattle.record.specs.Checks.{inputNumber, Fitting}
+use Rattle.record.specs.Effects.{silent, beside}
+use Rattle.record.specs.Reply.{Reply}
+use Rattle.record.proofs.Numbers.{passed-by, call-fitting, call-input, call-low, call-room, call-changes}
+use Rattle.record.proofs.Replies.{reply-refused, reply-accepted}
+use Rattle.clearing.specs.Clearing.{cleared}
+use Rattle.inputs_update.specs.Checks.{updateNumber, pending, confirmNumber}
+use Rattle.inputs_update.specs.Update.{kindStored, delaySet, updated, taken, confirmedBy, confirmed}
+use Rattle.inputs_update.specs.Reply.{updateReply, confirmReply}
 
 -- ---- `update`
 module _ (s : Inputs) (l : Lists) (commands : List ℕ) (input : ℕ) (kind : ExtraDelay) (time : ℕ) {n : ℕ} (is-number : n ≡ updateNumber s l (length commands) input kind time) where

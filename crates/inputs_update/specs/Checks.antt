@@ -1,11 +1,9 @@
 -- Document 01's checks of `update` and `confirm_delay`, in their order. Assumes nothing.
 use Prim.Native.Nat.{ℕ}
 use mathlib.Core.Bool.{Bool, true, false}
-use lib.Dec.{ltb}
 use lib.IntN.{pos}
 use lib.Ieee.{Float, fin, le}
 use Rattle.base.specs.Choice.{both, ask}
-use Rattle.base.specs.Limits.{timely}
 use Rattle.doubles.specs.Doubles.{msOf}
 use Rattle.slots.specs.declared.ExtraDelay.{ExtraDelay}
 use Rattle.slots.specs.declared.ExtraDelay.the-variants.{Auto, Ms}
@@ -13,14 +11,8 @@ use Rattle.slots.specs.declared.Proposal.{Proposal}
 use Rattle.slots.specs.declared.Proposal.the-variants.{Nothing, Pending}
 use Rattle.slots.specs.declared.Inputs.{Inputs}
 use Rattle.slots.specs.Inputs.{slotAt}
-use Rattle.record.specs.declared.Commands.the-variants.{Words}
 use Rattle.record.specs.Lent.{Lists}
-use Rattle.record.specs.Checks.{recordNumber}
-
--- 1 to 6, with so many words of commands; 7: "Does the input exist?"; 8: "Is the time at most 4 times 10^18";
--- `rest` is the number that the checks after these give
-unfoldable pub inputNumber : Inputs → Lists → (words input time rest : ℕ) → ℕ
-inputNumber s l words input time rest = recordNumber s l (Words words) (ask 7 (ltb input (s .count)) (ask 8 (timely time) rest))
+use Rattle.record.specs.Checks.{inputNumber}
 
 -- 12: "Is a manual delay from 0 to `ms`(maximum)?"; a NaN is not, -0.0 is
 unfoldable pub manualFits : Float → ℕ → Bool

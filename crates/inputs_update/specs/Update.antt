@@ -1,34 +1,23 @@
 -- Document 01, "Supervision": what `update` and `confirm_delay` do to an input. Assumes nothing.
 use Prim.Native.Nat.{ℕ, _+_}
 use Rattle.doubles.specs.Doubles.{samplesOf}
-use Rattle.lag_window.specs.Window.{fresh}
-use Rattle.delay_hold.specs.Next.{freshHold, clearedHold}
 use Rattle.slots.specs.declared.ExtraDelay.{ExtraDelay}
 use Rattle.slots.specs.declared.ExtraDelay.the-variants.{Auto, Ms}
 use Rattle.slots.specs.declared.Proposal.{Proposal}
 use Rattle.slots.specs.declared.Proposal.the-variants.{Nothing, Pending}
 use Rattle.slots.specs.declared.Slot.{Slot}
 use Rattle.slots.specs.declared.Inputs.{Inputs}
-use Rattle.slots.specs.Slots.{withConfig, withProposed, withLagSeconds, withHold, withDelayChanges}
+use Rattle.slots.specs.Slots.{withConfig, withProposed, withDelayChanges}
 use Rattle.slots.specs.Inputs.{slotAt, putSlot}
 use Rattle.commands.specs.Commands.{Done}
 use Rattle.set_delay.specs.SetDelay.{setDelayOf}
-use Rattle.record.specs.Lent.{Lists, bucketsIn, heldOf, withWindow, withHeld}
-use Rattle.auto_delay.specs.Effects.{Effect, silent, beside}
+use Rattle.record.specs.Lent.{Lists}
+use Rattle.record.specs.Effects.{Effect, silent, beside}
+use Rattle.clearing.specs.Clearing.{cleared}
 
 -- "the kind is stored, the proposal goes"
 abbrev pub kindStored : Slot → ExtraDelay → Slot
 kindStored slot kind = withProposed (withConfig slot (record { «extra_delay» = kind })) Nothing
-
--- "window and hold are cleared": no seconds and a fresh hold in the slot, and every place of the input's lists zero
-abbrev pub clearedSlot : Slot → Slot
-clearedSlot slot = withHold (withLagSeconds slot 0) freshHold
-
-abbrev pub clearedLists : ℕ → Inputs → Lists → Lists
-clearedLists i s l = withHeld i (clearedHold (heldOf s l i)) (withWindow (bucketsIn s) i (fresh (bucketsIn s) (s .width)) l)
-
-unfoldable pub cleared : (i : ℕ) → Slot → Inputs → Lists → Effect
-cleared i slot s l = silent (putSlot s i (clearedSlot slot)) (clearedLists i s l)
 
 -- input i has this slot, and then `set_delay`
 unfoldable pub delaySet : (i : ℕ) → Slot → (delay time : ℕ) → Inputs → Done

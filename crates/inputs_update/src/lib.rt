@@ -1,57 +1,17 @@
 // What the host changes of an input's delay (document 01, "Supervision"): its kind, and a proposal that is confirmed.
 ghost use mathlib.Core.Path.{_≡_};
 ghost use Rattle.record.specs.Lent.{lists};
-ghost use Rattle.inputs_update.specs.Checks.{inputNumber, manualFits, kindFits, updateNumber};
-ghost use Rattle.inputs_update.specs.Reply.{left, updateReply, confirmReply};
-use record::Commands;
+ghost use Rattle.inputs_update.specs.Checks.{manualFits, kindFits, updateNumber};
+ghost use Rattle.record.specs.Reply.{left};
+ghost use Rattle.inputs_update.specs.Reply.{updateReply, confirmReply};
+use record::InputsAnswer;
 use slots::ExtraDelay;
 use slots::Inputs;
 use slots::Proposal;
 
 mod steps;
 
-// The number of the first check that says no, or 0, and the record.
-pub struct InputsAnswer {
-    pub number: u32,
-    pub inputs: Inputs,
-}
-
 // ---- the checks
-// 1 to 8, which both calls make.
-fn input_number(
-    inputs: Inputs,
-    input: usize,
-    time: u64,
-    starts: &[u64],
-    totals: &[u64],
-    counts: &[u32],
-    times: &[u64],
-    lags: &[u32],
-    words: usize,
-) -> u32
-    ensures { λ r. ⌜ r ≡ inputNumber inputs (lists (now (starts .entry)) (now (totals .entry)) (now (counts .entry)) (now (times .entry)) (now (lags .entry))) words input time 0 ⌝ }
-{
-    let number = record::checks(
-        inputs,
-        starts,
-        totals,
-        counts,
-        times,
-        lags,
-        Commands::Words(words),
-    );
-    if number != 0 {
-        return number;
-    }
-    if inputs.count <= input {
-        return 7;
-    }
-    if base::TIME_LIMIT < time {
-        return 8;
-    }
-    0
-}
-
 // Is a manual delay from 0 to the largest (check 12)?
 fn manual_fits(delay: f64, maximum: u32) -> bool
     ensures { λ r. ⌜ r ≡ manualFits delay maximum ⌝ }
@@ -85,7 +45,7 @@ fn update_number(
 ) -> u32
     ensures { λ r. ⌜ r ≡ updateNumber inputs (lists (now (starts .entry)) (now (totals .entry)) (now (counts .entry)) (now (times .entry)) (now (lags .entry))) words input kind time ⌝ }
 {
-    let number = input_number(
+    let number = record::input_checks(
         inputs,
         input,
         time,
@@ -140,7 +100,7 @@ pub fn update(
     let slot = steps::with_kind(slots::slot_at(inputs, input), kind);
     let ExtraDelay::Ms(delay) = kind else {
         base::zero_u32(commands);
-        let all = steps::cleared(inputs, input, slot, starts, totals, counts, times, lags);
+        let all = clearing::core::clear(inputs, input, slot, starts, totals, counts, times, lags);
         return InputsAnswer {
             number,
             inputs: all,
@@ -167,7 +127,7 @@ pub fn confirm_delay(
 ) -> InputsAnswer
     ensures { λ r. ⌜ left r (lists (now (starts .entry)) (now (totals .entry)) (now (counts .entry)) (now (times .entry)) (now (lags .entry))) (now (commands .exit)) ≡ confirmReply inputs (lists (now (starts .entry)) (now (totals .entry)) (now (counts .entry)) (now (times .entry)) (now (lags .entry))) (now (commands .entry)) input time ⌝ }
 {
-    let number = input_number(
+    let number = record::input_checks(
         inputs,
         input,
         time,

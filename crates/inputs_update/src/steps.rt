@@ -1,23 +1,14 @@
-// The parts of the calls: what changes in a slot, an input's window and hold cleared, a delay set.
+// The parts of the calls: what changes in a slot, and a delay set.
 ghost use mathlib.Core.Path.{_≡_};
-ghost use Prim.Native.Nat.{_+_, _*_, _<_, _≤_};
-ghost use lib.ListN.{length, replicate};
-ghost use Rattle.base.specs.Lists.{part, patched, padded};
-ghost use Rattle.delay_hold.specs.Next.{held, freshHold};
-ghost use Rattle.record.specs.Lent.{lists};
-ghost use Rattle.record.specs.Checks.{Fitting};
-ghost use Rattle.auto_delay.specs.Effects.{silent};
-ghost use Rattle.inputs_update.specs.Update.{kindStored, taken, cleared, delaySet};
-use delay_hold::DelayHold;
-use lag_window::LagWindow;
+ghost use Prim.Native.Nat.{_<_, _≤_};
+ghost use lib.ListN.{length};
+ghost use Rattle.base.specs.Lists.{padded};
+ghost use Rattle.inputs_update.specs.Update.{kindStored, taken, delaySet};
 use slots::ExtraDelay;
 use slots::InputConfig;
 use slots::Inputs;
 use slots::Proposal;
 use slots::Slot;
-
-// How many peaks an input has room for.
-const PEAKS: usize = 600;
 
 // The kind is stored, the proposal goes.
 pub(crate) fn with_kind(slot: Slot, kind: ExtraDelay) -> Slot
@@ -35,45 +26,6 @@ pub(crate) fn taken(slot: Slot) -> Slot
 {
     let rest = slots::with_proposed(slot, Proposal::Nothing);
     slots::with_delay_changes(rest, slot.delay_changes + 1)
-}
-
-// Every place of the peaks of input i is written zero.
-fn cleared_hold(i: usize, times: &mut [u64], lags: &mut [u32]) -> DelayHold
-    requires { ⌜ (i < 16) × (i * 600 + 600 ≤ length (now times)) × (i * 600 + 600 ≤ length (now lags)) ⌝ }
-    ensures { λ r. ⌜ held r (now (times .exit)) (now (lags .exit)) ≡ held freshHold (patched (i * 600) 600 (replicate (length (part (i * 600) 600 (now (times .entry)))) 0) (now (times .entry))) (patched (i * 600) 600 (replicate (length (part (i * 600) 600 (now (lags .entry)))) 0) (now (lags .entry))) ⌝ }
-{
-    let from = i * PEAKS;
-    let to = from + PEAKS;
-    delay_hold::core::cleared(&mut times[from..to], &mut lags[from..to])
-}
-
-// Input i has this slot, with its window and its hold cleared.
-pub(crate) fn cleared(
-    inputs: Inputs,
-    i: usize,
-    slot: Slot,
-    starts: &mut [u64],
-    totals: &mut [u64],
-    counts: &mut [u32],
-    times: &mut [u64],
-    lags: &mut [u32],
-) -> Inputs
-    requires { ⌜ Fitting inputs (lists (now starts) (now totals) (now counts) (now times) (now lags)) ⌝ }
-    requires { ⌜ i < inputs .count ⌝ }
-    ensures { λ r. ⌜ silent r (lists (now (starts .exit)) (now (totals .exit)) (now (counts .exit)) (now (times .exit)) (now (lags .exit))) ≡ cleared i slot inputs (lists (now (starts .entry)) (now (totals .entry)) (now (counts .entry)) (now (times .entry)) (now (lags .entry))) ⌝ }
-{
-    let policy = inputs.policy;
-    let buckets = lag_window::core::buckets_of(policy.read_offset, policy.delay_max, inputs.width);
-    let before = LagWindow {
-        seconds: slot.lag_seconds,
-        buckets,
-        width: inputs.width,
-    };
-    let window = lag_window::core::clear(before, i, starts, totals, counts);
-    let hold = cleared_hold(i, times, lags);
-    let counted = slots::with_lag_seconds(slot, window.seconds);
-    let changed = slots::with_hold(counted, hold);
-    slots::put_slot(inputs, i, changed)
 }
 
 // Input i has this slot, and then its delay is set; the whole list of commands is written.

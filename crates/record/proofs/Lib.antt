@@ -8,4 +8,7 @@ pub mod Keep
 pub mod Shapes
 pub mod Tables
 pub mod Pruned
+pub mod Effects
+pub mod Numbers
+pub mod Replies
 mod Cases

@@ -2,10 +2,10 @@
 use Prim.Native.Nat.{ℕ, _*_, _≤_}
 use mathlib.Core.Bool.{Bool, true}
 use mathlib.Core.Path.{_≡_}
-use lib.Dec.{leb, eqb}
+use lib.Dec.{leb, ltb, eqb}
 use lib.ListN.{length}
 use Rattle.base.specs.Choice.{both, ask}
-use Rattle.base.specs.Limits.{nanos, spanLimit}
+use Rattle.base.specs.Limits.{nanos, spanLimit, timely}
 use Rattle.policy.specs.declared.DelayPolicy.{DelayPolicy}
 use Rattle.policy.specs.Settings.{reachesAllowed, timesAllowed, marginsAllowed, Sound}
 use Rattle.lag_window.specs.Window.{bucketsOf}
@@ -56,6 +56,13 @@ recordNumber s l commands rest =
     (ask 5 (commandsFit (s .count) commands)
     (ask 6 (wholeRecord s l) rest))))))
 
+-- ---- a call on one input
+-- 1 to 6, with so many words of commands; 7: "Does the input exist?"; 8: "Is the time at most 4 times 10^18";
+-- `rest` is the number that the checks after these give
+unfoldable pub inputNumber : Inputs → Lists → (words input time rest : ℕ) → ℕ
+inputNumber s l words input time rest = recordNumber s l (Words words) (ask 7 (ltb input (s .count)) (ask 8 (timely time) rest))
+
+-- ---- what they let through
 -- what 1 to 4 let through, as facts
 pub record Allowed (n : ℕ) (policy : DelayPolicy) (width stall : ℕ) : Type 0 where
   pub least : 1 ≤ n

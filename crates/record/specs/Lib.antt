@@ -3,3 +3,5 @@ pub mod Lent
 pub mod Places
 pub mod Record
 pub mod Checks
+pub mod Effects
+pub mod Reply

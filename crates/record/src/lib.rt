@@ -2,7 +2,7 @@
 ghost use mathlib.Core.Path.{_≡_};
 ghost use Rattle.slots.proofs.Sized.{Sized};
 ghost use Rattle.record.specs.Lent.{lists};
-ghost use Rattle.record.specs.Checks.{inputsAllowed, bucketsAllowed, pausesAllowed, recordNumber};
+ghost use Rattle.record.specs.Checks.{inputsAllowed, bucketsAllowed, pausesAllowed, recordNumber, inputNumber};
 use policy::DelayPolicy;
 use slots::Inputs;
 
@@ -14,6 +14,12 @@ mod places;
 pub enum Commands {
     Absent,
     Words(usize),
+}
+
+// The number of the first check that says no, or 0, and the record.
+pub struct InputsAnswer {
+    pub number: u32,
+    pub inputs: Inputs,
 }
 
 // Are there 1 to 16 inputs (check 1)?
@@ -103,4 +109,39 @@ pub fn checks(
     ensures { λ _. ⌜ Sized inputs ⌝ }
 {
     first_refused(inputs, starts, totals, counts, times, lags, commands)
+}
+
+// The number of the first of checks 1 to 8 that says no, or 0, of a call on one input that takes so many words of commands.
+pub fn input_checks(
+    inputs: Inputs,
+    input: usize,
+    time: u64,
+    starts: &[u64],
+    totals: &[u64],
+    counts: &[u32],
+    times: &[u64],
+    lags: &[u32],
+    words: usize,
+) -> u32
+    ensures { λ r. ⌜ r ≡ inputNumber inputs (lists (now (starts .entry)) (now (totals .entry)) (now (counts .entry)) (now (times .entry)) (now (lags .entry))) words input time 0 ⌝ }
+{
+    let number = checks(
+        inputs,
+        starts,
+        totals,
+        counts,
+        times,
+        lags,
+        Commands::Words(words),
+    );
+    if number != 0 {
+        return number;
+    }
+    if inputs.count <= input {
+        return 7;
+    }
+    if base::TIME_LIMIT < time {
+        return 8;
+    }
+    0
 }

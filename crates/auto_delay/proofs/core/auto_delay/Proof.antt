@@ -3,7 +3,7 @@ use mathlib.Core.Path.{refl}
 use native.Mathlib.Omega.{arith}
 use borrow.Author.Tests.{not-true, not-false}
 use borrow.Author.Needs.{needs}
-use Rattle.auto_delay.proofs.Effects.{effected-by, effected-silent, effected-done}
+use Rattle.record.proofs.Effects.{effected-by, effected-silent, effected-done}
 use Rattle.auto_delay.proofs.Autos.{stalled-by, idle-by, manual-by, decides-by, answer-asks}
 use Rattle.auto_delay.proofs.core.auto_delay.Statement.{statement}
 use Rattle.auto_delay.proofs.core.auto_delay.Tie as tie

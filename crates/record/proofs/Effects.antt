@@ -6,8 +6,8 @@ use Rattle.slots.specs.declared.Inputs.{Inputs}
 use Rattle.commands.specs.declared.Sent.{Sent}
 use Rattle.commands.specs.Commands.{Done, Did, quiet}
 use Rattle.commands.proofs.Steps.{did-quiet}
 use Rattle.record.specs.Lent.{Lists}
-use Rattle.auto_delay.specs.Effects.{Effect, silent, beside, Effected}
+use Rattle.record.specs.Effects.{Effect, silent, beside, Effected}
 
 -- what is done may be said by another name
 pub effected-by : {most : ℕ} {effect same : Effect} {answer : Sent} {l : Lists} {before after : List ℕ} {from : ℕ} → effect ≡ same → Effected most same answer l before after from

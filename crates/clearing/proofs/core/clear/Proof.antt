@@ -1,9 +1,9 @@
 use Rattle.record.specs.Lent.{lists}
-use Rattle.inputs_update.proofs.Parts.{window-held, cleared-by}
--- `inputs_update::steps::cleared` meets its contract. Assumes nothing.
+use Rattle.clearing.proofs.Parts.{window-held, cleared-by}
+-- `clearing::core::clear` meets its contract. Assumes nothing.
 use borrow.Author.Needs.{needs}
-use Rattle.inputs_update.proofs.steps.cleared.Statement.{statement}
-use Rattle.inputs_update.proofs.steps.cleared.Tie as tie
+use Rattle.clearing.proofs.core.clear.Statement.{statement}
+use Rattle.clearing.proofs.core.clear.Tie as tie
 
 buckets-of-requires : tie.Need-buckets-of-requires
 buckets-of-requires c κs = search needs
@@ -11,8 +11,8 @@ buckets-of-requires c κs = search needs
 clear-requires : tie.Need-clear-requires
 clear-requires c κs = window-held _ _ _ (c .before .before .before .buckets-of .ensures) (lists (c .before .before .before .before .before .before .before .before .before .before .args .starts .now) (c .before .before .before .before .before .before .before .before .before .before .args .totals .now) (c .before .before .before .before .before .before .before .before .before .before .args .counts .now) (c .before .before .before .before .before .before .before .before .before .before .args .times .now) (c .before .before .before .before .before .before .before .before .before .before .args .lags .now)) (c .before .before .before .before .before .before .before .before .before .before .pre .0) (c .before .before .before .before .before .before .before .before .before .before .pre .1)
 
-cleared-hold-requires : tie.Need-cleared-hold-requires
-cleared-hold-requires c κs = search needs
+clear-hold-requires : tie.Need-clear-hold-requires
+clear-hold-requires c κs = search needs
 
 with-lag-seconds-requires : tie.Need-with-lag-seconds-requires
 with-lag-seconds-requires c κs = search needs
@@ -39,15 +39,15 @@ same-length-5 : tie.Need-same-length-5
 same-length-5 c = search needs
 
 returns : tie.Need-returns
-returns c = cleared-by _ _ _ _ _ _ _ _ _ _ _ _ _ (c .before .before .before .before .before .before .before .before .before .before .before .before .before .before .before .before .before .before .before .before .buckets-of .ensures) (c .before .before .before .before .before .before .before .before .before .before .before .before .before .before .before .before .clear .ensures) (c .before .before .before .before .before .before .before .cleared-hold .ensures) (c .before .before .with-lag-seconds .ensures) (c .before .with-hold .ensures) (c .put-slot .ensures)
+returns c = cleared-by _ _ _ _ _ _ _ _ _ _ _ _ _ (c .before .before .before .before .before .before .before .before .before .before .before .before .before .before .before .before .before .before .before .before .buckets-of .ensures) (c .before .before .before .before .before .before .before .before .before .before .before .before .before .before .before .before .clear .ensures) (c .before .before .before .before .before .before .before .clear-hold .ensures) (c .before .before .with-lag-seconds .ensures) (c .before .with-hold .ensures) (c .put-slot .ensures)
 
-pub cleared-spec : {M : Type 1} → statement M
-cleared-spec =
+pub clear-spec : {M : Type 1} → statement M
+clear-spec =
     tie.close
     (tie.spec
     buckets-of-requires
     clear-requires
-    cleared-hold-requires
+    clear-hold-requires
     with-lag-seconds-requires
     with-hold-requires
     put-slot-requires

@@ -8,12 +8,11 @@ use Rattle.base.specs.Limits.{timeLimit, timely}
 use Rattle.base.proofs.Choices.{yes-ask, no-ask, asked, by-bool}
 use Rattle.slots.specs.declared.Inputs.{Inputs}
 use Rattle.slots.specs.Inputs.{slotAt}
 use Rattle.record.specs.declared.Commands.the-variants.{Words}
 use Rattle.record.specs.Lent.{Lists}
-use Rattle.record.specs.Checks.{recordNumber, Fitting}
+use Rattle.record.specs.Checks.{recordNumber, inputNumber, Fitting}
 use Rattle.record.proofs.Facts.{Whole, whole-of}
 use Rattle.record.proofs.Checked.{allowed-of, long-of, checked-commands, number-passed, number-refused}
-use Rattle.inputs_update.specs.Checks.{inputNumber}
 
 -- a case by whether a number is 0. Of general use: it belongs to base.
 pub by-zero : {C : Type 0} (n : ℕ) → (n ≡ 0 → C) → ((n ≡ 0 → ⊥) → C) → C

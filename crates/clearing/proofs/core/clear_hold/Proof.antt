@@ -1,10 +1,10 @@
 use Prim.Native.Nat.{_*_}
 use native.Mathlib.Nat.{add-sub-cancel-left}
-use Rattle.inputs_update.proofs.Parts.{hold-by}
--- `inputs_update::steps::cleared_hold` meets its contract. Assumes nothing.
+use Rattle.clearing.proofs.Parts.{hold-by}
+-- `clearing::core::clear_hold` meets its contract. Assumes nothing.
 use borrow.Author.Needs.{needs}
-use Rattle.inputs_update.proofs.steps.cleared_hold.Statement.{statement}
-use Rattle.inputs_update.proofs.steps.cleared_hold.Tie as tie
+use Rattle.clearing.proofs.core.clear_hold.Statement.{statement}
+use Rattle.clearing.proofs.core.clear_hold.Tie as tie
 
 mul-from : tie.Need-mul-from
 mul-from c = search needs
@@ -48,8 +48,8 @@ same-length-2 c = search needs
 returns : tie.Need-returns
 returns c = hold-by (c .before .before .before .before .before .before .before .before .before .args .i) (c .before .before .before .before .before .before .before .before .before .args .times .now) (c .before .before .before .before .before .before .before .before .before .args .lags .now) (add-sub-cancel-left (c .before .before .before .before .before .before .before .before .before .args .i * 600) 600) (c .before .before .before .before .cleared .ensures)
 
-pub cleared-hold-spec : {M : Type 1} → statement M
-cleared-hold-spec =
+pub clear-hold-spec : {M : Type 1} → statement M
+clear-hold-spec =
     tie.close
     (tie.spec
     mul-from

@@ -1,12 +1,12 @@
 -- What a step of a call does to the whole supervisor: the record and the lists that it leaves, and the words that it sends.
--- Of general use: it belongs to the lowest crate that has both `Lists` and `Done`. Assumes nothing.
+-- Assumes nothing.
 use Prim.Native.Nat.{ℕ}
 use mathlib.Core.Path.{_≡_}
 use mathlib.Core.List.{List, [], _++_}
 use Rattle.slots.specs.declared.Inputs.{Inputs}
 use Rattle.commands.specs.declared.Sent.{Sent}
 use Rattle.commands.specs.Commands.{Done, Did}
 use Rattle.record.specs.Lent.{Lists}
 
 pub record Effect : Type 0 where
   pub inputs : Inputs

@@ -1,4 +1,4 @@
--- Every step keeps the settings: "All calls keep the settings of `new`". Of general use: it belongs to slots. Assumes nothing.
+-- Every step keeps the settings: "All calls keep the settings of `new`". Assumes nothing.
 use Prim.Native.Nat.{ℕ}
 use mathlib.Core.Path.{_≡_, refl, sym, ap, subst, _∙_}
 use Rattle.slots.specs.declared.Slot.{Slot}

@@ -1,8 +1,8 @@
-use Rattle.inputs_update.proofs.Numbers.{record-refused, input-missing, input-late, input-timely}
--- `inputs_update::input_number` meets its contract. Assumes nothing.
+use Rattle.record.proofs.Numbers.{record-refused, input-missing, input-late, input-timely}
+-- `record::input_checks` meets its contract. Assumes nothing.
 use borrow.Author.Needs.{needs}
-use Rattle.inputs_update.proofs.input_number.Statement.{statement}
-use Rattle.inputs_update.proofs.input_number.Tie as tie
+use Rattle.record.proofs.input_checks.Statement.{statement}
+use Rattle.record.proofs.input_checks.Tie as tie
 
 checks-requires : tie.Need-checks-requires
 checks-requires c κs = search needs
@@ -19,5 +19,5 @@ returns-3 c = input-late _ _ _ _ _ (c .before .before .before .before .checks .e
 returns-4 : tie.Need-returns-4
 returns-4 c = input-timely _ _ _ _ _ (c .before .before .before .before .checks .ensures .0) (c .before .before .before .if1 .left) (c .before .if2 .left) (c .if3 .left)
 
-pub input-number-spec : {M : Type 1} → statement M
-input-number-spec = tie.close (tie.spec checks-requires returns returns-2 returns-3 returns-4)
+pub input-checks-spec : {M : Type 1} → statement M
+input-checks-spec = tie.close (tie.spec checks-requires returns returns-2 returns-3 returns-4)

@@ -1,4 +1,4 @@
--- `set_delay` keeps a checked record checked. Of general use: it belongs to the lowest crate above set_delay and record. Assumes nothing.
+-- `set_delay` keeps a checked record checked. Assumes nothing.
 use Prim.Native.Nat.{ℕ, _<_, _≤_}
 use mathlib.Core.Path.{refl, sym, subst}
 use borrow.Author.Tests.{le-leb}

@@ -1,0 +1,3 @@
+-- Laws of clearing.
+pub mod Frames
+mod Parts

@@ -1,0 +1,2 @@
+-- The definitions that the contracts of `clearing` cite.
+pub mod Clearing

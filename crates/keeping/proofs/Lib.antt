@@ -1,0 +1,3 @@
+-- The steps on one input keep the settings, and a whole record whole.
+pub mod Settings
+pub mod Stored

@@ -1,0 +1,1 @@
+// Laws alone, no code: each step on one input keeps a whole record whole (proofs/).
