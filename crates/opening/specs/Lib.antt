@@ -1,2 +1,3 @@
 -- Opening a flow.
+pub mod Checks
 pub mod Opening

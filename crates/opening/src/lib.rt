@@ -1,5 +1,6 @@
 // Opening an input's flow: the slot once its reader is open, and the delay that it starts with.
 ghost use mathlib.Core.Path.{_≡_};
+ghost use Rattle.opening.specs.Checks.{readerFits};
 ghost use Rattle.opening.specs.Opening.{runningSlot, startsAnew, seededAt};
 use slots::Inode;
 use slots::Inputs;
@@ -21,6 +22,16 @@ pub struct World {
     pub made: bool,
     pub reader: Reader,
     pub head: u64,
+}
+
+// Has a reader that opens at most 64 channels (check 10)?
+pub fn reader_fits(reader: Reader) -> bool
+    ensures { λ r. ⌜ r ≡ readerFits reader ⌝ }
+{
+    let Reader::Open(channels) = reader else {
+        return true;
+    };
+    channels <= 64
 }
 
 // Inode and head are stored. A stalled input is still stalled until the head moves again.

@@ -1,0 +1,15 @@
+// A tick of all inputs (document 01, "Supervision").
+use opening::World;
+use slots::Inode;
+
+// What a tick brings for one input.
+pub struct Look {
+    // The inode that `watch` sees.
+    pub seen: Inode,
+    // What `try_open` sees.
+    pub world: World,
+    // The delay that the mixer applies.
+    pub applied: u32,
+    // How many of the tick's lags are its own.
+    pub lags: usize,
+}
