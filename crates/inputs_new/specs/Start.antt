@@ -7,7 +7,7 @@ use Rattle.slots.specs.declared.AutoTag.the-variants as AutoTag
 use Rattle.slots.specs.declared.ExtraDelay.{ExtraDelay}
 use Rattle.slots.specs.declared.ExtraDelay.the-variants.{Auto, Ms}
 use Rattle.slots.specs.declared.Inputs.{Inputs}
-use Rattle.slots.specs.Slots.{withConfig}
+use Rattle.slots.specs.Slots.{withConfig, withHead}
 use Rattle.slots.specs.Inputs.{slotAt, putSlot}
 use Rattle.commands.specs.Commands.{Done, quiet, first}
 use Rattle.set_delay.specs.SetDelay.{setDelayOf}
@@ -21,14 +21,14 @@ use Rattle.inputs_new.specs.Loading.{loadedBelow}
 unfoldable pub kindAt : List ExtraDelay → ℕ → ExtraDelay
 kindAt kinds i = getD kinds i (Auto AutoTag.Auto)
 
--- the kind of input i is stored
-abbrev pub kindStoredAt : (i : ℕ) → ExtraDelay → Inputs → Inputs
-kindStoredAt i kind s = putSlot s i (withConfig (slotAt s i) (record { «extra_delay» = kind }))
+-- the kind of input i is stored; its head, none yet, has the time of the call ("`Instant::now()` is the time of the call")
+abbrev pub madeAt : (i : ℕ) → ExtraDelay → (time : ℕ) → Inputs → Inputs
+madeAt i kind time s = putSlot s i (withHead (withConfig (slotAt s i) (record { «extra_delay» = kind })) 0 time)
 
 -- "A Ms input then gets `set_delay` with the smaller of `samples` and maximum"
 unfoldable pub startedOne : (i : ℕ) → ExtraDelay → (time : ℕ) → Inputs → Done
-startedOne i (Auto tag) time s = quiet (kindStoredAt i (Auto tag) s)
-startedOne i (Ms delay) time s = setDelayOf (kindStoredAt i (Ms delay) s) i (min (samplesOf delay) (s .policy .«delay_max»)) time
+startedOne i (Auto tag) time s = quiet (madeAt i (Auto tag) time s)
+startedOne i (Ms delay) time s = setDelayOf (madeAt i (Ms delay) time s) i (min (samplesOf delay) (s .policy .«delay_max»)) time
 
 -- what the second step does after the first: "Commands stand in sending order"
 abbrev pub thenDone : Done → (Inputs → Done) → Done
