@@ -1,0 +1,2 @@
+-- The third demand is met.
+pub mod Lifted
