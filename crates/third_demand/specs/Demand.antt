@@ -27,10 +27,11 @@ abbrev pub RunsOn : ℕ → Reply → Type 0
 RunsOn i r = goesOn (slotAt (r .inputs) i) ≡ true
 
 -- ---- "Then, whatever the calls bring, each is answered and recorded as the first two demands say"
--- the answers are those of the definitions (Calls.after); the record is whole after every list of calls, and no call is refused by number 6
+-- the answers are those of the definitions (Calls.after); the record is whole after every list of calls, and no call is refused by number 6,
+-- nor by one before it
 pub record Whole (night : Night) (calls : List Call) : Type 0 where
   pub record-whole : wholeRecord (left night calls .inputs) (left night calls .lists) ≡ true
-  pub never-six : (call : Call) → after (left night calls) call .number ≡ 6 → ⊥
+  pub beyond-six : (call : Call) → after (left night calls) call .number ≤ 6 → Accepted (left night calls) call
 
 abbrev pub StaysWhole : Type 0
 StaysWhole = (night : Night) (calls : List Call) → Admitted night calls → Whole night calls
