@@ -1,1 +1,3 @@
 -- Laws of `new`.
+pub mod Blank
+pub mod Loaded
