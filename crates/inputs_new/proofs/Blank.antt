@@ -1,21 +1,16 @@
 -- A record with its settings over zeroed lists passes checks 1 to 6: every window is fresh, every hold is, every place is unused. Assumes nothing.
-use Prim.Native.Nat.{ℕ, zero, suc, _+_, _-_, _*_, _<_, _≤_}
-use mathlib.Core.Bool.{true, false}
+use Prim.Native.Nat.{ℕ, zero, suc, _-_, _*_, _<_, _≤_}
+use mathlib.Core.Bool.{true}
 use mathlib.Core.Path.{_≡_, refl, sym, ap, subst, _∙_}
-use mathlib.Core.List.{List}
 use native.Mathlib.Omega.{arith}
 use native.Mathlib.Nat.{zero-sub, suc-sub-suc, sub-zero}
 use lib.ListN.{length, getD, take, drop, replicate, length-replicate}
-use lib.Ieee.{Float}
-use lib.IntN.{pos}
-use Rattle.base.specs.Choice.{pick}
 use Rattle.base.specs.Lists.{part}
 use Rattle.base.proofs.All.{all-none}
-use Rattle.base.proofs.Choices.{asked, pick-all}
+use Rattle.base.proofs.Choices.{pick-all}
 use Rattle.base.proofs.Points.{both-true, true-both}
 use lib.Dec.{ltb}
-use borrow.Author.Tests.{leb-true, le-leb}
-use Rattle.policy.specs.declared.DelayPolicy.{DelayPolicy}
+use borrow.Author.Tests.{le-leb}
 use Rattle.policy.specs.Settings.{marginsAllowed, percentAllowed}
 use Rattle.policy.proofs.Shares.{share-sound}
 use Rattle.doubles.proofs.Values.{is}
@@ -27,7 +22,6 @@ use Rattle.delay_hold.specs.Whole.{wholeHold}
 use Rattle.slots.specs.declared.Slot.{Slot}
 use Rattle.slots.specs.declared.FlowEntry.{FlowEntry}
 use Rattle.slots.specs.declared.Instance.{Instance}
-use Rattle.slots.specs.declared.Inputs.{Inputs}
 use Rattle.slots.specs.Slots.{emptySlot, emptyHold}
 use Rattle.slots.specs.Inputs.{slotAt}
 use Rattle.slots.proofs.Sized.{Sized}
@@ -37,7 +31,7 @@ use Rattle.instances.specs.Instances.{noKey, keyAt, distinctKeys}
 use Rattle.record.specs.Lent.{Lists, bucketsIn, windowOf, heldOf}
 use Rattle.record.specs.Places.{routeFits}
 use Rattle.record.specs.Checks.{Long, Fitting, Allowed}
-use Rattle.record.proofs.Facts.{WholeSlot, WholeInput, WholeFlows, WholeInstances}
+use Rattle.record.proofs.Facts.{WholeSlot, WholeFlows, WholeInstances}
 use Rattle.record.proofs.Checked.{Checked}
 use Rattle.record.proofs.Blocks.{block-within}
 use Rattle.record.proofs.Shapes.{fresh-whole, cleared-whole}

@@ -1,24 +1,21 @@
 -- Loading delays: the record stays checked, and only the flow table changes, not its unsaved mark. Assumes nothing.
-use Prim.Native.Nat.{ℕ, zero, suc, _+_, _<_, _≤_}
+use Prim.Native.Nat.{ℕ, zero, suc, _<_}
 use mathlib.Core.Bool.{Bool, true}
 use mathlib.Core.Path.{_≡_, refl, sym, ap, subst, _∙_}
 use mathlib.Core.List.{List}
 use native.Mathlib.Omega.{arith}
 use lib.Dec.{ltb}
 use lib.ListN.{getD}
-use Rattle.base.specs.Choice.{pick}
-use Rattle.base.specs.Lists.{all}
 use Rattle.base.proofs.Choices.{pick-all}
 use Rattle.base.proofs.Points.{all-at}
 use Rattle.slots.specs.declared.Flow.{Flow}
 use Rattle.slots.specs.declared.Inputs.{Inputs}
-use Rattle.slots.specs.Inputs.{slotAt, withFlows}
-use Rattle.flows.specs.Flows.{admits, enrolled, placeOf, recalled, kept, differs, marked, remembered}
+use Rattle.slots.specs.Inputs.{withFlows}
+use Rattle.flows.specs.Flows.{admits, enrolled, placeOf, recalled, kept, differs, remembered}
 use Rattle.flows.proofs.Table.{enrolled-rest, enrolled-place, enrolled-known}
 use Rattle.record.specs.Lent.{Lists}
 use Rattle.record.proofs.Checked.{Checked}
 use Rattle.record.proofs.Tables.{enrol-keeps, remember-keeps, mark-keeps}
-use Rattle.keeping.proofs.Settings.{SameSettings, settings-then}
 use Rattle.inputs_new.specs.Loading.{loadedFlow, loadedOne, loadedBelow, loadFits}
 
 -- ---- a delay is stored
