@@ -1,1 +1,2 @@
 -- Laws of what the commands tell.
+pub mod Words
