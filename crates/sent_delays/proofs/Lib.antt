@@ -1,2 +1,3 @@
 -- Laws of what the commands tell.
 pub mod Words
+pub mod Steps
