@@ -55,6 +55,11 @@ pub tells-followed : (s : Inputs) (effect : Effect) (next : Inputs → Lists →
 unfolding followedBy
 tells-followed s effect next f g = tells-then f g
 
+-- the record changes once more, with nothing sent
+pub tells-changed : {s m z : Inputs} {words : List ℕ} → Tells s m words → Tells m z [] → Tells s z words
+unfolding lastDelay
+tells-changed f g = record { sized = g .sized; whole = f .whole; delays = λ j l. g .delays j l ∙ f .delays j l }
+
 -- ---- a step without words that leaves every slot as it was
 pub tells-same : {s z : Inputs} → Sized z → ((j : ℕ) → slotAt z j ≡ slotAt s j) → Tells s z []
 unfolding lastDelay
