@@ -1,1 +1,5 @@
 -- Laws of what the commands tell.
+pub mod Words
+pub mod Steps
+pub mod Ticks
+pub mod Settings
