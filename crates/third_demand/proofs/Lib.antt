@@ -6,3 +6,4 @@ pub mod Runs
 pub mod Stretches
 pub mod Beyond
 pub mod Theorem
+pub mod Lengths
