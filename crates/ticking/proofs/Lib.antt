@@ -1,1 +1,6 @@
 -- Laws of `tick`.
+pub mod Following
+pub mod Looking
+pub mod Asking
+pub mod Besides
+pub mod Turns
