@@ -1,5 +1,13 @@
 -- Laws of `tick`.
+pub mod Following
 pub mod Looking
 pub mod Looked
 pub mod Same
 pub mod Frames
+pub mod Asking
+pub mod Besides
+pub mod Turns
+pub mod Counters
+pub mod Accepted
+pub mod Keeps
+pub mod Proposals

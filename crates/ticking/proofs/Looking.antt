@@ -1,8 +1,7 @@
 -- An input is looked at: the cases as the code goes, what stays, and that the input is ready after it. Assumes nothing.
-use Prim.Native.Nat.{ℕ, _+_, _*_, _<_, _≤_}
+use Prim.Native.Nat.{ℕ, _*_, _<_, _≤_}
 use mathlib.Core.Bool.{true}
 use mathlib.Core.Path.{_≡_, refl, sym, ap, subst, _∙_}
-use mathlib.Core.List.{List}
 use native.Mathlib.Omega.{arith}
 use borrow.Author.Tests.{eq-eqb, ne-eqb, le-leb, lt-leb}
 use lib.Dec.{leb, eqb}
@@ -10,7 +9,7 @@ use Rattle.base.specs.Limits.{timeLimit}
 use Rattle.base.specs.Lists.{part}
 use Rattle.base.proofs.Choices.{yes-pick, no-pick, pick-all}
 use Rattle.lag_window.specs.Whole.{wholeWindow}
-use Rattle.delay_hold.specs.Next.{held, seededHold}
+use Rattle.delay_hold.specs.Next.{held}
 use Rattle.delay_hold.specs.Whole.{wholeHold}
 use Rattle.delay_hold.proofs.Marks.{seeded-whole}
 use Rattle.slots.specs.declared.State.the-variants.{Stalled}

@@ -3,3 +3,4 @@ pub mod Looks
 pub mod Checks
 pub mod Tick
 pub mod Reply
+pub mod Asked

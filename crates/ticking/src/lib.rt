@@ -2,6 +2,9 @@
 use opening::World;
 use slots::Inode;
 
+// Functions that ask something of their caller; the crate above uses them after its checks.
+pub mod core;
+
 // What a tick brings for one input.
 pub struct Look {
     // The inode that `watch` sees.
