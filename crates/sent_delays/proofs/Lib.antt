@@ -3,3 +3,5 @@ pub mod Words
 pub mod Steps
 pub mod Ticks
 pub mod Settings
+pub mod Starts
+pub mod Calls

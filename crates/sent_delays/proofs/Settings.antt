@@ -1,9 +1,7 @@
 -- `route`, `update` and `confirm_delay` tell the delays. Assumes nothing.
 use Prim.Native.Nat.{ℕ, _<_}
-use mathlib.Core.Bool.{true, false}
 use mathlib.Core.Path.{_≡_, refl, ap}
 use mathlib.Core.List.{[]}
-use Rattle.base.specs.Choice.{pick}
 use Rattle.base.proofs.Choices.{by-bool, pick-all}
 use Rattle.doubles.specs.Doubles.{samplesOf}
 use Rattle.slots.specs.declared.ExtraDelay.{ExtraDelay}
@@ -27,7 +25,7 @@ use Rattle.inputs_route.specs.declared.Wanted.{Wanted}
 use Rattle.inputs_route.specs.declared.Wanted.the-variants as Wanted
 use Rattle.inputs_route.specs.Route.{enrolledFor, routeFor, equalRoute, startsOver, forgetting, zeroing, startedOver, routedSlot, openedFor, moved, rerouted, routedTo, routed}
 use Rattle.inputs_update.specs.Update.{kindStored, delaySet, updated, taken, confirmedBy, confirmed}
-use Rattle.sent_delays.proofs.Steps.{Tells, TellsDone, TellsEffect, tells-then, tells-followed, tells-same, tells-none, tells-quiet, tells-put, tells-zeroed, tells-cleared, tells-set, tells-open}
+use Rattle.sent_delays.proofs.Steps.{Tells, TellsDone, TellsEffect, tells-then, tells-same, tells-none, tells-quiet, tells-put, tells-zeroed, tells-cleared, tells-set, tells-open}
 
 -- enrolling a flow changes no slot
 pub tells-enrolled : (s : Inputs) (flow : Flow) → Sized s → Tells s (enrolled s flow) []

@@ -15,7 +15,7 @@ use Rattle.slots.specs.Inputs.{slotAt, putSlot}
 use Rattle.slots.proofs.Frame.{slot-same, slot-other}
 use Rattle.slots.proofs.Sized.{Sized, sized-put}
 use Rattle.commands.specs.Commands.{Done, setInput, clearInput, setDelay, quiet, first}
-use Rattle.set_delay.specs.SetDelay.{delayStored, setDelayOf}
+use Rattle.set_delay.specs.SetDelay.{setDelayOf}
 use Rattle.set_delay.proofs.Stored.{stored-same, stored-other, stored-sized}
 use Rattle.opening.specs.declared.World.{World}
 use Rattle.opening.specs.Opening.{runningSlot, openedSlot, tryOpenOf}

@@ -1,12 +1,10 @@
 -- What lists of whole commands tell: one list after another, zeros, and each kind of command. Assumes nothing.
 use Prim.Native.Nat.{ℕ, zero, suc, _-_}
-use mathlib.Core.Bool.{true, false}
-use mathlib.Core.Path.{_≡_, refl, sym, ap, _∙_}
+use mathlib.Core.Path.{_≡_, refl, sym, _∙_}
 use mathlib.Core.List.{List, [], _∷_, _++_}
-use lib.Dec.{eqb}
 use lib.ListN.{length, replicate}
 use borrow.Author.Tests.{eq-eqb, ne-eqb}
-use Rattle.base.specs.Choice.{pick, both}
+use Rattle.base.specs.Choice.{both}
 use Rattle.base.specs.Lists.{padded}
 use Rattle.base.proofs.Choices.{yes-pick, no-pick}
 use Rattle.commands.specs.Commands.{setInput, clearInput, setDelay}
