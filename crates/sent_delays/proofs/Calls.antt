@@ -40,7 +40,7 @@ use Rattle.sent_delays.specs.Last.{lastDelay}
 use Rattle.sent_delays.proofs.Words.{last-padded}
 use Rattle.sent_delays.proofs.Steps.{TellsEffect}
 use Rattle.sent_delays.proofs.Ticks.{tells-ticked}
-use Rattle.sent_delays.proofs.Settings.{tells-routed, tells-updated, tells-confirmed}
+use Rattle.sent_delays.proofs.OneInput.{tells-routed, tells-updated, tells-confirmed}
 use Rattle.sent_delays.proofs.Starts.{blank-delay, tells-started}
 
 -- What a call on the record s leaves: an accepted one tells every delay, a refused one leaves it as it was.

@@ -17,14 +17,14 @@ use Rattle.slots.specs.Inputs.{slotAt}
 use Rattle.slots.proofs.Sized.{Sized}
 use Rattle.flows.specs.Flows.{emptyEntry, enrolled, placeOf, kept}
 use Rattle.instances.specs.Instances.{noKey}
-use Rattle.commands.specs.Commands.{quiet, first}
+use Rattle.commands.specs.Commands.{quiet}
 use Rattle.record.specs.Lent.{Lists}
 use Rattle.inputs_new.specs.declared.Settings.{Settings}
 use Rattle.inputs_new.specs.Fresh.{blank, blankFor}
 use Rattle.inputs_new.specs.Loading.{loadedFlow, loadedOne, loadedBelow}
 use Rattle.inputs_new.specs.Start.{kindAt, madeAt, startedOne, startedBelow, loaded, started}
-use Rattle.sent_delays.proofs.Steps.{Tells, TellsDone, TellsEffect, tells-then, tells-same, tells-none, tells-put, tells-set}
-use Rattle.sent_delays.proofs.Settings.{tells-enrolled}
+use Rattle.sent_delays.proofs.Steps.{Tells, TellsDone, TellsEffect, tells-then, tells-first, tells-same, tells-none, tells-put, tells-set}
+use Rattle.sent_delays.proofs.OneInput.{tells-enrolled}
 
 -- ---- "the remembered delays that the host loaded": no slot changes
 pub tells-kept : (s : Inputs) (place delay : ℕ) → Sized s → Tells s (kept s place delay) []
@@ -53,11 +53,11 @@ tells-started-one i input (Ms delay) time s h =
     tells-then f (tells-set i input (madeAt i (Ms delay) time s) (f .sized) (min (samplesOf delay) (s .policy .«delay_max»)) time)
 
 pub tells-started-below : (n : ℕ) → n ≤ 16 → (kinds : List ExtraDelay) (time : ℕ) (s : Inputs) → Sized s → TellsDone s (startedBelow n kinds time s)
-unfolding startedBelow quiet first
+unfolding startedBelow quiet
 tells-started-below zero most kinds time s h = tells-none h
 tells-started-below (suc n) most kinds time s h =
     let f = tells-started-below n (omega arith) kinds time s h in
-    tells-then f (tells-started-one n (omega arith) (kindAt kinds n) time _ (f .sized))
+    tells-first _ _ f (tells-started-one n (omega arith) (kindAt kinds n) time _ (f .sized))
 
 -- ---- from fresh
 pub blank-sized : (settings : Settings) → Sized (blankFor settings)
