@@ -54,12 +54,12 @@ module _ (i before input word : ℕ) where
   unfolding lastDelay delayTold both
   last-clear-input = refl
 
-  -- SetDelay tells its samples to its input
-  pub last-own : i ≡ input → lastDelay i before (setDelay input word) ≡ word
-  unfolding lastDelay delayTold both
-  last-own e = yes-pick _ _ (eq-eqb _ _ (sym e))
-
-  -- .. and nothing to another
+  -- SetDelay tells nothing to another input
   pub last-other : (i ≡ input → ⊥) → lastDelay i before (setDelay input word) ≡ before
   unfolding lastDelay delayTold both
   last-other apart = no-pick _ _ (ne-eqb _ _ (λ e. apart (sym e)))
+
+  -- .. and its samples to its own
+  pub last-own : i ≡ input → lastDelay i before (setDelay input word) ≡ word
+  unfolding lastDelay delayTold both
+  last-own e = yes-pick _ _ (eq-eqb _ _ (sym e))
