@@ -2,4 +2,6 @@
 pub mod Words
 pub mod Steps
 pub mod Ticks
-pub mod Settings
+pub mod OneInput
+pub mod Starts
+pub mod Calls

@@ -15,7 +15,7 @@ use Rattle.slots.specs.Inputs.{slotAt, putSlot}
 use Rattle.slots.proofs.Frame.{slot-same, slot-other}
 use Rattle.slots.proofs.Sized.{Sized, sized-put}
 use Rattle.commands.specs.Commands.{Done, setInput, clearInput, setDelay, quiet, first}
-use Rattle.set_delay.specs.SetDelay.{delayStored, setDelayOf}
+use Rattle.set_delay.specs.SetDelay.{setDelayOf}
 use Rattle.set_delay.proofs.Stored.{stored-same, stored-other, stored-sized}
 use Rattle.opening.specs.declared.World.{World}
 use Rattle.opening.specs.Opening.{runningSlot, openedSlot, tryOpenOf}
@@ -54,6 +54,11 @@ pub tells-followed : (s : Inputs) (effect : Effect) (next : Inputs → Lists →
     → TellsEffect s (followedBy effect next)
 unfolding followedBy
 tells-followed s effect next f g = tells-then f g
+
+-- the words are sent first, then what follows
+pub tells-first : {s m : Inputs} (words : List ℕ) (done : Done) → Tells s m words → TellsDone m done → TellsDone s (first words done)
+unfolding first
+tells-first words done f g = tells-then f g
 
 -- the record changes once more, with nothing sent
 pub tells-changed : {s m z : Inputs} {words : List ℕ} → Tells s m words → Tells m z [] → Tells s z words
@@ -139,12 +144,12 @@ module _ (i : ℕ) (input : i < 16) (s : Inputs) (sized : Sized s) where
   tells-put slot same = put-own slot (own-silent i (slotAt s i .delay) slot same)
 
   -- .. with this delay, and its SetDelay
-  pub tells-zeroed : (slot : Slot) (delay : ℕ) → slot .delay ≡ delay → Tells s (putSlot s i slot) (setDelay i delay)
-  tells-zeroed slot delay is-delay = put-own slot (own-set i (slotAt s i .delay) slot delay is-delay)
+  pub tells-put-delay : (slot : Slot) (delay : ℕ) → slot .delay ≡ delay → Tells s (putSlot s i slot) (setDelay i delay)
+  tells-put-delay slot delay is-delay = put-own slot (own-set i (slotAt s i .delay) slot delay is-delay)
 
   -- ClearInput tells nothing
-  pub tells-cleared : (forget : ℕ) → Tells s s (clearInput i forget)
-  tells-cleared forget = tells-own i sized (λ j apart. refl) (own-cleared i (slotAt s i .delay) (slotAt s i) refl forget)
+  pub tells-clear-input : (forget : ℕ) → Tells s s (clearInput i forget)
+  tells-clear-input forget = tells-own i sized (λ j apart. refl) (own-cleared i (slotAt s i .delay) (slotAt s i) refl forget)
 
   -- "`set_delay` stores, .., sends SetDelay."
   pub tells-set : (delay time : ℕ) → TellsDone s (setDelayOf s i delay time)

@@ -12,18 +12,17 @@ use Rattle.delay_hold.specs.Next.{Decided}
 use Rattle.slots.specs.declared.Slot.{Slot}
 use Rattle.slots.specs.declared.Inputs.{Inputs}
 use Rattle.slots.specs.Slots.{stateNumber, withHold}
-use Rattle.slots.specs.Inputs.{slotAt, putSlot}
+use Rattle.slots.specs.Inputs.{slotAt}
 use Rattle.slots.proofs.Sized.{Sized}
-use Rattle.commands.specs.Commands.{Done, quiet}
+use Rattle.commands.specs.Commands.{quiet}
 use Rattle.instances.specs.declared.Extra.{Extra}
 use Rattle.instances.specs.declared.Extra.the-variants.{Nothing}
 use Rattle.instances.specs.Instances.{pruned}
 use Rattle.instances.proofs.Keys.{pruned-sized, pruned-rest}
-use Rattle.opening.specs.Opening.{tryOpenOf}
 use Rattle.record.specs.Lent.{Lists}
-use Rattle.record.specs.Effects.{Effect, silent, beside}
+use Rattle.record.specs.Effects.{beside}
 use Rattle.auto_delay.specs.Arrival.{arrived, largestOf, lateEvent}
-use Rattle.auto_delay.specs.Auto.{nextFor, changing, answered, decidedFor, interrupted, goesOn, autoDelayed}
+use Rattle.auto_delay.specs.Auto.{nextFor, changing, answered, decidedFor, goesOn, autoDelayed}
 use Rattle.ticking.specs.declared.Look.{Look}
 use Rattle.ticking.specs.Looks.{lookAt, lagsOf}
 use Rattle.ticking.specs.Tick.{heard, looked, tickedInput, tickedBelow, tickedAll, saved, lastly, ticked}

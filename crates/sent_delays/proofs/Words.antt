@@ -1,12 +1,10 @@
 -- What lists of whole commands tell: one list after another, zeros, and each kind of command. Assumes nothing.
 use Prim.Native.Nat.{ℕ, zero, suc, _-_}
-use mathlib.Core.Bool.{true, false}
-use mathlib.Core.Path.{_≡_, refl, sym, ap, _∙_}
+use mathlib.Core.Path.{_≡_, refl, sym, _∙_}
 use mathlib.Core.List.{List, [], _∷_, _++_}
-use lib.Dec.{eqb}
 use lib.ListN.{length, replicate}
 use borrow.Author.Tests.{eq-eqb, ne-eqb}
-use Rattle.base.specs.Choice.{pick, both}
+use Rattle.base.specs.Choice.{both}
 use Rattle.base.specs.Lists.{padded}
 use Rattle.base.proofs.Choices.{yes-pick, no-pick}
 use Rattle.commands.specs.Commands.{setInput, clearInput, setDelay}
@@ -56,12 +54,12 @@ module _ (i before input word : ℕ) where
   unfolding lastDelay delayTold both
   last-clear-input = refl
 
-  -- SetDelay tells its samples to its input
-  pub last-own : i ≡ input → lastDelay i before (setDelay input word) ≡ word
-  unfolding lastDelay delayTold both
-  last-own e = yes-pick _ _ (eq-eqb _ _ (sym e))
-
-  -- .. and nothing to another
+  -- SetDelay tells nothing to another input
   pub last-other : (i ≡ input → ⊥) → lastDelay i before (setDelay input word) ≡ before
   unfolding lastDelay delayTold both
   last-other apart = no-pick _ _ (ne-eqb _ _ (λ e. apart (sym e)))
+
+  -- .. and its samples to its own
+  pub last-own : i ≡ input → lastDelay i before (setDelay input word) ≡ word
+  unfolding lastDelay delayTold both
+  last-own e = yes-pick _ _ (eq-eqb _ _ (sym e))

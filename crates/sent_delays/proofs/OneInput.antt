@@ -1,9 +1,7 @@
 -- `route`, `update` and `confirm_delay` tell the delays. Assumes nothing.
 use Prim.Native.Nat.{ℕ, _<_}
-use mathlib.Core.Bool.{true, false}
 use mathlib.Core.Path.{_≡_, refl, ap}
 use mathlib.Core.List.{[]}
-use Rattle.base.specs.Choice.{pick}
 use Rattle.base.proofs.Choices.{by-bool, pick-all}
 use Rattle.doubles.specs.Doubles.{samplesOf}
 use Rattle.slots.specs.declared.ExtraDelay.{ExtraDelay}
@@ -27,7 +25,7 @@ use Rattle.inputs_route.specs.declared.Wanted.{Wanted}
 use Rattle.inputs_route.specs.declared.Wanted.the-variants as Wanted
 use Rattle.inputs_route.specs.Route.{enrolledFor, routeFor, equalRoute, startsOver, forgetting, zeroing, startedOver, routedSlot, openedFor, moved, rerouted, routedTo, routed}
 use Rattle.inputs_update.specs.Update.{kindStored, delaySet, updated, taken, confirmedBy, confirmed}
-use Rattle.sent_delays.proofs.Steps.{Tells, TellsDone, TellsEffect, tells-then, tells-followed, tells-same, tells-none, tells-quiet, tells-put, tells-zeroed, tells-cleared, tells-set, tells-open}
+use Rattle.sent_delays.proofs.Steps.{Tells, TellsDone, TellsEffect, tells-then, tells-same, tells-none, tells-quiet, tells-put, tells-put-delay, tells-clear-input, tells-set, tells-open}
 
 -- enrolling a flow changes no slot
 pub tells-enrolled : (s : Inputs) (flow : Flow) → Sized s → Tells s (enrolled s flow) []
@@ -40,9 +38,9 @@ tells-wanted s (Wanted.From source) h = tells-enrolled s (source .flow) h
 
 module _ (i : ℕ) (input : i < 16) (time : ℕ) where
   -- window and hold are cleared, in a slot with the input's delay
-  pub tells-clearing : (slot : Slot) (s : Inputs) (l : Lists) → Sized s → slot .delay ≡ slotAt s i .delay → TellsEffect s (cleared i slot s l)
+  pub tells-cleared : (slot : Slot) (s : Inputs) (l : Lists) → Sized s → slot .delay ≡ slotAt s i .delay → TellsEffect s (cleared i slot s l)
   unfolding cleared
-  tells-clearing slot s l h same = tells-put i input s h _ same
+  tells-cleared slot s l h same = tells-put i input s h _ same
 
   -- ---- a delay is set, in a slot with the input's delay
   pub tells-delay-set : (slot : Slot) (delay : ℕ) (s : Inputs) → Sized s → slot .delay ≡ slotAt s i .delay → TellsDone s (delaySet i slot delay time s)
@@ -55,7 +53,7 @@ module _ (i : ℕ) (input : i < 16) (time : ℕ) where
   pub tells-updated : (kind : ExtraDelay) (s : Inputs) (l : Lists) → Sized s → TellsEffect s (updated i kind time s l)
   unfolding updated
   tells-updated (Ms delay) s l h = tells-delay-set (kindStored (slotAt s i) (Ms delay)) (samplesOf delay) s h refl
-  tells-updated (Auto tag) s l h = tells-clearing (kindStored (slotAt s i) (Auto tag)) s l h refl
+  tells-updated (Auto tag) s l h = tells-cleared (kindStored (slotAt s i) (Auto tag)) s l h refl
 
   -- ---- `confirm_delay`
   tells-confirmed-by : (proposal : Proposal) (s : Inputs) (l : Lists) → Sized s → TellsEffect s (confirmedBy proposal i time s l)
@@ -70,14 +68,14 @@ module _ (i : ℕ) (input : i < 16) (time : ℕ) where
   -- an old route sends ClearInput, which tells nothing
   tells-forgetting : (old : Routed) (s : Inputs) → Sized s → Tells s s (forgetting i old)
   tells-forgetting Nowhere s h = tells-none h
-  tells-forgetting (To old) s h = tells-cleared i input s h 1
+  tells-forgetting (To old) s h = tells-clear-input i input s h 1
 
   -- "another flow, automatic, delay not 0: delay 0, .. SetDelay 0"; else the delay stays
   tells-over : (new : Routed) (s : Inputs) → Sized s → Tells s (putSlot s i (clearedSlot (routedSlot new time (slotAt s i)))) (zeroing i new (slotAt s i))
   unfolding zeroing routedSlot startedOver
   tells-over new s h =
       by-bool (startsOver new (slotAt s i))
-      (λ e. rw e (tells-zeroed i input s h _ 0 refl))
+      (λ e. rw e (tells-put-delay i input s h _ 0 refl))
       (λ e. rw e (tells-put i input s h _ refl))
 
   tells-opened-for : (new : Routed) (world : World) (s : Inputs) → Sized s → TellsDone s (openedFor new i time world s)
