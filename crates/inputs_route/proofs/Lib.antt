@@ -1,1 +1,4 @@
 -- Laws of `route`.
+mod Cases
+pub mod Enrolling
+mod Replies
