@@ -1,2 +1,4 @@
 -- The third demand is met.
 pub mod Lifted
+pub mod CallViews
+pub mod UpdateViews
