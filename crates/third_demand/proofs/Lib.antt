@@ -2,3 +2,4 @@
 pub mod Lifted
 pub mod CallViews
 pub mod UpdateViews
+pub mod RouteViews
