@@ -1,6 +1,6 @@
 -- What an accepted call on one input leaves of every input's window, hold and delay: laws for each such call. Assumes nothing.
 use Prim.Native.Nat.{ℕ, _<_}
-use mathlib.Core.Path.{_≡_, sym, ap, subst, _∙_}
+use mathlib.Core.Path.{_≡_, refl, sym, ap, subst, _∙_}
 use mathlib.Core.List.{[]}
 use lib.Dec.{eqb}
 use lib.ListN.{length, length-replicate}
@@ -19,7 +19,7 @@ use Rattle.record.specs.Checks.{Fitting}
 use Rattle.record.proofs.Beside.{Beside, beside-window, window-same, held-same}
 use Rattle.record.proofs.Shapes.{held-times, held-lags}
 use Rattle.clearing.specs.Clearing.{clearedSlot, clearedLists}
-use Rattle.keeping.proofs.Settings.{SameSettings}
+use Rattle.keeping.proofs.Settings.{SameSettings, settings-then}
 use Rattle.history.specs.View.{InputView}
 use Rattle.history.specs.Events.{history}
 use Rattle.third_demand.proofs.Lifted.{viewOf, Lifted}
@@ -51,6 +51,11 @@ module _ (s z : Inputs) (same : SameSettings s z) where
     held = heldFor m i (is-slot t);
     delay = is-slot t .delay;
   }
+
+  -- the lists still fit
+  pub fitting-same : (l : Lists) → Fitting s l → Fitting z l
+  unfolding bucketsIn
+  fitting-same l f = subst (λ (x : Inputs). Fitting x l) (sym same) (record { allowed = f .allowed; long = f .long })
 
   -- .. of an input whose slot and lists stay
   pub view-other : (l m : Lists) (i j : ℕ) → Beside (s .count) (bucketsIn s) i l m → j < s .count → (j ≡ i → ⊥) → slotAt z j ≡ slotAt s j → viewOf z m j ≡ viewOf s l j
@@ -105,6 +110,36 @@ pub record CallOn (i time : ℕ) (s : Inputs) (l : Lists) (z : Inputs) (m : List
   pub reopens : slotAt z i .reopens ≡ slotAt s i .reopens
   pub changes : slotAt z i .«delay_changes» ≡ slotAt s i .«delay_changes»
   pub lates : slotAt z i .«late_events» ≡ slotAt s i .«late_events»
+
+-- nothing is done
+pub call-none : (i time : ℕ) (s : Inputs) (l : Lists) → CallOn i time s l s l
+call-none i time s l = record {
+  settings = refl;
+  lifted = lifted-none (s .policy) time (viewOf s l i) (viewOf s l i) refl;
+  other-slot = λ j apart. refl;
+  other-view = λ j there apart. refl;
+  proposed = λ none. none;
+  reopens = refl;
+  changes = refl;
+  lates = refl;
+}
+
+-- a step before it leaves the settings and every slot
+module _ (i time : ℕ) (s : Inputs) (l : Lists) (y : Inputs) (same : SameSettings s y) (slots : (j : ℕ) → slotAt y j ≡ slotAt s j) where
+  before : (j : ℕ) → viewOf y l j ≡ viewOf s l j
+  before j = view-own s y same l j (slotAt s j) (slots j)
+
+  pub call-from : (z : Inputs) (m : Lists) → CallOn i time y l z m → CallOn i time s l z m
+  call-from z m call = record {
+    settings = settings-then s y z same (call .settings);
+    lifted = subst (λ (view : InputView). Lifted (s .policy) time view (viewOf z m i)) (before i) (subst (λ (policy : DelayPolicy). Lifted policy time (viewOf y l i) (viewOf z m i)) (same-policy s y same) (call .lifted));
+    other-slot = λ j apart. call .other-slot j apart ∙ slots j;
+    other-view = λ j there apart. call .other-view j (subst (λ (x : Inputs). j < x .count) (sym same) there) apart ∙ before j;
+    proposed = λ none. call .proposed (ap (λ (x : Slot). x .proposed) (slots i) ∙ none);
+    reopens = call .reopens ∙ ap (λ (x : Slot). x .reopens) (slots i);
+    changes = call .changes ∙ ap (λ (x : Slot). x .«delay_changes») (slots i);
+    lates = call .lates ∙ ap (λ (x : Slot). x .«late_events») (slots i);
+  }
 
 module _ (i time : ℕ) (s : Inputs) (l : Lists) (z : Inputs) (m : Lists) (call : CallOn i time s l z m) where
   -- of every input
