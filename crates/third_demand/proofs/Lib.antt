@@ -3,3 +3,4 @@ pub mod Lifted
 pub mod CallViews
 pub mod UpdateViews
 pub mod RouteViews
+pub mod NewViews
