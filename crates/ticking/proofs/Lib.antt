@@ -3,3 +3,7 @@ pub mod Looking
 pub mod Looked
 pub mod Same
 pub mod Frames
+pub mod Counters
+pub mod Accepted
+pub mod Keeps
+pub mod Proposals
