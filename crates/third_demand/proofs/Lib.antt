@@ -4,3 +4,5 @@ pub mod CallViews
 pub mod UpdateViews
 pub mod RouteViews
 pub mod NewViews
+pub mod Lived
+pub mod Runs
