@@ -1,6 +1,12 @@
 -- Laws of `tick`.
-pub mod Following
 pub mod Looking
+pub mod Looked
+pub mod Same
+pub mod Frames
+pub mod Counters
+pub mod Accepted
+pub mod Following
 pub mod Asking
-pub mod Besides
 pub mod Turns
+pub mod Keeps
+pub mod Proposals
