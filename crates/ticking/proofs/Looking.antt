@@ -27,7 +27,7 @@ use Rattle.watching.proofs.Frame.{watch-leaves}
 use Rattle.watching.proofs.Outcomes.{watch-outcomes}
 use Rattle.record.specs.Lent.{Lists, bucketsIn, heldFor}
 use Rattle.record.specs.Places.{proposalFits}
-use Rattle.keeping.proofs.Settings.{SameSettings}
+use Rattle.keeping.proofs.Settings.{SameSettings, settings-frame}
 use Rattle.auto_delay.specs.Asked.{Ready}
 use Rattle.auto_delay.proofs.Readiness.{ready-low}
 use Rattle.ticking.specs.declared.Look.{Look}
@@ -58,21 +58,6 @@ looked-leaves i look time s =
     pick-all (λ (done : Done). Frame i s (done .inputs)) (eqb (stateNumber (slotAt s i .state)) 1)
     (open-leaves i s time (look .world))
     (pick-all (λ (done : Done). Frame i s (done .inputs)) (leb 2 (stateNumber (slotAt s i .state))) (watch-leaves i s time (look .seen) (look .world)) (leaves-quiet i s))
-
-pub frame-settings : (i : ℕ) (s z : Inputs) → Frame i s z → SameSettings s z
-frame-settings i s z f = λ t. record {
-  count = f .count t;
-  policy = f .policy t;
-  width = f .width t;
-  stall = f .stall t;
-  confirm = f .confirm t;
-  slots = z .slots;
-  flows = z .flows;
-  «flow_count» = z .«flow_count»;
-  unsaved = z .unsaved;
-  instances = z .instances;
-  «instance_count» = z .«instance_count»;
-}
 
 -- ---- what of a slot a tick's last step reads
 pub record SameParts (old new : Slot) : Type 0 where
@@ -204,4 +189,4 @@ module _ (s : Inputs) (l : Lists) (i : ℕ) (r : Ready s l i) where
       })
 
   pub looked-ready : (time : ℕ) → time ≤ timeLimit → Sized s → (look : Look) → Ready (looked i look time s .inputs) l i
-  looked-ready time soon sized look = fits-ready (looked i look time s .inputs) (frame-settings i s _ (looked-leaves i look time s)) (looked-fits time soon sized look)
+  looked-ready time soon sized look = fits-ready (looked i look time s .inputs) (settings-frame i s _ (looked-leaves i look time s)) (looked-fits time soon sized look)

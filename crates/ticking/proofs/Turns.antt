@@ -1,43 +1,42 @@
 -- The inputs in order, as the loop goes: one turn is one step more. Assumes nothing.
-use Prim.Native.Nat.{ℕ, zero, suc, _+_, _*_, _<_, _≤_}
+use Prim.Native.Nat.{ℕ, _+_, _*_, _<_, _≤_}
 use mathlib.Core.Bool.{true}
 use mathlib.Core.Path.{_≡_, refl, sym, ap, subst, _∙_}
 use mathlib.Core.List.{List}
 use native.Mathlib.Numerals.{add-one}
-use native.Mathlib.Nat.{not-suc-le-zero}
 use native.Mathlib.Omega.{arith}
-use lib.ListN.{length, length-take, length-drop}
+use lib.ListN.{length}
 use Rattle.base.specs.Lists.{part, sum}
-use Rattle.base.proofs.Choices.{by-le}
+use Rattle.lag_window.specs.Window.{Window}
 use Rattle.lag_window.specs.Checks.{roomFor}
+use Rattle.slots.specs.declared.Slot.{Slot}
 use Rattle.slots.specs.declared.Inputs.{Inputs}
 use Rattle.slots.proofs.Sized.{Sized}
 use Rattle.commands.specs.declared.Sent.{Sent}
-use Rattle.record.specs.Lent.{Lists, windowOf}
+use Rattle.record.specs.Lent.{Lists, bucketsIn, windowOf}
+use Rattle.record.specs.Checks.{Long}
 use Rattle.record.specs.Effects.{Effected}
 use Rattle.record.proofs.Effects.{effected-silent}
+use Rattle.keeping.proofs.Settings.{SameSettings}
 use Rattle.ticking.specs.declared.Look.{Look}
 use Rattle.ticking.specs.Looks.{lookAt, lagsBefore, lagsOf}
 use Rattle.ticking.specs.Tick.{tickedInput, tickedBelow}
 use Rattle.ticking.specs.Asked.{InputAsked, InputsAsked}
 use Rattle.ticking.proofs.Following.{effected-then}
-use Rattle.ticking.proofs.Besides.{asked-beside, ticked-settings, ticked-other, ticked-sized, ticked-beside}
+use Rattle.ticking.proofs.Same.{SameInput, ready-same}
+use Rattle.ticking.proofs.Frames.{input-settings, input-sized, input-beside, input-same}
+use Rattle.ticking.proofs.Accepted.{before-more, before-within, lags-long}
 
--- ---- the lags of the inputs
--- those of the inputs before i, and its own, are among those of the first n
-pub lags-within : (looks : List Look) (i n : ℕ) → i < n → lagsBefore looks i + lookAt looks i .lags ≤ lagsBefore looks n
-unfolding lagsBefore sum
-lags-within looks i zero h = absurd (not-suc-le-zero h)
-lags-within looks i (suc n) h = by-le n i (λ g. last g) (λ g. omega (arith, lags-within looks i n g))
-  where
-    last : n ≤ i → sum (λ k. lookAt looks k .lags) i + lookAt looks i .lags ≤ sum (λ k. lookAt looks k .lags) n + lookAt looks n .lags
-    last g =
-        let e : i ≡ n = omega arith in
-        rw e (omega arith)
-
-pub lags-more : (looks : List Look) (i : ℕ) → lagsBefore looks i + lookAt looks i .lags ≡ lagsBefore looks (i + 1)
-unfolding lagsBefore sum
-lags-more looks i = rw (add-one i)
+-- an input that stays may be asked as before
+pub asked-same : (s z : Inputs) (l m : Lists) (j : ℕ) → SameSettings s z → Long (s .count) (bucketsIn s) m → SameInput s l z m j → {look : Look} {lags time : ℕ} → InputAsked s l j look lags time → InputAsked z m j look lags time
+asked-same s z l m j settings long same {look} {lags} {time} a = record {
+  ready = ready-same s z settings l m j long same (a .ready);
+  room = ap (λ (w : Window). roomFor time lags w) (same .window) ∙ a .room;
+  applied = subst (λ (x : Inputs). look .applied ≤ x .policy .«delay_max») (sym settings) (a .applied);
+  reopens = subst (λ (x : Slot). x .reopens < 9_223_372_036_854_775_808) (sym (same .slot)) (a .reopens);
+  changes = subst (λ (x : Slot). x .«delay_changes» < 9_223_372_036_854_775_808) (sym (same .slot)) (a .changes);
+  lates = subst (λ (x : Slot). x .«late_events» < 9_223_372_036_854_775_808) (sym (same .slot)) (a .lates);
+}
 
 -- ---- the loop
 -- after i turns the record, the lists and the commands are those of the first i inputs; the others are still to be asked
@@ -75,7 +74,7 @@ module _ (looks : List Look) (lags : List ℕ) (time : ℕ) (s₀ : Inputs) (l�
 
   module _ (i : ℕ) {s : Inputs} {l : Lists} {c : List ℕ} {used from : ℕ} (turn : Turn looks lags time s₀ l₀ c₀ i s l c used from) (h : i < s₀ .count) {look : Look} (is-look : look ≡ lookAt looks i) where
     pub lags-there : from + look .lags ≤ length lags
-    lags-there = omega (arith, turn .from-is, ap (λ (x : Look). x .lags) is-look, lags-within looks i (s₀ .count) h, asked .lags-in)
+    lags-there = omega (arith, turn .from-is, ap (λ (x : Look). x .lags) is-look, before-within looks (s₀ .count) i h, asked .lags-in)
 
     module _ {k : ℕ} (is-k : k ≡ look .lags) where
       own-lags : part from k lags ≡ lagsOf looks lags i
@@ -83,7 +82,7 @@ module _ (looks : List Look) (lags : List ℕ) (time : ℕ) (s₀ : Inputs) (l�
       own-lags = λ t. part (turn .from-is t) ((is-k ∙ ap (λ (x : Look). x .lags) is-look) t) lags
 
       own-length : length (part from k lags) ≡ lookAt looks i .lags
-      own-length = simp (length-take, length-drop) (omega (arith, is-k, ap (λ (x : Look). x .lags) is-look, lags-there))
+      own-length = ap length own-lags ∙ lags-long looks lags (s₀ .count) i (asked .lags-in) h
 
       pub turn-asks : InputAsked s l i look (length (part from k lags)) time
       turn-asks =
@@ -103,9 +102,9 @@ module _ (looks : List Look) (lags : List ℕ) (time : ℕ) (s₀ : Inputs) (l�
         turn-again starts totals counts times peaks commands = record {
           within = omega arith;
           effected = below;
-          from-is = (λ t. turn .from-is t + is-look t .lags) ∙ lags-more looks i;
-          sized = subst Sized (sym (step .done .inputs)) (ticked-sized i (lookAt looks i) (lagsOf looks lags i) time s l (turn .sized));
-          count = ap (λ (x : Inputs). x .count) (step .done .inputs ∙ ticked-settings i (lookAt looks i) (lagsOf looks lags i) time s l) ∙ turn .count;
+          from-is = (λ t. turn .from-is t + is-look t .lags) ∙ sym (before-more looks i) ∙ ap (lagsBefore looks) (sym (add-one i));
+          sized = subst Sized (sym (step .done .inputs)) (input-sized i (lookAt looks i) (lagsOf looks lags i) time s l (turn .sized));
+          count = ap (λ (x : Inputs). x .count) (step .done .inputs ∙ input-settings i (lookAt looks i) (lagsOf looks lags i) time s l) ∙ turn .count;
           later = after;
           starts = starts ∙ turn .starts;
           totals = totals ∙ turn .totals;
@@ -118,8 +117,8 @@ module _ (looks : List Look) (lags : List ℕ) (time : ℕ) (s₀ : Inputs) (l�
             here : InputAsked s l i (lookAt looks i) (lookAt looks i .lags) time
             here = turn .later i (omega arith) h
 
-            own : length (lagsOf looks lags i) ≡ lookAt looks i .lags
-            own = ap length (sym own-lags) ∙ own-length
+            fits : roomFor time (length (lagsOf looks lags i)) (windowOf s l i) ≡ true
+            fits = ap (λ (n : ℕ). roomFor time n (windowOf s l i)) (lags-long looks lags (s₀ .count) i (asked .lags-in) h) ∙ here .room
 
             below : Effected ((i + 1) * 9) (tickedBelow (i + 1) looks lags time s₀ l₀) sent m c₀ d 0
             below =
@@ -132,12 +131,10 @@ module _ (looks : List Look) (lags : List ℕ) (time : ℕ) (s₀ : Inputs) (l�
             after j g there =
                 subst (λ (x : Inputs). InputAsked x m j (lookAt looks j) (lookAt looks j .lags) time) (sym (step .done .inputs))
                 (subst (λ (x : Lists). InputAsked (tickedInput i (lookAt looks i) (lagsOf looks lags i) time s l .inputs) x j (lookAt looks j) (lookAt looks j .lags) time) (sym (step .lists))
-                (asked-beside s (tickedInput i (lookAt looks i) (lagsOf looks lags i) time s l .inputs) l (tickedInput i (lookAt looks i) (lagsOf looks lags i) time s l .lists) i j
-                (ticked-settings i (lookAt looks i) (lagsOf looks lags i) time s l)
-                (ticked-beside i (lookAt looks i) (lagsOf looks lags i) time s l (turn .sized) (here .ready) (asked .timely) (subst (λ (n : ℕ). roomFor time n (windowOf s l i) ≡ true) (sym own) (here .room)))
-                (omega (arith, turn .count))
-                (λ same. omega arith)
-                (ticked-other i (lookAt looks i) (lagsOf looks lags i) time s l j (λ same. omega arith))
+                (asked-same s (tickedInput i (lookAt looks i) (lagsOf looks lags i) time s l .inputs) l (tickedInput i (lookAt looks i) (lagsOf looks lags i) time s l .lists) j
+                (input-settings i (lookAt looks i) (lagsOf looks lags i) time s l)
+                (input-beside i (lookAt looks i) (lagsOf looks lags i) time s l (here .ready) (turn .sized) (asked .timely) fits .long)
+                (input-same i (lookAt looks i) (lagsOf looks lags i) time s l (here .ready) (turn .sized) (asked .timely) fits j (omega (arith, turn .count)) (λ same. omega arith))
                 (turn .later j (omega arith) there)))
 
   pub turn-end : (i : ℕ) {s : Inputs} {l : Lists} {c : List ℕ} {used from : ℕ} → Turn looks lags time s₀ l₀ c₀ i s l c used from → s₀ .count ≤ i
