@@ -1,2 +1,3 @@
 -- The third demand is met.
 pub mod Lifted
+pub mod Ends
