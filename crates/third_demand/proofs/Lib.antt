@@ -1,3 +1,4 @@
 -- The third demand is met.
 pub mod Lifted
 pub mod Ends
+pub mod StepViews
