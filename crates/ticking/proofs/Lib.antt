@@ -1,1 +1,2 @@
 -- Laws of `tick`.
+pub mod Looking
