@@ -1,2 +1,3 @@
 -- Laws of `tick`.
 pub mod Looking
+pub mod Looked
