@@ -1,3 +1,5 @@
 -- Laws of `tick`.
 pub mod Looking
 pub mod Looked
+pub mod Same
+pub mod Frames
