@@ -62,7 +62,7 @@ module _ (i : ℕ) (look : Look) (lags : List ℕ) (time : ℕ) (s : Inputs) (l 
   unfolding heard followedBy
   heard-other j apart = late-other i (look .applied) (largestOf lags) lagged j apart ∙ arrived-other i time lags s l j apart
 
-  arrived-sized : Sized s → Sized lagged
+  pub arrived-sized : Sized s → Sized lagged
   unfolding arrived
   arrived-sized h = sized-put s i _ h
 

@@ -3,3 +3,5 @@ pub mod Looking
 pub mod Looked
 pub mod Same
 pub mod Frames
+pub mod Counters
+pub mod Accepted
