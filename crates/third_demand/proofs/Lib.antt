@@ -2,3 +2,4 @@
 pub mod Lifted
 pub mod Ends
 pub mod StepViews
+pub mod AutoViews
