@@ -93,3 +93,8 @@ module _ (policy : DelayPolicy) (tick : Tick) (ran runs : Bool) (view between ne
     runs-on = ends .runs-on;
     unseeded = begins .unseeded;
   }
+
+-- .. in other words
+pub lifted-as : {policy same-policy : DelayPolicy} {tick : Tick} {ran same-ran runs same-runs : Bool} {view same-view next same-next : InputView}
+    → policy ≡ same-policy → ran ≡ same-ran → runs ≡ same-runs → view ≡ same-view → next ≡ same-next → TickLifted policy tick ran runs view next → TickLifted same-policy tick same-ran same-runs same-view same-next
+lifted-as {tick = tick} a b c d e lifted = coe 0 1 (k. TickLifted (a k) tick (b k) (c k) (d k) (e k)) lifted

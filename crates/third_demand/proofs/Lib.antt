@@ -3,3 +3,4 @@ pub mod Lifted
 pub mod Ends
 pub mod StepViews
 pub mod AutoViews
+pub mod InputViews
