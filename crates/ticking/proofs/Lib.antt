@@ -5,3 +5,5 @@ pub mod Same
 pub mod Frames
 pub mod Counters
 pub mod Accepted
+pub mod Keeps
+pub mod Proposals
