@@ -3,13 +3,15 @@ use Prim.Native.Nat.{ℕ, _<_, _≤_}
 use mathlib.Core.Path.{subst}
 use mathlib.Core.List.{List}
 use native.Mathlib.Omega.{arith}
-use Rattle.base.proofs.Choices.{by-le}
+use lib.ListN.{length}
+use Rattle.base.proofs.Choices.{by-le, accepted-all}
 use Rattle.slots.specs.declared.Slot.{Slot}
 use Rattle.slots.specs.declared.Inputs.{Inputs}
 use Rattle.slots.specs.Inputs.{slotAt}
 use Rattle.slots.proofs.Sized.{Sized}
 use Rattle.record.specs.Lent.{Lists}
 use Rattle.record.specs.Effects.{followedBy}
+use Rattle.record.specs.Reply.{Reply}
 use Rattle.auto_delay.specs.Arrival.{arrived, largestOf, lateEvent}
 use Rattle.auto_delay.specs.Auto.{autoDelayed}
 use Rattle.auto_delay.proofs.Counters.{Raised, raised-by, raised-then}
@@ -18,7 +20,10 @@ use Rattle.auto_delay.proofs.LateKeeps.{late-raised}
 use Rattle.auto_delay.proofs.AutoKeeps.{auto-raised}
 use Rattle.ticking.specs.declared.Look.{Look}
 use Rattle.ticking.specs.Looks.{lookAt, lagsOf}
+use Rattle.ticking.specs.Checks.{tickNumber}
 use Rattle.ticking.specs.Tick.{heard, looked, tickedInput, ticked}
+use Rattle.ticking.specs.Reply.{tickReply}
+use Rattle.ticking.proofs.Accepted.{tick-checked}
 use Rattle.ticking.proofs.Looked.{looked-raised}
 use Rattle.ticking.proofs.Frames.{arrived-sized, heard-sized, between-sized, turn, below-sized, below-slots, ticked-past, ticked-slot}
 
@@ -68,3 +73,11 @@ module _ (looks : List Look) (lags : List ℕ) (time : ℕ) (s : Inputs) (l : Li
       by-le (s .count) j
       (λ past. raised-by 1 1 1 (slotAt s j) (ticked-past looks lags time s l j past) (record { reopens = omega arith; changes = omega arith; lates = omega arith }))
       (input-turn j)
+
+-- ---- the call, accepted or refused
+pub tick-raised : (s : Inputs) (l : Lists) (commands : List ℕ) (looks : List Look) (lags : List ℕ) (time : ℕ) → Sized s → (j : ℕ) → Raised 1 1 1 (slotAt s j) (slotAt (tickReply s l commands looks lags time .inputs) j)
+unfolding tickReply
+tick-raised s l commands looks lags time sized j =
+    accepted-all (λ (reply : Reply). Raised 1 1 1 (slotAt s j) (slotAt (reply .inputs) j)) (tickNumber s l (length commands) looks lags time) _ _
+    (record { reopens = omega arith; changes = omega arith; lates = omega arith })
+    (λ e. ticked-raised looks lags time s l (tick-checked s l (length commands) looks lags time e sized .fitting .allowed .most) sized j)

@@ -8,6 +8,7 @@ use native.Mathlib.Nat.{eq-or-lt-of-le, le-of-suc-le-suc}
 use native.Mathlib.Omega.{arith}
 use lib.ListN.{length}
 use Rattle.base.specs.Limits.{timeLimit}
+use Rattle.base.proofs.Choices.{accepted-all}
 use Rattle.lag_window.specs.Window.{Window}
 use Rattle.lag_window.specs.Checks.{roomFor}
 use Rattle.delay_hold.specs.declared.Lag.{Lag}
@@ -22,6 +23,7 @@ use Rattle.set_delay.specs.SetDelay.{setDelayOf}
 use Rattle.set_delay.proofs.Stored.{stored-sized}
 use Rattle.record.specs.Lent.{Lists, bucketsIn, windowOf, heldOf}
 use Rattle.record.specs.Checks.{Long, Fitting}
+use Rattle.record.specs.Reply.{Reply}
 use Rattle.record.specs.Effects.{Effect, silent, followedBy}
 use Rattle.record.proofs.Beside.{Beside, beside-then}
 use Rattle.keeping.proofs.Settings.{SameSettings, settings-then}
@@ -33,7 +35,9 @@ use Rattle.auto_delay.proofs.LateKeeps.{late-settings, late-other, late-ready}
 use Rattle.auto_delay.proofs.AutoKeeps.{auto-rule, auto-settings, auto-other, auto-beside}
 use Rattle.ticking.specs.declared.Look.{Look}
 use Rattle.ticking.specs.Looks.{lookAt, lagsOf}
+use Rattle.ticking.specs.Checks.{tickNumber}
 use Rattle.ticking.specs.Tick.{heard, looked, tickedInput, tickedBelow, tickedAll, saved, lastly, ticked}
+use Rattle.ticking.specs.Reply.{tickReply}
 use Rattle.ticking.proofs.Same.{SameInput, same-none, same-then, beside-under, beside-over, same-beside, ready-same}
 use Rattle.ticking.proofs.Looking.{looked-leaves, looked-ready}
 use Rattle.ticking.proofs.Looked.{looked-settings}
@@ -287,3 +291,17 @@ module _ (looks : List Look) (lags : List ℕ) (time : ℕ) (s : Inputs) (l : Li
         same-then (turn looks lags time s l (suc j) .inputs) (turn looks lags time s l (suc j) .lists) (all .inputs) (all .lists) (lastly (all .inputs)) (all .lists) j
         (later-same looks lags time s l f sized soon ready room (s .count) j (omega arith) h)
         (lastly-same (all .inputs) (all .lists) j)
+
+-- ---- the call, accepted or refused: "All calls keep the settings of `new`"
+module _ (s : Inputs) (l : Lists) (commands : List ℕ) (looks : List Look) (lags : List ℕ) (time : ℕ) where
+  pub tick-settings : SameSettings s (tickReply s l commands looks lags time .inputs)
+  unfolding tickReply
+  tick-settings =
+      accepted-all (λ (reply : Reply). SameSettings s (reply .inputs)) (tickNumber s l (length commands) looks lags time) _ _ refl
+      (λ e. ticked-settings looks lags time s l)
+
+  pub tick-sized : Sized s → Sized (tickReply s l commands looks lags time .inputs)
+  unfolding tickReply
+  tick-sized h =
+      accepted-all (λ (reply : Reply). Sized (reply .inputs)) (tickNumber s l (length commands) looks lags time) _ _ h
+      (λ e. ticked-sized looks lags time s l h)
