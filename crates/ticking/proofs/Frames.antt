@@ -36,7 +36,7 @@ use Rattle.auto_delay.proofs.AutoKeeps.{auto-rule, auto-settings, auto-other, a
 use Rattle.ticking.specs.declared.Look.{Look}
 use Rattle.ticking.specs.Looks.{lookAt, lagsOf}
 use Rattle.ticking.specs.Checks.{tickNumber}
-use Rattle.ticking.specs.Tick.{heard, looked, tickedInput, tickedBelow, tickedAll, saved, lastly, ticked}
+use Rattle.ticking.specs.Tick.{heard, looked, tickedInput, tickedBelow, tickedAll, lastly, ticked}
 use Rattle.ticking.specs.Reply.{tickReply}
 use Rattle.ticking.proofs.Same.{SameInput, same-none, same-then, beside-under, beside-over, same-beside, ready-same}
 use Rattle.ticking.proofs.Looking.{looked-leaves, looked-ready}
@@ -229,8 +229,8 @@ module _ (looks : List Look) (lags : List ℕ) (time : ℕ) (s : Inputs) (l : Li
 
 -- ---- "Last, prune; the unsaved mark is .. cleared"
 module _ (s : Inputs) where
-  lastly-is : lastly s ≡ withFlows (withInstances s (pruned s Nothing .instances) (pruned s Nothing .«instance_count»)) (s .flows) (s .«flow_count») (lastly s .unsaved)
-  lastly-is = ap saved (pruned-rest s Nothing)
+  lastly-is : lastly s ≡ withFlows (withInstances s (pruned s Nothing .instances) (pruned s Nothing .«instance_count»)) (lastly s .flows) (lastly s .«flow_count») (lastly s .unsaved)
+  lastly-is = ap (λ (z : Inputs). withFlows z (lastly s .flows) (lastly s .«flow_count») (lastly s .unsaved)) (pruned-rest s Nothing)
 
   pub lastly-slots : (j : ℕ) → slotAt (lastly s) j ≡ slotAt s j
   unfolding slotAt
