@@ -5,7 +5,6 @@ pub mod Looked
 pub mod Same
 pub mod Frames
 pub mod Asking
-pub mod Besides
 pub mod Turns
 pub mod Counters
 pub mod Accepted
