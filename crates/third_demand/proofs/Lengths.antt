@@ -40,7 +40,7 @@ use Rattle.ticking.specs.Tick.{heard, looked, tickedInput, tickedBelow, tickedA
 use Rattle.ticking.proofs.Frames.{heard-sized, below-sized}
 use Rattle.ticking.proofs.Looked.{looked-outcomes}
 use Rattle.inputs_new.specs.Start.{kindAt, startedOne, startedBelow}
-use Rattle.sent_delays.proofs.Settings.{tells-wanted}
+use Rattle.sent_delays.proofs.OneInput.{tells-wanted}
 
 -- at most so many words
 abbrev pub Few : ℕ → List ℕ → Type 0
