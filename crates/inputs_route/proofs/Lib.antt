@@ -2,3 +2,4 @@
 mod Cases
 pub mod Enrolling
 mod Replies
+pub mod Keeps
