@@ -4,3 +4,4 @@ pub mod Ends
 pub mod StepViews
 pub mod AutoViews
 pub mod InputViews
+pub mod TickViews
