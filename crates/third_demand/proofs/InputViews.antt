@@ -24,11 +24,12 @@ use Rattle.ticking.specs.declared.Look.{Look}
 use Rattle.ticking.specs.Tick.{heard, looked, tickedInput}
 use Rattle.ticking.proofs.Looked.{looked-slot}
 use Rattle.ticking.proofs.Frames.{heard-settings, heard-sized, between-settings, between-sized, between-ready}
+use Rattle.ticking.proofs.Proposals.{heard-proposed}
 use Rattle.history.specs.View.{rulesOf, InputView, Tick}
 use Rattle.history.specs.Events.{history}
 use Rattle.third_demand.proofs.Lifted.{viewOf, TickLifted}
 use Rattle.third_demand.proofs.Ends.{Seeded, Last, seeded-then}
-use Rattle.third_demand.proofs.StepViews.{heard-state, heard-config, heard-proposed, heard-view, looked-seeded}
+use Rattle.third_demand.proofs.StepViews.{heard-state, heard-config, heard-view, looked-seeded}
 use Rattle.third_demand.proofs.AutoViews.{auto-state, auto-config, auto-goes, auto-last}
 
 module _ (i : ℕ) (look : Look) (lags : List ℕ) (time : ℕ) (s : Inputs) (l : Lists) where

@@ -4,6 +4,7 @@ pub mod Ends
 pub mod StepViews
 pub mod AutoViews
 pub mod InputViews
+pub mod TickViews
 pub mod CallViews
 pub mod UpdateViews
 pub mod RouteViews
@@ -14,4 +15,7 @@ pub mod Runs
 pub mod Stretches
 pub mod Beyond
 pub mod Lengths
+pub mod Told
+pub mod Given
+pub mod Steps
 pub mod Theorem

@@ -61,15 +61,12 @@ module _ (i : ℕ) (look : Look) (lags : List ℕ) (time : ℕ) (s : Inputs) (l 
       late-slot i (look .applied) (largestOf lags) (pushed .inputs) low pushed-long
       ∙ ap (λ (x : Slot). lateSlot (pushed .inputs .policy) x (look .applied) (largestOf lags)) (arrived-slot i time lags s l low (sized .slots))
 
-  -- its state, its kind, its proposal and its delay stay
+  -- its state, its kind and its delay stay
   pub heard-state : slotAt (heard i look lags time s l .inputs) i .state ≡ slotAt s i .state
   heard-state = ap (λ (x : Slot). x .state) heard-slot
 
   pub heard-config : slotAt (heard i look lags time s l .inputs) i .config ≡ slotAt s i .config
   heard-config = ap (λ (x : Slot). x .config) heard-slot
-
-  pub heard-proposed : slotAt (heard i look lags time s l .inputs) i .proposed ≡ slotAt s i .proposed
-  heard-proposed = ap (λ (x : Slot). x .proposed) heard-slot
 
   pub heard-delay : slotAt (heard i look lags time s l .inputs) i .delay ≡ slotAt s i .delay
   heard-delay = ap (λ (x : Slot). x .delay) heard-slot
