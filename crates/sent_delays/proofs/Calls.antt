@@ -23,6 +23,7 @@ use Rattle.record.proofs.Numbers.{by-zero, call-low}
 use Rattle.inputs_new.specs.declared.Settings.{Settings}
 use Rattle.inputs_new.specs.Fresh.{blankFor, noInputs}
 use Rattle.inputs_new.specs.Checks.{newNumber}
+use Rattle.inputs_new.proofs.Accepted.{accepted-of}
 use Rattle.inputs_new.specs.Start.{started}
 use Rattle.inputs_new.specs.Reply.{newReply}
 use Rattle.inputs_route.specs.declared.Wanted.{Wanted}
@@ -138,8 +139,7 @@ module _ (settings : Settings) (kinds : List ExtraDelay) (bytes delays : List �
   new-number = reply-number number noInputs l commands (started settings kinds bytes delays time l)
 
   new-tells : number ≡ 0 → TellsEffect (blankFor settings) (started settings kinds bytes delays time l)
-  unfolding newNumber
-  new-tells e = tells-started settings kinds bytes delays time l (allowed-most (settings .count) (asked 0 _ _ e .0))
+  new-tells e = tells-started settings kinds bytes delays time l (accepted-of settings bytes delays l (length commands) time e .0 .allowed .most)
 
   module _ (passed : fresh .number ≡ 0) where
     pub new-sized : Sized (fresh .inputs)

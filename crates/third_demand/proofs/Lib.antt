@@ -19,3 +19,5 @@ pub mod Told
 pub mod Given
 pub mod Steps
 pub mod Theorem
+pub mod Birth
+pub mod ThirdDemand
