@@ -34,22 +34,22 @@ use Rattle.inputs_new.specs.Fresh.{policyOf, blank, blankFor}
 use Rattle.inputs_new.specs.Loading.{loadFits}
 use Rattle.inputs_new.specs.Start.{kindAt, zeroedLists, loaded, started, startedBelow}
 use Rattle.inputs_new.specs.Checks.{marginFits, settingsNumber, newNumber}
-use Rattle.inputs_new.proofs.Blank.{shared-margins, blank-slot, blank-checked, zeroed-starts, zeroed-totals, zeroed-counts, zeroed-times, zeroed-lags}
+use Rattle.inputs_new.proofs.BlankRecord.{shared-margins, blank-slot, blank-checked, zeroed-starts, zeroed-totals, zeroed-counts, zeroed-times, zeroed-lags}
 use Rattle.inputs_new.proofs.Loaded.{loaded-rest, loads-below, loaded-keeps}
 use Rattle.inputs_new.proofs.Started.{startedSlot, manualWords, below-rest, below-slot, below-words, below-keeps}
 
 -- ---- what number 0 says
 -- what 1 to 5 let through
-pub record Fit (settings : Settings) (bytes delays : List ℕ) (l : Lists) (words : ℕ) : Type 0 where
+pub record Fit (settings : Settings) (bytes delays : ℕ) (l : Lists) (words : ℕ) : Type 0 where
   pub allowed : Allowed (settings .count) (policyOf settings) (settings .width) (settings .stall)
   pub long : Long (settings .count) (bucketsIn (blankFor settings)) l
   pub commands-long : words ≡ settings .count * 12
-  pub bytes-long : length bytes ≡ length delays * 16
+  pub bytes-long : bytes ≡ delays * 16
 
-module _ (settings : Settings) (bytes delays : List ℕ) (l : Lists) (words : ℕ) where
-  pub fit-of : (rest : ℕ) → settingsNumber settings bytes delays l words rest ≡ 0 → Fit settings bytes delays l words × (rest ≡ 0)
+module _ (settings : Settings) (l : Lists) (words : ℕ) where
+  pub fit-of : (bytes delays rest : ℕ) → settingsNumber settings bytes delays l words rest ≡ 0 → Fit settings bytes delays l words × (rest ≡ 0)
   unfolding settingsNumber marginFits
-  fit-of rest h =
+  fit-of bytes delays rest h =
       let a = asked 0 _ _ h in
       let b = asked 1 _ _ (a .1) in
       let c = asked 2 _ _ (b .1) in
@@ -67,11 +67,11 @@ module _ (settings : Settings) (bytes delays : List ℕ) (l : Lists) (words : �
         g .1,
       )
 
-  pub accepted-of : (time : ℕ) → newNumber settings bytes delays time l words ≡ 0
-      → Fit settings bytes delays l words × (time ≤ timeLimit) × (loadFits (length delays) bytes delays (blankFor settings) ≡ true)
+  pub accepted-of : (bytes delays : List ℕ) (time : ℕ) → newNumber settings bytes delays time l words ≡ 0
+      → Fit settings (length bytes) (length delays) l words × (time ≤ timeLimit) × (loadFits (length delays) bytes delays (blankFor settings) ≡ true)
   unfolding newNumber
-  accepted-of time h =
-      let a = fit-of _ h in
+  accepted-of bytes delays time h =
+      let a = fit-of (length bytes) (length delays) _ h in
       let b = asked 7 _ _ (a .1) in
       let c = asked 8 _ _ (b .1) in
       (a .0, leb-true _ _ (b .0), c .0)
@@ -112,8 +112,8 @@ as-started (Ms delay) time maximum =
 
 -- ---- what it leaves
 module _ (settings : Settings) (kinds : List ExtraDelay) (bytes delays : List ℕ) (time : ℕ) (l : Lists) (words : ℕ) (h : newNumber settings bytes delays time l words ≡ 0) where
-  fit : Fit settings bytes delays l words
-  fit = accepted-of settings bytes delays l words time h .0
+  fit : Fit settings (length bytes) (length delays) l words
+  fit = accepted-of settings l words bytes delays time h .0
 
   few : settings .count ≤ 16
   few = fit .allowed .most
@@ -121,7 +121,7 @@ module _ (settings : Settings) (kinds : List ExtraDelay) (bytes delays : List �
   loaded-checked : Checked (loaded settings bytes delays) (zeroedLists l)
   loaded-checked =
       loaded-keeps bytes delays (blankFor settings) (zeroedLists l) (blank-checked settings l (fit .allowed) (fit .long)) (length delays)
-      (λ k m. loads-below bytes delays (blankFor settings) (length delays) k m (accepted-of settings bytes delays l words time h .2))
+      (λ k m. loads-below bytes delays (blankFor settings) (length delays) k m (accepted-of settings l words bytes delays time h .2))
 
   loaded-settings : loaded settings bytes delays ≡ withFlows (blankFor settings) (loaded settings bytes delays .flows) (loaded settings bytes delays .«flow_count») (blankFor settings .unsaved)
   loaded-settings = loaded-rest bytes delays (blankFor settings) (length delays)
@@ -141,7 +141,7 @@ module _ (settings : Settings) (kinds : List ExtraDelay) (bytes delays : List �
   -- "Fresh is what an accepted `new` leaves": it passes checks 1 to 6
   pub new-checked : Checked (started settings kinds bytes delays time l .inputs) (started settings kinds bytes delays time l .lists)
   unfolding started
-  new-checked = below-keeps kinds time (loaded settings bytes delays) (loaded-checked .sized) (zeroedLists l) loaded-checked (accepted-of settings bytes delays l words time h .1) (settings .count) loaded-count
+  new-checked = below-keeps kinds time (loaded settings bytes delays) (loaded-checked .sized) (zeroedLists l) loaded-checked (accepted-of settings l words bytes delays time h .1) (settings .count) loaded-count
 
   pub new-sized : Sized (started settings kinds bytes delays time l .inputs)
   new-sized = new-checked .sized

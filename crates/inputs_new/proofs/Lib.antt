@@ -1,5 +1,7 @@
 -- Laws of `new`.
-pub mod Blank
+pub mod BlankRecord
 pub mod Loaded
 pub mod Started
 pub mod Accepted
+mod Loops
+mod Calls

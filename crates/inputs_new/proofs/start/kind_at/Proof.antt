@@ -1,10 +1,10 @@
 use mathlib.Core.Path.{refl}
 use Rattle.inputs_new.specs.Start.{kindAt}
 use borrow.Author.Needs.{needs}
-use Rattle.inputs_new.proofs.kind_at.Statement.{statement}
-use Rattle.inputs_new.proofs.kind_at.Tie as tie
-use Rattle.inputs_new.proofs.kind_at.Reads as reads
-use Rattle.inputs_new.proofs.kind_at.Lts as lts
+use Rattle.inputs_new.proofs.start.kind_at.Statement.{statement}
+use Rattle.inputs_new.proofs.start.kind_at.Tie as tie
+use Rattle.inputs_new.proofs.start.kind_at.Reads as reads
+use Rattle.inputs_new.proofs.start.kind_at.Lts as lts
 
 -- src/lib.rt:26:5
 mul-result : tie.Need-mul-result
