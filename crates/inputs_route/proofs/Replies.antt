@@ -14,7 +14,7 @@ use Rattle.base.proofs.Words.{laid, sets-append}
 use Rattle.slots.specs.declared.Routed.{Routed}
 use Rattle.slots.specs.declared.Slot.{Slot}
 use Rattle.slots.specs.declared.Inputs.{Inputs}
-use Rattle.slots.specs.Inputs.{slotAt, putSlot}
+use Rattle.slots.specs.Inputs.{slotAt}
 use Rattle.slots.proofs.Frame.{slot-put}
 use Rattle.commands.specs.declared.Sent.{Sent}
 use Rattle.commands.specs.Commands.{Done, Did}
@@ -25,7 +25,7 @@ use Rattle.record.specs.Checks.{Fitting}
 use Rattle.record.specs.Effects.{Effect, silent, beside, followedBy}
 use Rattle.record.specs.Reply.{Reply}
 use Rattle.record.proofs.Checked.{checked-commands}
-use Rattle.record.proofs.Numbers.{input-told, record-fitting, record-whole, call-fitting, call-input, call-low}
+use Rattle.record.proofs.Numbers.{input-told, record-whole, call-fitting, call-input, call-low}
 use Rattle.record.proofs.Replies.{reply-refused, reply-accepted}
 use Rattle.clearing.specs.Clearing.{clearedSlot, cleared}
 use Rattle.inputs_route.specs.declared.Wanted.{Wanted}
