@@ -4,7 +4,7 @@ use mathlib.Core.Bool.{true, false}
 use mathlib.Core.Path.{_≡_, refl, sym, ap, subst, _∙_}
 use mathlib.Core.List.{List}
 use native.Mathlib.Omega.{arith}
-use lib.ListN.{length, replicate}
+use lib.ListN.{length, getD, replicate}
 use borrow.Author.Tests.{leb-true, eqb-true}
 use Rattle.base.specs.Limits.{timeLimit}
 use Rattle.base.proofs.Choices.{asked}
@@ -25,17 +25,18 @@ use Rattle.slots.specs.declared.Inputs.{Inputs}
 use Rattle.slots.specs.Slots.{emptySlot, emptyHold}
 use Rattle.slots.specs.Inputs.{slotAt, withSlots, withFlows}
 use Rattle.slots.proofs.Sized.{Sized}
+use Rattle.flows.specs.Flows.{entryAt, flowAt, recalled}
 use Rattle.record.specs.Lent.{Lists, bucketsIn, windowFor, windowOf, heldOf}
 use Rattle.record.specs.Checks.{Allowed, Long}
 use Rattle.record.proofs.Checked.{Checked, allowed-of, long-of}
 use Rattle.keeping.proofs.Settings.{underSettings, SameSettings}
 use Rattle.inputs_new.specs.declared.Settings.{Settings}
 use Rattle.inputs_new.specs.Fresh.{policyOf, blank, blankFor}
-use Rattle.inputs_new.specs.Loading.{loadFits}
+use Rattle.inputs_new.specs.Loading.{loadedFlow, loadFits}
 use Rattle.inputs_new.specs.Start.{kindAt, zeroedLists, loaded, started, startedBelow}
 use Rattle.inputs_new.specs.Checks.{marginFits, settingsNumber, newNumber}
 use Rattle.inputs_new.proofs.BlankRecord.{shared-margins, blank-slot, blank-checked, zeroed-starts, zeroed-totals, zeroed-counts, zeroed-times, zeroed-lags}
-use Rattle.inputs_new.proofs.Loaded.{loaded-rest, loads-below, loaded-keeps}
+use Rattle.inputs_new.proofs.Loaded.{Remembers, loaded-rest, loads-below, loaded-keeps, loaded-last}
 use Rattle.inputs_new.proofs.Started.{startedSlot, manualWords, below-rest, below-slot, below-words, below-keeps}
 
 -- ---- what number 0 says
@@ -163,6 +164,14 @@ module _ (settings : Settings) (kinds : List ExtraDelay) (bytes delays : List �
 
   pub new-flows : started settings kinds bytes delays time l .inputs .«flow_count» ≤ 64
   new-flows = new-checked .whole .flows .most
+
+  -- "a flow named twice keeps the last": the flow of loaded delay k has that delay, if none after it names the flow too
+  pub new-remembers : (k : ℕ) → k < length delays → ((j : ℕ) → k < j → j < length delays → loadedFlow bytes j ≡ loadedFlow bytes k → ⊥) → Remembers (started settings kinds bytes delays time l .inputs) (loadedFlow bytes k) (getD delays k 0)
+  unfolding flowAt recalled entryAt
+  new-remembers k m last =
+      let r = loaded-last bytes delays (blankFor settings) (zeroedLists l) (blank-checked settings l (fit .allowed) (fit .long)) (length delays) (λ j g. loads-below bytes delays (blankFor settings) (length delays) j g (accepted-of settings l words bytes delays time h .2)) k m last in
+      subst (λ (z : Inputs). Remembers z (loadedFlow bytes k) (getD delays k 0)) (sym new-rest)
+      (record { place = r .place; known = r .known; holds = r .holds; has = r .has })
 
   -- the words: SetDelay for each manual input in order, nothing else
   pub new-words : started settings kinds bytes delays time l .words ≡ manualWords (settings .count) kinds (settings .«delay_max»)

@@ -1,7 +1,7 @@
 -- The checks of `new` and what it leaves, case by case, as the code goes. Assumes nothing.
 use Prim.Native.Nat.{ℕ, _*_, _<_, _≤_}
 use mathlib.Core.Bool.{Bool, true, false, not}
-use mathlib.Core.Path.{_≡_, refl, sym, ap, subst, _∙_}
+use mathlib.Core.Path.{_≡_, refl, sym, ap, _∙_}
 use mathlib.Core.List.{List}
 use native.Mathlib.Omega.{arith}
 use lib.Dec.{eqb}
@@ -9,8 +9,7 @@ use lib.ListN.{length, replicate, length-replicate}
 use lib.Seq.{sets}
 use borrow.Author.Tests.{leb-true, lt-leb, le-leb, not-false}
 use Rattle.base.specs.Choice.{ask}
-use Rattle.base.specs.Limits.{timeLimit, timely}
-use Rattle.base.specs.Lists.{padded}
+use Rattle.base.specs.Limits.{timeLimit}
 use Rattle.base.proofs.All.{told-no, told-yes}
 use Rattle.base.proofs.Choices.{yes-ask, no-ask, asked}
 use Rattle.base.proofs.Points.{both-true}
@@ -25,7 +24,7 @@ use Rattle.commands.specs.Commands.{Did}
 use Rattle.record.specs.declared.Commands.the-variants.{Words}
 use Rattle.record.specs.Lent.{Lists, bucketsIn}
 use Rattle.record.specs.Checks.{inputsAllowed, bucketsAllowed, pausesAllowed, listsFit, commandsFit}
-use Rattle.record.specs.Effects.{Effect, beside}
+use Rattle.record.specs.Effects.{beside}
 use Rattle.record.specs.Reply.{Reply}
 use Rattle.record.proofs.Replies.{reply-refused, reply-accepted}
 use Rattle.inputs_new.specs.declared.Settings.{Settings}

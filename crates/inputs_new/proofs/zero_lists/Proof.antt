@@ -1,53 +1,39 @@
-use Rattle.record.specs.Lent.{lists}
+-- `inputs_new::zero_lists` meets its contract. Assumes nothing.
 use borrow.Author.Needs.{needs}
+use Rattle.record.specs.Lent.{lists}
 use Rattle.inputs_new.proofs.zero_lists.Statement.{statement}
 use Rattle.inputs_new.proofs.zero_lists.Tie as tie
-use Rattle.inputs_new.proofs.zero_lists.Reads as reads
-use Rattle.inputs_new.proofs.zero_lists.Lts as lts
-use Rattle.base.proofs.zero_u32.Reads as zero-u32-reads
-use Rattle.base.proofs.zero_u64.Reads as zero-u64-reads
 
--- src/lib.rt:176:5
 zero-u64-requires : tie.Need-zero-u64-requires
 zero-u64-requires c κs = search needs
 
--- src/lib.rt:177:5
 zero-u64-requires-2 : tie.Need-zero-u64-requires-2
 zero-u64-requires-2 c κs = search needs
 
--- src/lib.rt:178:5
 zero-u32-requires : tie.Need-zero-u32-requires
 zero-u32-requires c κs = search needs
 
--- src/lib.rt:179:5
 zero-u64-requires-3 : tie.Need-zero-u64-requires-3
 zero-u64-requires-3 c κs = search needs
 
--- src/lib.rt:180:5
 zero-u32-requires-2 : tie.Need-zero-u32-requires-2
 zero-u32-requires-2 c κs = search needs
 
--- src/lib.rt:167:1
 same-length : tie.Need-same-length
 same-length c = search needs
 
--- src/lib.rt:167:1
 same-length-2 : tie.Need-same-length-2
 same-length-2 c = search needs
 
--- src/lib.rt:167:1
 same-length-3 : tie.Need-same-length-3
 same-length-3 c = search needs
 
--- src/lib.rt:167:1
 same-length-4 : tie.Need-same-length-4
 same-length-4 c = search needs
 
--- src/lib.rt:167:1
 same-length-5 : tie.Need-same-length-5
 same-length-5 c = search needs
 
--- src/lib.rt:167:1
 returns : tie.Need-returns
 returns c = λ t. lists (c .before .before .before .before .before .before .before .before .before .before .before .before .before .before .before .before .before .before .zero-u64 .ensures t) (c .before .before .before .before .before .before .before .before .before .before .before .before .before .before .zero-u642 .ensures t) (c .before .before .before .before .before .before .before .before .before .before .zero-u32 .ensures t) (c .before .before .before .before .before .before .zero-u643 .ensures t) (c .before .before .zero-u322 .ensures t)
 

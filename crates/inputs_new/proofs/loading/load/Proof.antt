@@ -1,18 +1,14 @@
-use borrow.Author.Needs.{needs}
-use Rattle.slots.proofs.Tests.{not-both}
-use mathlib.Core.Path.{refl, sym}
-use borrow.Author.Tests.{not-true, not-false}
-use lib.ListN.{length}
-use native.Mathlib.Omega.{arith}
+-- `inputs_new::loading::load` meets its contract. Assumes nothing.
 use Prim.Native.Nat.{_-_}
+use mathlib.Core.Path.{refl, sym}
+use native.Mathlib.Omega.{arith}
+use lib.ListN.{length}
+use borrow.Author.Needs.{needs}
+use borrow.Author.Tests.{not-true, not-false}
+use Rattle.slots.proofs.Tests.{not-both}
 use Rattle.inputs_new.proofs.Loops.{Loading, loading-none, loading-stop, loading-more, loading-fits, loading-end}
 use Rattle.inputs_new.proofs.loading.load.Statement.{statement}
 use Rattle.inputs_new.proofs.loading.load.Tie as tie
-use Rattle.inputs_new.proofs.loading.load.Reads as reads
-use Rattle.inputs_new.proofs.loading.load.Lts as lts
-use Rattle.flows.proofs.has_room.Reads as has-room-reads
-use Rattle.inputs_new.proofs.loading.flow_of.Reads as flow-of-reads
-use Rattle.inputs_new.proofs.loading.load_one.Reads as load-one-reads
 
 abbrev Inv-loop : tie.InvT-loop
 Inv-loop inputs bytes delays all₀ k₀ all k = Loading bytes delays inputs k all
@@ -20,47 +16,36 @@ Inv-loop inputs bytes delays all₀ k₀ all k = Loading bytes delays inputs k a
 abbrev μ-loop : tie.MeasureT-loop
 μ-loop inputs bytes delays all₀ k₀ all k = length delays - k
 
--- src/loading.rt:66:5
 loop-holds : tie.Need-loop-holds Inv-loop μ-loop
 loop-holds c = loading-none _ _ _
 
--- src/loading.rt:67:13
 flow-of-requires : tie.Need-flow-of-requires Inv-loop μ-loop
 flow-of-requires c κs = omega (arith, c .before .before .before .before .pre, c .loop-test .taken)
 
--- src/loading.rt:68:13
 has-room-requires : tie.Need-has-room-requires Inv-loop μ-loop
 has-room-requires c κs = tt
 
--- src/loading.rt:69:13
 returns : tie.Need-returns Inv-loop μ-loop
 returns c = (loading-stop _ _ _ (c .before .before .before .before .loop .inv) (c .before .before .before .loop-test .taken) (c .before .before .flow-of .ensures) (c .before .has-room .ensures) (not-true _ (c .if1 .taken)), λ e. absurd (not-both refl (sym e)))
 
--- src/loading.rt:74:35
 mul-load-one : tie.Need-mul-load-one Inv-loop μ-loop
 mul-load-one c = search needs
 
--- src/loading.rt:74:35
 shared-slice-read-load-one : tie.Need-shared-slice-read-load-one Inv-loop μ-loop
 shared-slice-read-load-one c = c .before .before .before .before .loop-test .taken
 
--- src/loading.rt:74:9
 load-one-requires : tie.Need-load-one-requires Inv-loop μ-loop
 load-one-requires c κs = tt
 
--- src/loading.rt:75:9
 add-k : tie.Need-add-k Inv-loop μ-loop
 add-k c = search needs
 
--- src/loading.rt:66:5
 loop-less : tie.Need-loop-less Inv-loop μ-loop
 loop-less c = omega (arith, c .before .before .before .before .before .loop-test .taken)
 
--- src/loading.rt:66:5
 loop-again : tie.Need-loop-again Inv-loop μ-loop
 loop-again c = loading-more _ _ _ (c .before .before .before .before .before .before .loop .inv) (c .before .before .before .before .before .loop-test .taken) (c .before .before .before .before .flow-of .ensures) (c .before .before .before .has-room .ensures) (not-false _ (c .before .before .if1 .left)) (c .load-one .ensures)
 
--- src/loading.rt:59:1
 returns-2 : tie.Need-returns-2 Inv-loop μ-loop
 returns-2 c = (loading-fits _ _ _ (c .before .loop .inv) (c .loop-test .left), λ e. loading-end _ _ _ (c .before .loop .inv) (c .loop-test .left))
 

@@ -1,12 +1,9 @@
-use native.Mathlib.Omega.{arith}
+-- `inputs_new::start::started` meets its contract. Assumes nothing.
 use Prim.Native.Nat.{_-_}
+use native.Mathlib.Omega.{arith}
 use Rattle.inputs_new.proofs.Loops.{Starting, starting-none, starting-used, starting-more, starting-end}
 use Rattle.inputs_new.proofs.start.started.Statement.{statement}
 use Rattle.inputs_new.proofs.start.started.Tie as tie
-use Rattle.inputs_new.proofs.start.started.Reads as reads
-use Rattle.inputs_new.proofs.start.started.Lts as lts
-use Rattle.inputs_new.proofs.start.kind_at.Reads as kind-at-reads
-use Rattle.inputs_new.proofs.start.started_one.Reads as started-one-reads
 
 abbrev Inv-loop : tie.InvT-loop
 Inv-loop count kinds time commands₀ all₀ used₀ i₀ commands all used i = Starting kinds time count all₀ commands₀ i all used commands
@@ -14,35 +11,27 @@ Inv-loop count kinds time commands₀ all₀ used₀ i₀ commands all used i = 
 abbrev μ-loop : tie.MeasureT-loop
 μ-loop count kinds time commands₀ all₀ used₀ i₀ commands all used i = count - i
 
--- src/start.rt:67:5
 loop-holds : tie.Need-loop-holds Inv-loop μ-loop
 loop-holds c = starting-none _ _ _ _ _
 
--- src/start.rt:68:40
 kind-at-requires : tie.Need-kind-at-requires Inv-loop μ-loop
 kind-at-requires c κs = omega (arith, c .before .before .before .pre .1, c .loop-test .taken)
 
--- src/start.rt:68:13
 started-one-requires : tie.Need-started-one-requires Inv-loop μ-loop
 started-one-requires c κs = (omega (arith, starting-used _ _ _ _ _ (c .before .before .before .loop .inv), c .before .before .before .loop .inv .long, c .before .before .before .before .before .pre .0, c .before .before .loop-test .taken), omega (arith, c .before .before .before .before .before .pre .1, c .before .before .loop-test .taken))
 
--- src/start.rt:71:9
 add-i : tie.Need-add-i Inv-loop μ-loop
 add-i c = omega (arith, c .before .before .before .before .before .before .before .before .before .pre .1, c .before .before .before .before .before .before .loop-test .taken)
 
--- src/start.rt:67:5
 loop-less : tie.Need-loop-less Inv-loop μ-loop
 loop-less c = omega (arith, c .before .before .before .before .before .before .loop-test .taken)
 
--- src/start.rt:67:5
 loop-again : tie.Need-loop-again Inv-loop μ-loop
 loop-again c = starting-more _ _ _ _ _ (c .before .before .before .before .before .before .before .loop .inv) (c .before .before .before .before .before .before .loop-test .taken) (c .before .before .before .before .before .kind-at .ensures) (c .before .before .before .started-one .ensures) (c .before .before .before .started-one .kept .1 .1 .1 .1 .0)
 
--- src/start.rt:54:1
 same-length : tie.Need-same-length Inv-loop μ-loop
 same-length c = c .before .loop .inv .long
 
--- src/start.rt:54:1
 returns : tie.Need-returns Inv-loop μ-loop
 returns c = starting-end _ _ _ _ _ (c .before .loop .inv) (c .loop-test .left)
 
