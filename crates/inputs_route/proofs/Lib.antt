@@ -1,7 +1,7 @@
 -- Laws of `route`.
-mod Cases
+pub mod Cases
 pub mod Enrolling
-mod Replies
+pub mod Answers
 pub mod Keeps
 pub mod Frames
 pub mod Slots
