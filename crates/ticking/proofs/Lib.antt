@@ -10,3 +10,6 @@ pub mod Asking
 pub mod Turns
 pub mod Keeps
 pub mod Proposals
+pub mod Counting
+pub mod Checking
+pub mod Wholly
