@@ -10,3 +10,6 @@ pub mod Counters
 pub mod Accepted
 pub mod Keeps
 pub mod Proposals
+pub mod Counting
+pub mod Checking
+pub mod Wholly

@@ -1,5 +1,5 @@
 -- What the inner functions of `tick` ask of their caller, who has made the checks. Assumes nothing.
-use Prim.Native.Nat.{ℕ, _<_, _≤_}
+use Prim.Native.Nat.{ℕ, _*_, _<_, _≤_}
 use mathlib.Core.Bool.{true}
 use mathlib.Core.Path.{_≡_}
 use mathlib.Core.List.{List}
@@ -13,6 +13,13 @@ use Rattle.record.specs.Lent.{Lists, windowOf}
 use Rattle.auto_delay.specs.Asked.{Ready}
 use Rattle.ticking.specs.declared.Look.{Look}
 use Rattle.ticking.specs.Looks.{lookAt, lagsBefore}
+
+-- what check 11 of the inputs asks of the record and of the lengths of its starts and totals: 1 to 6
+pub record RoomsAsked (s : Inputs) (starts totals : ℕ) : Type 0 where
+  pub most : s .count ≤ 16
+  pub starts-long : starts ≡ s .count * 11
+  pub totals-long : totals ≡ s .count * 11
+  pub seconds : (i : ℕ) → i < s .count → slotAt s i .«lag_seconds» ≤ 11
 
 -- input i before its tick, with so many lags of its own: 6 of what its steps read, 10 of its applied delay, 11. The other inputs may have
 -- raised a counter of theirs to 2^63, so the record as a whole need not be one that 6 lets through.

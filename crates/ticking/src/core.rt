@@ -9,10 +9,13 @@ ghost use Rattle.slots.proofs.Sized.{Sized};
 ghost use Rattle.commands.specs.Commands.{Did};
 ghost use Rattle.record.specs.Lent.{lists};
 ghost use Rattle.record.specs.Effects.{Effected};
-ghost use Rattle.ticking.specs.Tick.{looked, tickedInput, tickedBelow};
+ghost use Rattle.ticking.specs.Tick.{looked, tickedInput, tickedBelow, saved, ticked, unsavedAt};
+ghost use Rattle.ticking.specs.Answer.{told, carried};
 ghost use Rattle.ticking.specs.Asked.{InputAsked, InputsAsked};
 use crate::Look;
+use crate::TickAnswer;
 use commands::Sent;
+use instances::Extra;
 use slots::Inputs;
 
 // The number of a waiting input's state, and of a running one's; those above it watch too.
@@ -86,7 +89,7 @@ fn tick_input(
 }
 
 // All inputs in order.
-pub fn tick_inputs(
+fn tick_inputs(
     inputs: Inputs,
     looks: [Look; 16],
     lags: &[u32],
@@ -130,4 +133,53 @@ pub fn tick_inputs(
         i += 1;
     }
     Sent { inputs: all, used }
+}
+
+// The table of remembered delays counts as saved.
+fn saved(inputs: Inputs) -> Inputs
+    ensures { λ r. ⌜ r ≡ saved inputs ⌝ }
+{
+    let mut all = inputs;
+    all.unsaved = false;
+    all
+}
+
+// A whole tick: all inputs, and then the instances that no input reads go, and the unsaved mark is reported and cleared.
+pub fn tick_all(
+    inputs: Inputs,
+    looks: [Look; 16],
+    lags: &[u32],
+    time: u64,
+    starts: &mut [u64],
+    totals: &mut [u64],
+    counts: &mut [u32],
+    times: &mut [u64],
+    peaks: &mut [u32],
+    commands: &mut [u32],
+) -> TickAnswer
+    requires { ⌜ InputsAsked inputs (lists (now starts) (now totals) (now counts) (now times) (now peaks)) looks (now lags) time ⌝ }
+    requires { ⌜ inputs .count * 9 ≤ length (now commands) ⌝ }
+    ensures { λ r. ⌜ told r (lists (now (starts .exit)) (now (totals .exit)) (now (counts .exit)) (now (times .exit)) (now (peaks .exit))) (now (commands .exit)) ≡ carried (now (commands .entry)) (ticked looks (now (lags .entry)) time inputs (lists (now (starts .entry)) (now (totals .entry)) (now (counts .entry)) (now (times .entry)) (now (peaks .entry)))) (unsavedAt looks (now (lags .entry)) time inputs (lists (now (starts .entry)) (now (totals .entry)) (now (counts .entry)) (now (times .entry)) (now (peaks .entry)))) ⌝ }
+{
+    base::zero_u32(commands);
+    let sent = tick_inputs(
+        inputs,
+        looks,
+        lags,
+        time,
+        starts,
+        totals,
+        counts,
+        times,
+        peaks,
+        commands,
+    );
+    let all = sent.inputs;
+    let kept = instances::prune(all, Extra::Nothing);
+    let done = saved(kept);
+    TickAnswer {
+        number: 0,
+        inputs: done,
+        unsaved: all.unsaved,
+    }
 }
