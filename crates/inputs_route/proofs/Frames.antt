@@ -51,7 +51,7 @@ module _ (new : Routed) (i time : ℕ) (world : World) (s : Inputs) (l : Lists) 
   opened-frame Nowhere z = leaves-quiet i z
   opened-frame (To route) z = open-leaves i z time world
 
-  moved-frame : Frame i s (moved new i time world s l .inputs)
+  pub moved-frame : Frame i s (moved new i time world s l .inputs)
   unfolding moved followedBy cleared
   moved-frame = frame-then i (frame-put i s (clearedSlot (routedSlot new time (slotAt s i)))) (opened-frame new (putSlot s i (clearedSlot (routedSlot new time (slotAt s i)))))
 

@@ -6,3 +6,4 @@ pub mod Keeps
 pub mod Frames
 pub mod Slots
 pub mod Outcomes
+pub mod Views

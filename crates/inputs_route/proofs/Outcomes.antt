@@ -1,11 +1,11 @@
 -- What an accepted `route` makes of its input's slot, with the words that it sends: one law for each of its ends. Assumes nothing.
 use Prim.Native.Nat.{ℕ, _<_, _≤_}
-use mathlib.Core.Bool.{true, false}
+use mathlib.Core.Bool.{true}
 use mathlib.Core.Path.{_≡_, refl, sym, ap, subst, _∙_}
 use mathlib.Core.List.{List, [], _++_}
 use native.Mathlib.Omega.{arith}
 use borrow.Author.Tests.{eqb-true, ltb-true, lt-ltb}
-use Rattle.base.proofs.Choices.{yes-pick, pick-rule}
+use Rattle.base.proofs.Choices.{yes-pick}
 use Rattle.base.proofs.Points.{both-true}
 use Rattle.slots.specs.declared.Routed.{Routed}
 use Rattle.slots.specs.declared.Routed.the-variants.{Nowhere, To}
@@ -26,7 +26,7 @@ use Rattle.opening.specs.Opening.{openedSlot, startsAnew}
 use Rattle.opening.proofs.Outcomes.{startedSlot, open-outcomes}
 use Rattle.record.specs.Lent.{Lists}
 use Rattle.record.specs.Places.{routeFits}
-use Rattle.record.specs.Effects.{Effect, silent, followedBy}
+use Rattle.record.specs.Effects.{silent, followedBy}
 use Rattle.record.proofs.Checked.{Checked}
 use Rattle.clearing.specs.Clearing.{clearedSlot, cleared}
 use Rattle.inputs_route.specs.declared.Wanted.{Wanted}
@@ -65,49 +65,44 @@ module _ (s : Inputs) (l : Lists) (i : ℕ) (c : Checked s l) (h : i < s .count)
       ∙ ap (λ (z : Inputs). silent z l) (for-equal wanted fits equal)
 
 -- ---- any route, in a record that knows its flow
--- To show P of the input's slot after the call and the words sent, show it of each of the ends of the call.
 module _ (new : Routed) (i time : ℕ) (world : World) (s : Inputs) (l : Lists) (low : i < 16) (sized : Sized s) where
   -- the slot with its new route, before the new flow opens
   abbrev there : Slot
   there = clearedSlot (routedSlot new time (slotAt s i))
 
+  abbrev placed : Inputs
+  placed = putSlot s i there
+
+  placed-slot : slotAt placed i ≡ there
+  placed-slot = slot-same s i there low (sized .slots)
+
+  placed-most : placed .policy .«delay_max» ≡ s .policy .«delay_max»
+  placed-most = ap (λ (z : Inputs). z .policy .«delay_max») (put-rest s i there)
+
+  -- To show P of the input's slot after another route, and of the words that opening it sends, show it of each end.
   module _ (P : Slot → List ℕ → Type 0)
-      (equal : equalRoute new (slotAt s i .route) ≡ true → P (slotAt s i) [])
-      (none : equalRoute new (slotAt s i .route) ≡ false → P there (forgetting i (slotAt s i .route) ++ (zeroing i new (slotAt s i) ++ [])))
-      (opens : equalRoute new (slotAt s i .route) ≡ false → (inode channels : ℕ) → world .inode ≡ Of inode → world .reader ≡ Open channels
-      → P (openedSlot there inode (world .head) time) (forgetting i (slotAt s i .route) ++ (zeroing i new (slotAt s i) ++ setInput i channels)))
-      (starts : equalRoute new (slotAt s i .route) ≡ false → (inode channels delay : ℕ) → world .inode ≡ Of inode → world .reader ≡ Open channels → startsAnew there ≡ true → delay ≤ s .policy .«delay_max»
-      → P (startedSlot (openedSlot there inode (world .head) time) delay time) (forgetting i (slotAt s i .route) ++ (zeroing i new (slotAt s i) ++ (setInput i channels ++ setDelay i delay)))) where
-    abbrev placed : Inputs
-    placed = putSlot s i there
+      (stays : P there [])
+      (opens : (inode channels : ℕ) → world .inode ≡ Of inode → world .reader ≡ Open channels → P (openedSlot there inode (world .head) time) (setInput i channels))
+      (starts : (inode channels delay : ℕ) → world .inode ≡ Of inode → world .reader ≡ Open channels → startsAnew there ≡ true → delay ≤ s .policy .«delay_max»
+      → P (startedSlot (openedSlot there inode (world .head) time) delay time) (setInput i channels ++ setDelay i delay)) where
+    stays-there : P (slotAt placed i) []
+    stays-there = subst (λ (x : Slot). P x []) (sym placed-slot) stays
 
-    placed-slot : slotAt placed i ≡ there
-    placed-slot = slot-same s i there low (sized .slots)
+    open-ends : (to : Routed) → P (slotAt (openedFor to i time world placed .inputs) i) (openedFor to i time world placed .words)
+    unfolding quiet
+    open-ends Nowhere = stays-there
+    open-ends (To route) =
+        open-outcomes i low placed time world (sized-put s i there sized) P stays-there
+        (λ inode channels of open-to. subst (λ (x : Slot). P (openedSlot x inode (world .head) time) (setInput i channels)) (sym placed-slot) (opens inode channels of open-to))
+        (λ inode channels delay of open-to anew most.
+        subst (λ (x : Slot). P (startedSlot (openedSlot x inode (world .head) time) delay time) (setInput i channels ++ setDelay i delay)) (sym placed-slot)
+        (starts inode channels delay of open-to (subst (λ (x : Slot). startsAnew x ≡ true) placed-slot anew) (subst (λ (n : ℕ). delay ≤ n) placed-most most)))
 
-    placed-most : placed .policy .«delay_max» ≡ s .policy .«delay_max»
-    placed-most = ap (λ (z : Inputs). z .policy .«delay_max») (put-rest s i there)
+    pub moved-outcomes : P (slotAt (moved new i time world s l .inputs) i) (moved new i time world s l .words)
+    unfolding moved followedBy cleared
+    moved-outcomes = open-ends new
 
-    abbrev Sent : Slot → List ℕ → Type 0
-    Sent x words = P x (forgetting i (slotAt s i .route) ++ (zeroing i new (slotAt s i) ++ words))
-
-    module _ (other : equalRoute new (slotAt s i .route) ≡ false) where
-      stays-there : Sent (slotAt placed i) []
-      stays-there = subst (λ (x : Slot). Sent x []) (sym placed-slot) (none other)
-
-      open-ends : (to : Routed) → Sent (slotAt (openedFor to i time world placed .inputs) i) (openedFor to i time world placed .words)
-      unfolding quiet
-      open-ends Nowhere = stays-there
-      open-ends (To route) =
-          open-outcomes i low placed time world (sized-put s i there sized) Sent stays-there
-          (λ inode channels of open-to. subst (λ (x : Slot). Sent (openedSlot x inode (world .head) time) (setInput i channels)) (sym placed-slot) (opens other inode channels of open-to))
-          (λ inode channels delay of open-to anew most.
-          subst (λ (x : Slot). Sent (startedSlot (openedSlot x inode (world .head) time) delay time) (setInput i channels ++ setDelay i delay)) (sym placed-slot)
-          (starts other inode channels delay of open-to (subst (λ (x : Slot). startsAnew x ≡ true) placed-slot anew) (subst (λ (n : ℕ). delay ≤ n) placed-most most)))
-
-      moved-ends : Sent (slotAt (moved new i time world s l .inputs) i) (moved new i time world s l .words)
-      unfolding moved followedBy cleared
-      moved-ends = open-ends new
-
-    pub to-outcomes : P (slotAt (routedTo new i time world s l .inputs) i) (routedTo new i time world s l .words)
-    unfolding routedTo rerouted
-    to-outcomes = pick-rule (λ (effect : Effect). P (slotAt (effect .inputs) i) (effect .words)) (equalRoute new (slotAt s i .route)) _ _ equal moved-ends
+  -- .. and what goes before them: ClearInput for an old route, and SetDelay 0 where the delay starts over
+  pub moved-words : rerouted new i time world s l .words ≡ (forgetting i (slotAt s i .route) ++ (zeroing i new (slotAt s i) ++ moved new i time world s l .words))
+  unfolding rerouted
+  moved-words = refl
