@@ -1,14 +1,15 @@
 -- The number of `new`: checks 1 to 5, then the time (8), then the room for the loaded flows (9). Assumes nothing.
 use Prim.Native.Nat.{ℕ, _<_, _≤_}
 use mathlib.Core.Bool.{Bool, true, false}
-use mathlib.Core.Path.{_≡_, refl, _∙_}
+use mathlib.Core.Path.{_≡_, refl, sym, _∙_}
 use mathlib.Core.List.{List}
 use lib.ListN.{length}
-use borrow.Author.Tests.{lt-leb, le-leb}
+use borrow.Author.Tests.{leb-true, lt-leb, le-leb}
 use Rattle.base.specs.Choice.{ask}
 use Rattle.base.specs.Limits.{timeLimit}
 use Rattle.base.proofs.Choices.{yes-ask, no-ask, asked}
 use Rattle.record.specs.Lent.{Lists}
+use Rattle.record.proofs.Numbers.{by-zero}
 use Rattle.inputs_new.specs.declared.Settings.{Settings}
 use Rattle.inputs_new.specs.Fresh.{blankFor}
 use Rattle.inputs_new.specs.Loading.{loadFits}
@@ -56,3 +57,14 @@ module _ (settings : Settings) (bytes delays : List ℕ) (time : ℕ) (l : Lists
     pub number-none : time ≤ timeLimit → loadFits (length delays) bytes delays (blankFor settings) ≡ true → newNumber settings bytes delays time l words ≡ 0
     unfolding newNumber
     number-none soon fits = settings-passed settings (length bytes) (length delays) l words passed _ ∙ yes-ask 8 _ (le-leb _ _ soon) ∙ yes-ask 9 _ fits
+
+  -- what number 0 says
+  pub number-told : newNumber settings bytes delays time l words ≡ 0 → (settingsNumber settings (length bytes) (length delays) l words 0 ≡ 0) × (time ≤ timeLimit) × (loadFits (length delays) bytes delays (blankFor settings) ≡ true)
+  unfolding newNumber
+  number-told h =
+      by-zero (settingsNumber settings (length bytes) (length delays) l words 0)
+      (λ e.
+      let a = asked 7 _ _ (sym (settings-passed settings (length bytes) (length delays) l words e _) ∙ h) in
+      let b = asked 8 _ _ (a .1) in
+      (e, leb-true _ _ (a .0), b .0))
+      (λ e. absurd (e (sym (settings-refused settings (length bytes) (length delays) l words e _) ∙ h)))
