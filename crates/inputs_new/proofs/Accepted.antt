@@ -36,6 +36,7 @@ use Rattle.inputs_new.specs.Loading.{loadedFlow, loadFits}
 use Rattle.inputs_new.specs.Start.{kindAt, zeroedLists, loaded, started, startedBelow}
 use Rattle.inputs_new.specs.Checks.{marginFits, settingsNumber, newNumber}
 use Rattle.inputs_new.proofs.BlankRecord.{shared-margins, blank-slot, blank-checked, zeroed-starts, zeroed-totals, zeroed-counts, zeroed-times, zeroed-lags}
+use Rattle.inputs_new.proofs.Numbers.{number-told}
 use Rattle.inputs_new.proofs.Loaded.{Remembers, loaded-rest, loads-below, loaded-keeps, loaded-last}
 use Rattle.inputs_new.proofs.Started.{startedSlot, manualWords, below-rest, below-slot, below-words, below-keeps}
 
@@ -70,12 +71,9 @@ module _ (settings : Settings) (l : Lists) (words : ℕ) where
 
   pub accepted-of : (bytes delays : List ℕ) (time : ℕ) → newNumber settings bytes delays time l words ≡ 0
       → Fit settings (length bytes) (length delays) l words × (time ≤ timeLimit) × (loadFits (length delays) bytes delays (blankFor settings) ≡ true)
-  unfolding newNumber
   accepted-of bytes delays time h =
-      let a = fit-of (length bytes) (length delays) _ h in
-      let b = asked 7 _ _ (a .1) in
-      let c = asked 8 _ _ (b .1) in
-      (a .0, leb-true _ _ (b .0), c .0)
+      let told = number-told settings bytes delays time l words h in
+      (fit-of (length bytes) (length delays) 0 (told .0) .0, told .1, told .2)
 
 -- ---- an input as it starts
 abbrev pub startedDelay : ExtraDelay → (maximum : ℕ) → ℕ

@@ -1,17 +1,17 @@
 -- The checks of `new` and what it leaves, case by case, as the code goes. Assumes nothing.
 use Prim.Native.Nat.{ℕ, _*_, _<_, _≤_}
 use mathlib.Core.Bool.{Bool, true, false, not}
-use mathlib.Core.Path.{_≡_, refl, sym, ap, _∙_}
+use mathlib.Core.Path.{_≡_, sym, ap, _∙_}
 use mathlib.Core.List.{List}
 use native.Mathlib.Omega.{arith}
 use lib.Dec.{eqb}
 use lib.ListN.{length, replicate, length-replicate}
 use lib.Seq.{sets}
-use borrow.Author.Tests.{leb-true, lt-leb, le-leb, not-false}
+use borrow.Author.Tests.{leb-true, not-false}
 use Rattle.base.specs.Choice.{ask}
 use Rattle.base.specs.Limits.{timeLimit}
 use Rattle.base.proofs.All.{told-no, told-yes}
-use Rattle.base.proofs.Choices.{yes-ask, no-ask, asked}
+use Rattle.base.proofs.Choices.{yes-ask, no-ask}
 use Rattle.base.proofs.Points.{both-true}
 use Rattle.base.proofs.Words.{laid}
 use Rattle.policy.specs.declared.DelayPolicy.{DelayPolicy}
@@ -33,6 +33,7 @@ use Rattle.inputs_new.specs.Loading.{loadedBelow, loadFits}
 use Rattle.inputs_new.specs.Start.{zeroedLists, startedBelow, started}
 use Rattle.inputs_new.specs.Checks.{marginFits, settingsNumber, newNumber}
 use Rattle.inputs_new.specs.Reply.{newReply}
+use Rattle.inputs_new.proofs.Numbers.{number-refused, number-late, number-full, number-none}
 use Rattle.inputs_new.proofs.Accepted.{Fit, fit-of}
 
 -- ---- checks 1 to 5
@@ -105,29 +106,6 @@ module _ (settings : Settings) (bytes delays : ℕ) (l : Lists) (words : ℕ) wh
               pub passed-settings : eqb bytes (delays * 16) ≡ true → 0 ≡ settingsNumber settings bytes delays l words 0
               passed-settings h = sym (passed-words 0 ∙ yes-ask 5 _ h)
 
--- the number with other checks after these: theirs where this is 0, else this
-same-refusal : (k : ℕ) (b : Bool) {m n : ℕ} → ((n ≡ 0 → ⊥) → m ≡ n) → (ask k b n ≡ 0 → ⊥) → ask k b m ≡ ask k b n
-unfolding ask
-same-refusal k true same none = same none
-same-refusal k false same none = refl
-
-module _ (settings : Settings) (bytes delays : ℕ) (l : Lists) (words : ℕ) where
-  settings-refused : (settingsNumber settings bytes delays l words 0 ≡ 0 → ⊥) → (rest : ℕ) → settingsNumber settings bytes delays l words rest ≡ settingsNumber settings bytes delays l words 0
-  unfolding settingsNumber
-  settings-refused h rest = same-refusal 1 _ (same-refusal 2 _ (same-refusal 3 _ (same-refusal 4 _ (same-refusal 5 _ (same-refusal 5 _ (same-refusal 5 _ (λ none. absurd (none refl)))))))) h
-
-  settings-passed : settingsNumber settings bytes delays l words 0 ≡ 0 → (rest : ℕ) → settingsNumber settings bytes delays l words rest ≡ rest
-  unfolding settingsNumber
-  settings-passed h rest =
-      let a = asked 0 _ _ h in
-      let b = asked 1 _ _ (a .1) in
-      let c = asked 2 _ _ (b .1) in
-      let d = asked 3 _ _ (c .1) in
-      let e = asked 4 _ _ (d .1) in
-      let f = asked 4 _ _ (e .1) in
-      let g = asked 4 _ _ (f .1) in
-      yes-ask 1 _ (a .0) ∙ yes-ask 2 _ (b .0) ∙ yes-ask 3 _ (c .0) ∙ yes-ask 4 _ (d .0) ∙ yes-ask 5 _ (e .0) ∙ yes-ask 5 _ (f .0) ∙ yes-ask 5 _ (g .0)
-
 -- ---- the call
 module _ (settings : Settings) (kinds : List ExtraDelay) (bytes delays : List ℕ) (time : ℕ) (l : Lists) (commands : List ℕ) {n : ℕ} (is-settings : n ≡ settingsNumber settings (length bytes) (length delays) l (length commands) 0) where
   module _ {none : Inputs} (is-none : none ≡ noInputs) where
@@ -138,22 +116,17 @@ module _ (settings : Settings) (kinds : List ExtraDelay) (bytes delays : List �
         ∙ reply-refused noInputs l commands (started settings kinds bytes delays time l) _ e h
 
     pub new-refused : (n ≡ 0 → ⊥) → _≡_ {A = Reply} (record { number = n; inputs = none; lists = l; commands = commands }) (newReply settings kinds bytes delays time l commands)
-    unfolding newNumber
-    new-refused h = refused-by n (is-settings ∙ sym (settings-refused settings _ _ l _ (λ e. h (is-settings ∙ e)) _)) h
+    new-refused h = refused-by n (is-settings ∙ sym (number-refused settings bytes delays time l (length commands) (λ e. h (is-settings ∙ e)))) h
 
     module _ (passed : n ≡ 0) where
       pub new-late : timeLimit < time → _≡_ {A = Reply} (record { number = 8; inputs = none; lists = l; commands = commands }) (newReply settings kinds bytes delays time l commands)
-      unfolding newNumber
-      new-late late = refused-by 8 (sym (settings-passed settings _ _ l _ (sym is-settings ∙ passed) _ ∙ no-ask 8 _ (lt-leb _ _ late))) (λ e. omega arith)
+      new-late late = refused-by 8 (sym (number-late settings bytes delays time l (length commands) (sym is-settings ∙ passed) late)) (λ e. omega arith)
 
       pub new-full : time ≤ timeLimit → {s : Inputs} {fits : Bool} → s ≡ blankFor settings → fits ≡ loadFits (length delays) bytes delays s → not fits ≡ true
           → _≡_ {A = Reply} (record { number = 9; inputs = none; lists = l; commands = commands }) (newReply settings kinds bytes delays time l commands)
-      unfolding newNumber
       new-full soon is-blank is-fits full =
           refused-by 9
-          (sym (settings-passed settings _ _ l _ (sym is-settings ∙ passed) _
-          ∙ yes-ask 8 _ (le-leb _ _ soon)
-          ∙ no-ask 9 _ (told-no _ _ (is-fits ∙ ap (loadFits (length delays) bytes delays) is-blank) full)))
+          (sym (number-full settings bytes delays time l (length commands) (sym is-settings ∙ passed) soon (told-no _ _ (is-fits ∙ ap (loadFits (length delays) bytes delays) is-blank) full)))
           (λ e. omega arith)
 
   module _ (passed : n ≡ 0) where
@@ -169,13 +142,11 @@ module _ (settings : Settings) (kinds : List ExtraDelay) (bytes delays : List �
     pub new-done : time ≤ timeLimit → {s all : Inputs} {fits : Bool} → s ≡ blankFor settings → fits ≡ loadFits (length delays) bytes delays s → not fits ≡ false → (fits ≡ true → all ≡ loadedBelow (length delays) bytes delays s)
         → {m : Lists} {zeros after : List ℕ} {sent : Sent} → m ≡ zeroedLists l → zeros ≡ replicate (length commands) 0 → Did (settings .count * 3) (startedBelow (settings .count) kinds time all) sent zeros after 0
         → _≡_ {A = Reply} (record { number = n; inputs = sent .inputs; lists = m; commands = after }) (newReply settings kinds bytes delays time l commands)
-    unfolding newReply newNumber started
+    unfolding newReply started
     new-done soon {s} {all} {fits} is-blank is-fits room is-loaded {m} {zeros} {after} {sent} is-zeroed is-zeros did =
         reply-accepted noInputs l commands (started settings kinds bytes delays time l) _
         (passed
-        ∙ sym (settings-passed settings _ _ l _ (sym is-settings ∙ passed) _
-        ∙ yes-ask 8 _ (le-leb _ _ soon)
-        ∙ yes-ask 9 _ (told-yes _ _ (is-fits ∙ ap (loadFits (length delays) bytes delays) is-blank) room)))
+        ∙ sym (number-none settings bytes delays time l (length commands) (sym is-settings ∙ passed) soon (told-yes _ _ (is-fits ∙ ap (loadFits (length delays) bytes delays) is-blank) room)))
         passed
         (beside (zeroedLists l) (startedBelow (settings .count) kinds time all))
         (ap (λ (z : Inputs). beside (zeroedLists l) (startedBelow (settings .count) kinds time z)) (is-loaded (not-false fits room) ∙ ap (loadedBelow (length delays) bytes delays) is-blank))

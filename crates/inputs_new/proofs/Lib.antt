@@ -2,6 +2,7 @@
 pub mod BlankRecord
 pub mod Loaded
 pub mod Started
+pub mod Numbers
 pub mod Accepted
 mod Loops
 mod Calls

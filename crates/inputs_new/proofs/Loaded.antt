@@ -71,6 +71,20 @@ pub record Remembers (s : Inputs) (flow : Flow) (delay : ℕ) : Type 0 where
   pub has : recalled s place ≡ Delay delay
 
 module _ (s : Inputs) (flow : Flow) (delay : ℕ) where
+  -- only the flow table changes, and the unsaved mark stays
+  pub loaded-one-rest : loadedOne flow delay s ≡ withFlows s (loadedOne flow delay s .flows) (enrolled s flow .«flow_count») (s .unsaved)
+  unfolding loadedOne
+  loaded-one-rest =
+      kept-rest (enrolled s flow) _ delay
+      ∙ ap (λ (z : Inputs). withFlows z (loadedOne flow delay s .flows) (z .«flow_count») (z .unsaved)) (enrolled-rest s flow)
+
+  loaded-one-count : loadedOne flow delay s .«flow_count» ≡ enrolled s flow .«flow_count»
+  loaded-one-count = ap (λ (z : Inputs). z .«flow_count») loaded-one-rest
+
+  loaded-one-flow : Sized (enrolled s flow) → (j : ℕ) → flowAt (loadedOne flow delay s) j ≡ flowAt (enrolled s flow) j
+  unfolding loadedOne
+  loaded-one-flow sized j = kept-flow (enrolled s flow) _ delay sized j
+
   module _ (l : Lists) (c : Checked s l) (room : admits s flow ≡ true) where
     enrolled-at : placeOf (enrolled s flow) flow ≡ placeOf s flow
     enrolled-at = enrolled-place s flow (c .whole .flows .most) (c .sized) room
@@ -83,9 +97,9 @@ module _ (s : Inputs) (flow : Flow) (delay : ℕ) where
     unfolding loadedOne
     loaded-one-remembers = record {
       place = placeOf (enrolled s flow) flow;
-      known = subst (λ (z : Inputs). placeOf (enrolled s flow) flow < z .«flow_count») (sym (kept-rest (enrolled s flow) (placeOf (enrolled s flow) flow) delay)) enrolled-there;
+      known = omega (arith, loaded-one-count, enrolled-there);
       holds =
-          kept-flow (enrolled s flow) (placeOf (enrolled s flow) flow) delay (enrol-keeps s l c flow .sized) (placeOf (enrolled s flow) flow)
+          loaded-one-flow (enrol-keeps s l c flow .sized) (placeOf (enrolled s flow) flow)
           ∙ ap (flowAt (enrolled s flow)) enrolled-at
           ∙ enrolled-holds s flow (c .whole .flows .most) (c .sized) room;
       has = kept-recalled (enrolled s flow) (placeOf (enrolled s flow) flow) delay (omega (arith, enrolled-there, enrolled-within s flow (c .whole .flows .most))) (enrol-keeps s l c flow .sized);
@@ -96,8 +110,8 @@ module _ (s : Inputs) (flow : Flow) (delay : ℕ) where
     unfolding loadedOne
     loaded-one-leaves other had apart r = record {
       place = r .place;
-      known = subst (λ (z : Inputs). r .place < z .«flow_count») (sym (kept-rest (enrolled s flow) (placeOf (enrolled s flow) flow) delay)) (omega (arith, r .known, enrolled-more s flow (c .whole .flows .most)));
-      holds = kept-flow (enrolled s flow) (placeOf (enrolled s flow) flow) delay (enrol-keeps s l c flow .sized) (r .place) ∙ still-flow ∙ r .holds;
+      known = omega (arith, loaded-one-count, r .known, enrolled-more s flow (c .whole .flows .most));
+      holds = loaded-one-flow (enrol-keeps s l c flow .sized) (r .place) ∙ still-flow ∙ r .holds;
       has = kept-other (enrolled s flow) (placeOf (enrolled s flow) flow) delay (r .place) elsewhere ∙ still-delay ∙ r .has;
     }
       where
@@ -116,13 +130,6 @@ module _ (s : Inputs) (flow : Flow) (delay : ℕ) where
     pub loaded-one-keeps : Checked (loadedOne flow delay s) l
     unfolding loadedOne
     loaded-one-keeps = kept-keeps (enrolled s flow) (placeOf (enrolled s flow) flow) delay l (enrol-keeps s l c flow) enrolled-there
-
-  -- only the flow table changes, and the unsaved mark stays
-  pub loaded-one-rest : loadedOne flow delay s ≡ withFlows s (loadedOne flow delay s .flows) (enrolled s flow .«flow_count») (s .unsaved)
-  unfolding loadedOne
-  loaded-one-rest =
-      kept-rest (enrolled s flow) (placeOf (enrolled s flow) flow) delay
-      ∙ ap (λ (z : Inputs). withFlows z (loadedOne flow delay s .flows) (z .«flow_count») (z .unsaved)) (enrolled-rest s flow)
 
 -- ---- all of them
 module _ (bytes delays : List ℕ) (s : Inputs) where
