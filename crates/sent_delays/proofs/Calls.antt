@@ -139,7 +139,7 @@ module _ (settings : Settings) (kinds : List ExtraDelay) (bytes delays : List �
   new-number = reply-number number noInputs l commands (started settings kinds bytes delays time l)
 
   new-tells : number ≡ 0 → TellsEffect (blankFor settings) (started settings kinds bytes delays time l)
-  new-tells e = tells-started settings kinds bytes delays time l (accepted-of settings bytes delays l (length commands) time e .0 .allowed .most)
+  new-tells e = tells-started settings kinds bytes delays time l (accepted-of settings l (length commands) bytes delays time e .0 .allowed .most)
 
   module _ (passed : fresh .number ≡ 0) where
     pub new-sized : Sized (fresh .inputs)

@@ -34,7 +34,7 @@ module _ (night : Night) (is-new : fresh night .number ≡ 0) where
   long : length (fresh night .commands) ≡ night .settings .count * 12
   unfolding started
   long =
-      let fit = accepted-of (night .settings) (night .bytes) (night .delays) (night .lists) (length (night .commands)) (night .time) passed .0 in
+      let fit = accepted-of (night .settings) (night .lists) (length (night .commands)) (night .bytes) (night .delays) (night .time) passed .0 in
       let few = started-few (night .settings .count) (night .kinds) (night .time) (loaded (night .settings) (night .bytes) (night .delays)) in
       ap (λ (r : Reply). length (r .commands)) (new-reply (night .settings) (night .kinds) (night .bytes) (night .delays) (night .time) (night .lists) (night .commands) passed)
       ∙ padded-long (length (night .commands)) (startedBelow (night .settings .count) (night .kinds) (night .time) (loaded (night .settings) (night .bytes) (night .delays)) .words) (omega (arith, few, fit .commands-long))

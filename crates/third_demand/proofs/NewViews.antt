@@ -75,7 +75,7 @@ module _ (settings : Settings) (kinds : List ExtraDelay) (bytes delays : List â„
     checked = new-checked settings kinds bytes delays time l (length commands) accepted;
     given = new-settings settings kinds bytes delays time l (length commands) accepted;
     lifted = Î» i there.
-        started-lifted settings time (accepted-of settings bytes delays l (length commands) time accepted .1) (kindAt kinds i)
+        started-lifted settings time (accepted-of settings l (length commands) bytes delays time accepted .1) (kindAt kinds i)
         (viewOf (effect .inputs) (effect .lists) i) (view-is i there);
     slot = new-started settings kinds bytes delays time l (length commands) accepted;
   }
