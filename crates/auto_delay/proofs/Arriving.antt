@@ -16,8 +16,8 @@ use Rattle.slots.specs.declared.Inputs.{Inputs}
 use Rattle.slots.specs.Inputs.{slotAt}
 use Rattle.slots.proofs.Frame.{slot-same, slot-other}
 use Rattle.record.specs.Lent.{Lists, bucketsIn, windowFor, windowOf, withWindow}
-use Rattle.record.proofs.Facts.{WholeSlot}
-use Rattle.record.proofs.Checked.{Checked}
+use Rattle.record.specs.Facts.{WholeSlot}
+use Rattle.record.specs.Facts.{Checked}
 use Rattle.record.proofs.Beside.{Beside, beside-window, window-same}
 use Rattle.record.proofs.Keep.{window-keeps}
 use Rattle.auto_delay.specs.Arrival.{windowAfter, lastLag, arrivedSlot, arrived}

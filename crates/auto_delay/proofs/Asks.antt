@@ -29,7 +29,7 @@ use Rattle.slots.specs.declared.Inputs.{Inputs}
 use Rattle.slots.specs.Inputs.{slotAt}
 use Rattle.record.specs.Lent.{Lists, lists, bucketsIn, windowIn, windowFor}
 use Rattle.record.specs.Places.{proposalFits}
-use Rattle.record.proofs.Blocks.{block-within}
+use Rattle.base.proofs.Blocks.{block-within}
 use Rattle.record.proofs.Shapes.{buckets-least, held-times, held-lags}
 use Rattle.auto_delay.specs.Auto.{permille999, p999Of, proposedOr, currentOf}
 use Rattle.auto_delay.specs.Asked.{WindowReady, ArriveAsked, P999Asked, Ready, AutoAsked}

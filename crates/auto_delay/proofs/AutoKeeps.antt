@@ -22,13 +22,14 @@ use Rattle.slots.specs.declared.Inputs.{Inputs}
 use Rattle.slots.specs.Slots.{stateNumber, withHold, withProposed, withDelayChanges, withDelay}
 use Rattle.slots.specs.Inputs.{slotAt, putSlot}
 use Rattle.slots.proofs.Frame.{slot-same, slot-other}
-use Rattle.slots.proofs.Sized.{Sized, sized-put}
+use Rattle.slots.proofs.Sized.{sized-put}
+use Rattle.slots.specs.Sized.{Sized}
 use Rattle.commands.specs.Commands.{quiet, first}
 use Rattle.set_delay.specs.SetDelay.{delayStored, setDelayOf}
 use Rattle.set_delay.proofs.Stored.{stored-same, stored-other}
 use Rattle.record.specs.Lent.{Lists, bucketsIn, windowOf, heldOf, withHeld}
-use Rattle.record.proofs.Facts.{WholeSlot}
-use Rattle.record.proofs.Checked.{Checked}
+use Rattle.record.specs.Facts.{WholeSlot}
+use Rattle.record.specs.Facts.{Checked}
 use Rattle.record.proofs.Beside.{Beside, beside-same, beside-held}
 use Rattle.record.proofs.Keep.{input-keeps, hold-keeps}
 use Rattle.record.proofs.Shapes.{held-times, held-lags}

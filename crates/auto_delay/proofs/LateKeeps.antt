@@ -12,8 +12,8 @@ use Rattle.slots.specs.declared.Inputs.{Inputs}
 use Rattle.slots.specs.Inputs.{slotAt}
 use Rattle.slots.proofs.Frame.{slot-same, slot-other}
 use Rattle.record.specs.Lent.{Lists}
-use Rattle.record.proofs.Facts.{WholeSlot}
-use Rattle.record.proofs.Checked.{Checked}
+use Rattle.record.specs.Facts.{WholeSlot}
+use Rattle.record.specs.Facts.{Checked}
 use Rattle.record.proofs.Keep.{slot-keeps}
 use Rattle.auto_delay.specs.Arrival.{lateNow, lateEvents, lateSlot, lateEvent}
 use Rattle.auto_delay.specs.Asked.{Ready}

@@ -16,7 +16,7 @@ use Rattle.slots.proofs.Frame.{slot-same}
 use Rattle.record.specs.Lent.{Lists, bucketsIn, windowFor, heldFor}
 use Rattle.record.specs.Places.{proposalFits}
 use Rattle.record.specs.Checks.{Long}
-use Rattle.record.proofs.Checked.{Checked}
+use Rattle.record.specs.Facts.{Checked}
 use Rattle.record.proofs.Beside.{Beside}
 use Rattle.auto_delay.specs.Asked.{Ready}
 use Rattle.keeping.proofs.Settings.{SameSettings}

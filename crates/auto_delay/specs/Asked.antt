@@ -34,13 +34,13 @@ pub record P999Asked (s : Inputs) (slot : Slot) (i : ℕ) (starts counts : List 
   pub totals : List ℕ
   pub window : WindowReady s (lists starts totals counts [] []) i slot
 
--- what `late_event` asks: 2, 10 of the applied delay, and 6 of one counter
+-- what `late_event` asks: 2 and 4, 10 of the applied delay, and 6 of one counter
 pub record LateAsked (s : Inputs) (i applied : ℕ) : Type 0 where
   pub sound : settings.Sound (s .policy)
   pub applied-in : applied ≤ s .policy .«delay_max»
   pub events : slotAt s i .«late_events» < 9_223_372_036_854_775_808
 
--- input i as 1 to 6 let it through, but for its route, its counters and the tables: the steps of a tick keep this even where they raise a counter to 2^63
+-- input i as 1 to 6 let it through, but for its route, its counters, the times of its head and its last SetDelay, and the tables: the steps of a tick keep this even where they raise a counter to 2^63
 pub record Ready (s : Inputs) (l : Lists) (i : ℕ) : Type 0 where
   pub fitting : Fitting s l
   pub input : i < s .count

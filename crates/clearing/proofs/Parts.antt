@@ -18,7 +18,7 @@ use Rattle.slots.specs.Inputs.{putSlot}
 use Rattle.record.specs.Lent.{Lists, lists, bucketsIn}
 use Rattle.record.specs.Checks.{Fitting}
 use Rattle.record.specs.Effects.{silent}
-use Rattle.record.proofs.Blocks.{block-within}
+use Rattle.base.proofs.Blocks.{block-within}
 use Rattle.record.proofs.Shapes.{buckets-least}
 use Rattle.clearing.specs.Clearing.{cleared}
 

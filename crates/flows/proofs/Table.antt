@@ -21,12 +21,12 @@ use Rattle.slots.specs.declared.Routed.{Routed}
 use Rattle.slots.specs.declared.Routed.the-variants.{Nowhere, To}
 use Rattle.slots.specs.declared.Slot.{Slot}
 use Rattle.slots.specs.declared.Inputs.{Inputs}
-use Rattle.slots.specs.First.{first}
+use Rattle.base.specs.First.{first}
 use Rattle.slots.specs.Slots.{isAuto}
 use Rattle.slots.specs.Inputs.{slotAt, withFlows}
-use Rattle.slots.proofs.First.{first-at-most, first-holds, first-before, first-only, first-cong}
-use Rattle.slots.proofs.Sized.{Sized}
-use Rattle.slots.proofs.Tests.{not-both, all-cong}
+use Rattle.base.proofs.First.{first-at-most, first-holds, first-before, first-only, first-cong}
+use Rattle.slots.specs.Sized.{Sized}
+use Rattle.base.proofs.Tests.{not-both, all-cong}
 use Rattle.flows.specs.Flows.{emptyEntry, entryAt, sameFlow, flowAt, holdsFlow, known, placeBelow, placeOf, newAt, distinctFlows, admits, added, enrolledAt, enrolled, recalled, kept, differs, marked, remembered, rememberedBy, rememberedFor}
 use Rattle.flows.proofs.Cases.{entry-in, entry-past}
 

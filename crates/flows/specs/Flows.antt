@@ -13,7 +13,7 @@ use Rattle.slots.specs.declared.Routed.{Routed}
 use Rattle.slots.specs.declared.Routed.the-variants.{Nowhere, To}
 use Rattle.slots.specs.declared.Slot.{Slot}
 use Rattle.slots.specs.declared.Inputs.{Inputs}
-use Rattle.slots.specs.First.{first}
+use Rattle.base.specs.First.{first}
 use Rattle.slots.specs.Slots.{isAuto}
 use Rattle.slots.specs.Inputs.{withFlows}
 

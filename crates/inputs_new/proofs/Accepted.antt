@@ -22,13 +22,14 @@ use Rattle.slots.specs.declared.Inode.the-variants.{Gone}
 use Rattle.slots.specs.declared.Proposal.the-variants.{Nothing}
 use Rattle.slots.specs.declared.Slot.{Slot}
 use Rattle.slots.specs.declared.Inputs.{Inputs}
-use Rattle.slots.specs.Slots.{emptySlot, emptyHold}
+use Rattle.slots.specs.Slots.{emptySlot}
 use Rattle.slots.specs.Inputs.{slotAt, withSlots, withFlows}
-use Rattle.slots.proofs.Sized.{Sized}
+use Rattle.slots.specs.Sized.{Sized}
 use Rattle.flows.specs.Flows.{entryAt, flowAt, recalled}
 use Rattle.record.specs.Lent.{Lists, bucketsIn, windowFor, windowOf, heldOf}
 use Rattle.record.specs.Checks.{Allowed, Long}
-use Rattle.record.proofs.Checked.{Checked, allowed-of, long-of}
+use Rattle.record.proofs.Checked.{allowed-of, long-of}
+use Rattle.record.specs.Facts.{Checked}
 use Rattle.keeping.proofs.Settings.{underSettings, SameSettings}
 use Rattle.inputs_new.specs.declared.Settings.{Settings}
 use Rattle.inputs_new.specs.Fresh.{policyOf, blank, blankFor}
@@ -103,7 +104,7 @@ pub record AsStarted (kind : ExtraDelay) (time maximum : ℕ) (slot : Slot) : Ty
   pub last-set : slot .«last_set» ≡ startedSet kind time
 
 pub as-started : (kind : ExtraDelay) (time maximum : ℕ) → AsStarted kind time maximum (startedSlot kind time maximum emptySlot)
-unfolding emptySlot emptyHold
+unfolding emptySlot
 as-started (Auto tag) time maximum =
     record { config = refl; state = refl; route = refl; inode = refl; head = refl; head-changed = refl; reopens = refl; seconds = refl; last-lag = refl; delay = refl; proposed = refl; hold = refl; changes = refl; lates = refl; late-before = refl; last-set = refl }
 as-started (Ms delay) time maximum =

@@ -22,18 +22,18 @@ use Rattle.delay_hold.specs.Whole.{wholeHold}
 use Rattle.slots.specs.declared.Slot.{Slot}
 use Rattle.slots.specs.declared.FlowEntry.{FlowEntry}
 use Rattle.slots.specs.declared.Instance.{Instance}
-use Rattle.slots.specs.Slots.{emptySlot, emptyHold}
+use Rattle.slots.specs.Slots.{emptySlot}
 use Rattle.slots.specs.Inputs.{slotAt}
-use Rattle.slots.proofs.Sized.{Sized}
+use Rattle.slots.specs.Sized.{Sized}
 use Rattle.flows.specs.Flows.{emptyEntry, entryAt, known, distinctFlows}
 use Rattle.instances.specs.Instances as keys
 use Rattle.instances.specs.Instances.{noKey, keyAt, distinctKeys}
 use Rattle.record.specs.Lent.{Lists, bucketsIn, windowOf, heldOf}
 use Rattle.record.specs.Places.{routeFits}
 use Rattle.record.specs.Checks.{Long, Fitting, Allowed}
-use Rattle.record.proofs.Facts.{WholeSlot, WholeFlows, WholeInstances}
-use Rattle.record.proofs.Checked.{Checked}
-use Rattle.record.proofs.Blocks.{block-within}
+use Rattle.record.specs.Facts.{WholeSlot, WholeFlows, WholeInstances}
+use Rattle.record.specs.Facts.{Checked}
+use Rattle.base.proofs.Blocks.{block-within}
 use Rattle.record.proofs.Shapes.{fresh-whole, cleared-whole}
 use Rattle.inputs_new.specs.declared.Settings.{Settings}
 use Rattle.inputs_new.specs.Fresh.{policyOf, blank, blankFor}
@@ -144,7 +144,7 @@ module _ (settings : Settings) (l : Lists) (allowed : Allowed (settings .count) 
         }
 
     blank-held : heldOf (blankFor settings) (zeroedLists l) i ≡ held freshHold (replicate 600 0) (replicate 600 0)
-    unfolding emptySlot emptyHold
+    unfolding emptySlot
     blank-held = λ t. record { hold = blank-slot settings i t .hold; times = zeroed-times t; lags = zeroed-lags t }
 
   pub blank-checked : Checked (blankFor settings) (zeroedLists l)

@@ -15,11 +15,11 @@ use Rattle.slots.specs.declared.FlowEntry.{FlowEntry}
 use Rattle.slots.specs.declared.Remembered.the-variants.{Delay}
 use Rattle.slots.specs.declared.Inputs.{Inputs}
 use Rattle.slots.specs.Inputs.{withFlows}
-use Rattle.slots.proofs.Sized.{Sized}
+use Rattle.slots.specs.Sized.{Sized}
 use Rattle.flows.specs.Flows.{entryAt, flowAt, admits, enrolled, placeOf, recalled, kept, differs, remembered}
 use Rattle.flows.proofs.Table.{enrolled-within, enrolled-more, enrolled-stable, enrolled-rest, enrolled-place, enrolled-known, enrolled-holds, remember-same, remember-other, remember-flow}
 use Rattle.record.specs.Lent.{Lists}
-use Rattle.record.proofs.Checked.{Checked}
+use Rattle.record.specs.Facts.{Checked}
 use Rattle.record.proofs.Tables.{enrol-keeps, remember-keeps, mark-keeps}
 use Rattle.inputs_new.specs.Loading.{loadedFlow, loadedOne, loadedBelow, loadFits}
 

@@ -9,7 +9,7 @@ use Rattle.base.specs.Choice.{ask}
 use Rattle.base.specs.Limits.{timeLimit}
 use Rattle.base.proofs.Choices.{yes-ask, no-ask, asked}
 use Rattle.record.specs.Lent.{Lists}
-use Rattle.record.proofs.Numbers.{by-zero}
+use Rattle.base.proofs.Choices.{by-zero}
 use Rattle.inputs_new.specs.declared.Settings.{Settings}
 use Rattle.inputs_new.specs.Fresh.{blankFor}
 use Rattle.inputs_new.specs.Loading.{loadFits}

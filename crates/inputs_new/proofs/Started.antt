@@ -17,14 +17,15 @@ use Rattle.slots.specs.declared.Inputs.{Inputs}
 use Rattle.slots.specs.Slots.{isAuto, withConfig, withHead, withDelay}
 use Rattle.slots.specs.Inputs.{slotAt, putSlot, withSlots}
 use Rattle.slots.proofs.Frame.{slot-same, slot-other, put-rest}
-use Rattle.slots.proofs.Sized.{Sized, sized-put}
+use Rattle.slots.proofs.Sized.{sized-put}
+use Rattle.slots.specs.Sized.{Sized}
 use Rattle.flows.specs.Flows.{rememberedBy, rememberedFor}
 use Rattle.commands.specs.Commands.{setDelay, quiet, first}
 use Rattle.set_delay.specs.SetDelay.{delayStored, setDelayOf}
 use Rattle.set_delay.proofs.Stored.{stored-same, stored-other, stored-sized}
 use Rattle.record.specs.Lent.{Lists}
-use Rattle.record.proofs.Facts.{WholeSlot}
-use Rattle.record.proofs.Checked.{Checked}
+use Rattle.record.specs.Facts.{WholeSlot}
+use Rattle.record.specs.Facts.{Checked}
 use Rattle.record.proofs.Keep.{slot-keeps}
 use Rattle.keeping.proofs.Stored.{stored-keeps}
 use Rattle.inputs_new.specs.Start.{kindAt, madeAt, startedOne, startedBelow}

@@ -9,7 +9,7 @@ use Rattle.slots.specs.declared.Routed.{Routed}
 use Rattle.slots.specs.declared.Routed.the-variants.{Nowhere, To}
 use Rattle.slots.specs.declared.Inputs.{Inputs}
 use Rattle.slots.specs.Inputs.{slotAt, putSlot}
-use Rattle.slots.proofs.Sized.{Sized}
+use Rattle.slots.specs.Sized.{Sized}
 use Rattle.flows.specs.Flows.{flowAt}
 use Rattle.flows.proofs.Table.{enrolled-sized, enrolled-stable}
 use Rattle.opening.specs.declared.World.{World}

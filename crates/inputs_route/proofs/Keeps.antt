@@ -25,8 +25,8 @@ use Rattle.record.specs.Lent.{Lists}
 use Rattle.record.specs.Places.{routeFits}
 use Rattle.record.specs.Effects.{Effect, followedBy}
 use Rattle.record.specs.Reply.{Reply}
-use Rattle.record.proofs.Facts.{WholeSlot}
-use Rattle.record.proofs.Checked.{Checked}
+use Rattle.record.specs.Facts.{WholeSlot}
+use Rattle.record.specs.Facts.{Checked}
 use Rattle.record.proofs.Keep.{cleared-keeps}
 use Rattle.record.proofs.Tables.{enrol-keeps}
 use Rattle.record.proofs.Numbers.{input-told}

@@ -16,7 +16,8 @@ use Rattle.slots.specs.declared.Slot.{Slot}
 use Rattle.slots.specs.declared.Inputs.{Inputs}
 use Rattle.slots.specs.Inputs.{slotAt, putSlot}
 use Rattle.slots.proofs.Frame.{slot-same, put-rest}
-use Rattle.slots.proofs.Sized.{Sized, sized-put}
+use Rattle.slots.proofs.Sized.{sized-put}
+use Rattle.slots.specs.Sized.{Sized}
 use Rattle.flows.specs.Flows.{placeOf, enrolledAt, enrolled}
 use Rattle.flows.proofs.Table.{enrolled-place}
 use Rattle.commands.specs.Commands.{setInput, setDelay, quiet}
@@ -27,7 +28,7 @@ use Rattle.opening.proofs.Outcomes.{startedSlot, open-outcomes}
 use Rattle.record.specs.Lent.{Lists}
 use Rattle.record.specs.Places.{routeFits}
 use Rattle.record.specs.Effects.{silent, followedBy}
-use Rattle.record.proofs.Checked.{Checked}
+use Rattle.record.specs.Facts.{Checked}
 use Rattle.clearing.specs.Clearing.{clearedSlot, cleared}
 use Rattle.inputs_route.specs.declared.Wanted.{Wanted}
 use Rattle.inputs_route.specs.declared.Wanted.the-variants as Wanted

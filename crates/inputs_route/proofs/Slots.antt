@@ -14,7 +14,8 @@ use Rattle.slots.specs.declared.Inputs.{Inputs}
 use Rattle.slots.specs.Slots.{stateNumber}
 use Rattle.slots.specs.Inputs.{slotAt, putSlot}
 use Rattle.slots.proofs.Frame.{slot-same}
-use Rattle.slots.proofs.Sized.{Sized, sized-put}
+use Rattle.slots.proofs.Sized.{sized-put}
+use Rattle.slots.specs.Sized.{Sized}
 use Rattle.commands.specs.Commands.{quiet}
 use Rattle.opening.specs.declared.World.{World}
 use Rattle.opening.specs.Opening.{runningSlot, openedSlot}

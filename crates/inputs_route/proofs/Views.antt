@@ -23,7 +23,7 @@ use Rattle.opening.specs.Opening.{runningSlot, openedSlot}
 use Rattle.opening.proofs.Outcomes.{startedSlot}
 use Rattle.record.specs.Lent.{Lists, bucketsIn, windowFor, windowOf, heldFor, heldOf, withWindow}
 use Rattle.record.specs.Effects.{Effect, followedBy}
-use Rattle.record.proofs.Checked.{Checked}
+use Rattle.record.specs.Facts.{Checked}
 use Rattle.record.proofs.Beside.{held-same}
 use Rattle.record.proofs.Shapes.{held-times, held-lags, fresh-sound}
 use Rattle.record.proofs.Keep.{window-beside, window-read}

@@ -7,7 +7,7 @@ use Rattle.flows.specs.Flows.{admits}
 use Rattle.opening.specs.declared.World.{World}
 use Rattle.opening.specs.Checks.{readerFits}
 use Rattle.record.specs.Lent.{Lists}
-use Rattle.record.specs.Checks.{inputNumber}
+use Rattle.record.specs.Checks.{timedNumber}
 use Rattle.inputs_route.specs.declared.Wanted.{Wanted}
 use Rattle.inputs_route.specs.declared.Wanted.the-variants.{Nothing, From}
 
@@ -19,4 +19,4 @@ wantedFits s (From source) = admits s (source .flow)
 -- 1 to 8, then 9 and 10
 unfoldable pub routeNumber : Inputs → Lists → (words input : ℕ) → Wanted → (time : ℕ) → World → ℕ
 routeNumber s l words input wanted time world =
-    inputNumber s l words input time (ask 9 (wantedFits s wanted) (ask 10 (readerFits (world .reader)) 0))
+    timedNumber s l words input time (ask 9 (wantedFits s wanted) (ask 10 (readerFits (world .reader)) 0))

@@ -22,18 +22,20 @@ use Rattle.slots.specs.declared.Inputs.{Inputs}
 use Rattle.slots.specs.Slots.{stateNumber}
 use Rattle.record.specs.declared.Commands.the-variants.{Absent}
 use Rattle.record.specs.Lent.{Lists}
-use Rattle.record.proofs.Checked.{Checked, of-checked}
+use Rattle.record.proofs.Checked.{of-checked}
+use Rattle.record.specs.Facts.{Checked}
 use Rattle.inputs_status.specs.declared.ArrivalLag.{ArrivalLag}
 use Rattle.inputs_status.specs.declared.Arrival.{Arrival}
 use Rattle.inputs_status.specs.declared.Arrival.the-variants as Arrival
-use Rattle.inputs_status.specs.Checks.{inputNumber, statusNumber, channelsNumber, settledNumber}
+use Rattle.record.specs.Checks.{inputNumber}
+use Rattle.inputs_status.specs.Checks.{statusNumber, channelsNumber, settledNumber}
 use Rattle.inputs_status.specs.Status.{thousandths, arrivalOf, arrivalIn, noStatus, statusOf, statusReply}
 use Rattle.inputs_status.specs.Answers.{hasChannels, restedFor, settledSlot}
 use Rattle.inputs_status.proofs.Shows.{thousandths-in, all-there}
 
 -- ---- a record that was checked is never refused by 1 to 6
 module _ (s : Inputs) (l : Lists) (c : Checked s l) (input : ℕ) (h : input < s .count) where
-  input-open : (rest : ℕ) → inputNumber s l input rest ≡ rest
+  input-open : (rest : ℕ) → inputNumber s l Absent input rest ≡ rest
   unfolding inputNumber
   input-open rest = of-checked s l Absent c refl _ ∙ yes-ask 7 rest (lt-ltb _ _ h)
 

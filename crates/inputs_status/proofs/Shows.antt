@@ -37,8 +37,8 @@ use Rattle.slots.specs.Slots.{stateNumber}
 use Rattle.slots.specs.Inputs.{slotAt}
 use Rattle.flows.specs.Flows.{flowAt}
 use Rattle.record.specs.Lent.{Lists, windowIn, windowOf, heldOf}
-use Rattle.record.proofs.Blocks.{block-within}
-use Rattle.record.proofs.Checked.{Checked}
+use Rattle.base.proofs.Blocks.{block-within}
+use Rattle.record.specs.Facts.{Checked}
 use Rattle.record.proofs.Shapes.{window-sound, window-held, held-lags}
 use Rattle.inputs_status.specs.declared.Sourced.{Sourced}
 use Rattle.inputs_status.specs.declared.Sourced.the-variants.{From}

@@ -12,7 +12,7 @@ use Rattle.lag_window.specs.Checks.{fromZeroToOne}
 use Rattle.lag_window.specs.Quantile.{Placeable}
 use Rattle.slots.specs.declared.Inputs.{Inputs}
 use Rattle.record.specs.Lent.{Lists}
-use Rattle.record.proofs.Checked.{Checked}
+use Rattle.record.specs.Facts.{Checked}
 
 -- a window whose quantiles without limit can be worked out from the counts of all inputs
 pub record Countable (w : LagWindow) (i : ℕ) (counts : List ℕ) : Type 0 where

@@ -1,26 +1,22 @@
 -- Document 01's checks of the calls that read one input, in their order. Assumes nothing.
 use Prim.Native.Nat.{ℕ}
-use lib.Dec.{leb, ltb}
+use lib.Dec.{leb}
 use Rattle.base.specs.Choice.{ask}
 use Rattle.base.specs.Limits.{timely}
 use Rattle.slots.specs.declared.Inputs.{Inputs}
 use Rattle.record.specs.declared.Commands.the-variants.{Absent}
 use Rattle.record.specs.Lent.{Lists}
-use Rattle.record.specs.Checks.{recordNumber}
-
--- 1 to 6, and 7: "Does the input exist?"; `rest` is the number that the checks after these give
-unfoldable pub inputNumber : Inputs → Lists → ℕ → ℕ → ℕ
-inputNumber s l input rest = recordNumber s l Absent (ask 7 (ltb input (s .count)) rest)
+use Rattle.record.specs.Checks.{inputNumber}
 
 -- `status`: 10, "Is each applied delay at most maximum, channels at most 64"
 unfoldable pub statusNumber : Inputs → Lists → (input applied channels : ℕ) → ℕ
 statusNumber s l input applied channels =
-    inputNumber s l input (ask 10 (leb applied (s .policy .«delay_max»)) (ask 10 (leb channels 64) 0))
+    inputNumber s l Absent input (ask 10 (leb applied (s .policy .«delay_max»)) (ask 10 (leb channels 64) 0))
 
 -- `has_channels`: of 10 only the channels, since no applied delay is given
 unfoldable pub channelsNumber : Inputs → Lists → (input channels : ℕ) → ℕ
-channelsNumber s l input channels = inputNumber s l input (ask 10 (leb channels 64) 0)
+channelsNumber s l input channels = inputNumber s l Absent input (ask 10 (leb channels 64) 0)
 
 -- `settled`: 8, "Is the time at most 4 times 10^18"
 unfoldable pub settledNumber : Inputs → Lists → (input time : ℕ) → ℕ
-settledNumber s l input time = inputNumber s l input (ask 8 (timely time) 0)
+settledNumber s l input time = inputNumber s l Absent input (ask 8 (timely time) 0)

@@ -1,8 +1,10 @@
 // What the host reads of one input (document 01, "Supervision"): its status, whether it has the channels, whether its delay has settled.
 ghost use mathlib.Core.Path.{_≡_};
-ghost use Rattle.slots.proofs.Sized.{Sized};
+ghost use Rattle.slots.specs.Sized.{Sized};
 ghost use Rattle.record.specs.Lent.{lists};
-ghost use Rattle.inputs_status.specs.Checks.{inputNumber, statusNumber, channelsNumber, settledNumber};
+ghost use Rattle.record.specs.declared.Commands.the-variants.{Absent};
+ghost use Rattle.record.specs.Checks.{inputNumber};
+ghost use Rattle.inputs_status.specs.Checks.{statusNumber, channelsNumber, settledNumber};
 ghost use Rattle.inputs_status.specs.Status.{noStatus, statusReply};
 ghost use Rattle.inputs_status.specs.Answers.{restedFor, settledSlot, hasChannelsReply, settledReply};
 use delay_hold::Moment;
@@ -88,7 +90,7 @@ fn input_number(
     times: &[u64],
     lags: &[u32],
 ) -> u32
-    ensures { λ r. ⌜ r ≡ inputNumber inputs (lists (now (starts .entry)) (now (totals .entry)) (now (counts .entry)) (now (times .entry)) (now (lags .entry))) input 0 ⌝ }
+    ensures { λ r. ⌜ r ≡ inputNumber inputs (lists (now (starts .entry)) (now (totals .entry)) (now (counts .entry)) (now (times .entry)) (now (lags .entry))) Absent input 0 ⌝ }
     ensures { λ _. ⌜ Sized inputs ⌝ }
 {
     let number = record::checks(

@@ -45,7 +45,7 @@ fn source_of(inputs: Inputs, to: Routed) -> Sourced
     Sourced::From(source)
 }
 
-// None where there is no route.
+// 0 where the input is Unrouted.
 fn channels_shown(state: State, channels: u32) -> u32
     ensures { λ r. ⌜ r ≡ channelsShown state channels ⌝ }
 {

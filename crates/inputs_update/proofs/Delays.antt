@@ -16,7 +16,8 @@ use Rattle.slots.specs.declared.Inputs.{Inputs}
 use Rattle.slots.specs.Slots.{isAuto, withDelay}
 use Rattle.slots.specs.Inputs.{slotAt, putSlot, withSlots}
 use Rattle.slots.proofs.Frame.{slot-same, put-rest}
-use Rattle.slots.proofs.Sized.{Sized, sized-put}
+use Rattle.slots.proofs.Sized.{sized-put}
+use Rattle.slots.specs.Sized.{Sized}
 use Rattle.flows.specs.Flows.{rememberedBy, rememberedFor}
 use Rattle.commands.specs.Commands.{setDelay, quiet, first}
 use Rattle.set_delay.specs.SetDelay.{delayStored, setDelayOf}

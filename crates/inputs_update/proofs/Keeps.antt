@@ -24,8 +24,8 @@ use Rattle.set_delay.specs.SetDelay.{setDelayOf}
 use Rattle.record.specs.Lent.{Lists}
 use Rattle.record.specs.Reply.{Reply}
 use Rattle.record.specs.Places.{proposalFits}
-use Rattle.record.proofs.Facts.{WholeSlot}
-use Rattle.record.proofs.Checked.{Checked}
+use Rattle.record.specs.Facts.{WholeSlot}
+use Rattle.record.specs.Facts.{Checked}
 use Rattle.record.proofs.Keep.{slot-keeps, cleared-keeps}
 use Rattle.clearing.specs.Clearing.{clearedSlot, cleared}
 use Rattle.keeping.proofs.Settings.{settings-put}

@@ -18,7 +18,7 @@ use Rattle.slots.specs.declared.Slot.{Slot}
 use Rattle.slots.specs.declared.Inputs.{Inputs}
 use Rattle.slots.specs.Inputs.{slotAt}
 use Rattle.record.specs.Lent.{Lists}
-use Rattle.record.specs.Checks.{inputNumber, Fitting}
+use Rattle.record.specs.Checks.{timedNumber, Fitting}
 use Rattle.record.specs.Effects.{silent, beside}
 use Rattle.record.specs.Reply.{Reply}
 use Rattle.record.proofs.Numbers.{passed-by, call-fitting, call-input, call-low, call-room, call-changes}
@@ -76,7 +76,7 @@ module _ (s : Inputs) (l : Lists) (commands : List ℕ) (input : ℕ) (kind : Ex
               ∙ sym (ap (λ (x : ExtraDelay). updated input x time s l) is-ms)
 
 -- ---- `confirm_delay`
-module _ (s : Inputs) (l : Lists) (commands : List ℕ) (input time : ℕ) {n : ℕ} (is-input : n ≡ inputNumber s l (length commands) input time 0) where
+module _ (s : Inputs) (l : Lists) (commands : List ℕ) (input time : ℕ) {n : ℕ} (is-input : n ≡ timedNumber s l (length commands) input time 0) where
   pub confirm-refused : (n ≡ 0 → ⊥) → n ≡ confirmNumber s l (length commands) input time → _≡_ {A = Reply} (record { number = n; inputs = s; lists = l; commands = commands }) (confirmReply s l commands input time)
   unfolding confirmReply
   confirm-refused h is-number = reply-refused s l commands (confirmed input time s l) _ is-number h

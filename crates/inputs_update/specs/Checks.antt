@@ -12,7 +12,7 @@ use Rattle.slots.specs.declared.Proposal.the-variants.{Nothing, Pending}
 use Rattle.slots.specs.declared.Inputs.{Inputs}
 use Rattle.slots.specs.Inputs.{slotAt}
 use Rattle.record.specs.Lent.{Lists}
-use Rattle.record.specs.Checks.{inputNumber}
+use Rattle.record.specs.Checks.{timedNumber}
 
 -- 12: "Is a manual delay from 0 to `ms`(maximum)?"; a NaN is not, -0.0 is
 unfoldable pub manualFits : Float → ℕ → Bool
@@ -23,7 +23,7 @@ kindFits (Auto tag) maximum = true
 kindFits (Ms delay) maximum = manualFits delay maximum
 
 unfoldable pub updateNumber : Inputs → Lists → (words input : ℕ) → ExtraDelay → (time : ℕ) → ℕ
-updateNumber s l words input kind time = inputNumber s l words input time (ask 12 (kindFits kind (s .policy .«delay_max»)) 0)
+updateNumber s l words input kind time = timedNumber s l words input time (ask 12 (kindFits kind (s .policy .«delay_max»)) 0)
 
 -- 13: "Is a proposal pending?"
 abbrev pub pending : Proposal → Bool
@@ -31,4 +31,4 @@ pending Nothing = false
 pending (Pending delay) = true
 
 unfoldable pub confirmNumber : Inputs → Lists → (words input time : ℕ) → ℕ
-confirmNumber s l words input time = inputNumber s l words input time (ask 13 (pending (slotAt s input .proposed)) 0)
+confirmNumber s l words input time = timedNumber s l words input time (ask 13 (pending (slotAt s input .proposed)) 0)

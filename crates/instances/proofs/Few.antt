@@ -20,10 +20,10 @@ use Rattle.slots.specs.declared.Inode.{Inode}
 use Rattle.slots.specs.declared.Inode.the-variants.{Gone, Of}
 use Rattle.slots.specs.Slots.{stateNumber}
 use Rattle.slots.specs.Inputs.{slotAt}
-use Rattle.slots.proofs.Tests.{not-both}
+use Rattle.base.proofs.Tests.{not-both}
 use Rattle.instances.specs.declared.Extra.{Extra}
 use Rattle.instances.specs.declared.Extra.the-variants.{Nothing, Key}
-use Rattle.instances.specs.Any.{any}
+use Rattle.base.specs.Any.{any}
 use Rattle.instances.specs.Instances.{sameKey, keyAt, held, readsKey, usesKey, anyUses, isExtra, wantedKey, keepOne, keptKeys, pruned}
 use Rattle.instances.proofs.Keys.{same-key, Distinct, pruned-count}
 

@@ -15,11 +15,11 @@ use Rattle.base.proofs.Choices.{by-bool, by-le, lt-rule, pick-all, yes-pick}
 use Rattle.base.proofs.Points.{both-true, true-both, all-at, all-intro}
 use Rattle.slots.specs.declared.Instance.{Instance}
 use Rattle.slots.specs.declared.Inputs.{Inputs}
-use Rattle.slots.specs.First.{first}
+use Rattle.base.specs.First.{first}
 use Rattle.slots.specs.Inputs.{withInstances}
-use Rattle.slots.proofs.First.{first-before, first-missed}
-use Rattle.slots.proofs.Sized.{Sized}
-use Rattle.slots.proofs.Tests.{not-both}
+use Rattle.base.proofs.First.{first-before, first-missed}
+use Rattle.slots.specs.Sized.{Sized}
+use Rattle.base.proofs.Tests.{not-both}
 use Rattle.instances.specs.declared.Extra.{Extra}
 use Rattle.instances.specs.Instances.{sameKey, noKey, keyAt, held, holdsKey, keyBelow, foundKey, newKeyAt, distinctKeys, made, wantedKey, keepOne, keptKeys, withKeys, pruned}
 use Rattle.instances.proofs.Cases.{held-most}

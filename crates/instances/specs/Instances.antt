@@ -13,12 +13,12 @@ use Rattle.slots.specs.declared.Routed.{Routed}
 use Rattle.slots.specs.declared.Routed.the-variants.{Nowhere, To}
 use Rattle.slots.specs.declared.Inode.{Inode}
 use Rattle.slots.specs.declared.Inode.the-variants.{Gone, Of}
-use Rattle.slots.specs.First.{first}
+use Rattle.base.specs.First.{first}
 use Rattle.slots.specs.Slots.{stateNumber}
 use Rattle.slots.specs.Inputs.{slotAt, withInstances}
 use Rattle.instances.specs.declared.Extra.{Extra}
 use Rattle.instances.specs.declared.Extra.the-variants.{Nothing, Key}
-use Rattle.instances.specs.Any.{any}
+use Rattle.base.specs.Any.{any}
 
 -- "An instance for (flow, inode)"
 unfoldable pub sameKey : Instance → Instance → Bool

@@ -1,3 +1,2 @@
 -- The instance table.
-pub mod Any
 pub mod Instances

@@ -1,4 +1,4 @@
-// The instance table: 18 places, one for each generation of a flow (flow and inode) that an input reads or is about to.
+// The instance table: 18 places, one for each generation of a flow (flow and inode) that was opened and not pruned yet.
 ghost use mathlib.Core.Path.{_≡_};
 ghost use Prim.Native.Nat.{_≤_};
 ghost use Rattle.instances.specs.Instances.{sameKey, held, keyAt, keyBelow, foundKey, distinctKeys, made, usesKey, anyUses, isExtra, wantedKey, pruned};

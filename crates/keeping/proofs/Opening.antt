@@ -36,8 +36,8 @@ use Rattle.opening.specs.declared.World.{World}
 use Rattle.opening.specs.Opening.{runningSlot, openedSlot, startsAnew, seededAt, startAt, startOf, startBy, recallOf, openWith, openReader, openAt, openSeen, openRouted, tryOpenOf}
 use Rattle.record.specs.Lent.{Lists, bucketsIn, heldOf}
 use Rattle.record.specs.Places.{routeFits}
-use Rattle.record.proofs.Facts.{WholeSlot}
-use Rattle.record.proofs.Checked.{Checked}
+use Rattle.record.specs.Facts.{WholeSlot}
+use Rattle.record.specs.Facts.{Checked}
 use Rattle.record.proofs.Beside.{beside-same}
 use Rattle.record.proofs.Keep.{input-keeps, slot-keeps}
 use Rattle.record.proofs.Pruned.{prune-keeps, make-keeps}

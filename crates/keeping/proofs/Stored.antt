@@ -9,8 +9,8 @@ use Rattle.slots.specs.Inputs.{slotAt, putSlot}
 use Rattle.slots.proofs.Frame.{put-rest}
 use Rattle.set_delay.specs.SetDelay.{delayStored}
 use Rattle.record.specs.Lent.{Lists}
-use Rattle.record.proofs.Facts.{WholeSlot}
-use Rattle.record.proofs.Checked.{Checked}
+use Rattle.record.specs.Facts.{WholeSlot}
+use Rattle.record.specs.Facts.{Checked}
 use Rattle.record.proofs.Keep.{slot-keeps}
 use Rattle.record.proofs.Tables.{remember-for-keeps}
 

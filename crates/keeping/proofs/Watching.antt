@@ -23,8 +23,8 @@ use Rattle.opening.specs.Opening.{tryOpenOf}
 use Rattle.watching.specs.Watching.{lostSlot, movedSlot, stallsNow, watchSame, watchStored, watchSeen, watchRouted, watchSlot, watchOf}
 use Rattle.record.specs.Lent.{Lists}
 use Rattle.record.specs.Places.{routeFits}
-use Rattle.record.proofs.Facts.{WholeSlot}
-use Rattle.record.proofs.Checked.{Checked}
+use Rattle.record.specs.Facts.{WholeSlot}
+use Rattle.record.specs.Facts.{Checked}
 use Rattle.record.proofs.Keep.{slot-keeps}
 use Rattle.keeping.proofs.Settings.{settings-put}
 use Rattle.keeping.proofs.Opening.{routed-state, route-state, reopens-fit, open-keeps}

@@ -15,7 +15,8 @@ use Rattle.slots.specs.declared.Remembered.the-variants.{Never, Delay}
 use Rattle.slots.specs.Slots.{withDelay}
 use Rattle.slots.specs.Inputs.{slotAt, putSlot, withSlots, withFlows, withInstances}
 use Rattle.slots.proofs.Frame.{slot-other, put-rest}
-use Rattle.slots.proofs.Sized.{Sized, sized-put}
+use Rattle.slots.proofs.Sized.{sized-put}
+use Rattle.slots.specs.Sized.{Sized}
 use Rattle.commands.specs.Commands.{Done, quiet, first, changed}
 use Rattle.flows.specs.Flows.{entryAt, flowAt, recalled}
 use Rattle.flows.proofs.Table.{for-flow}

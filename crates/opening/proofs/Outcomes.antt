@@ -18,7 +18,7 @@ use Rattle.slots.specs.declared.Remembered.the-variants.{Never, Delay}
 use Rattle.slots.specs.Slots.{withDelay, withHold}
 use Rattle.slots.specs.Inputs.{slotAt, putSlot}
 use Rattle.slots.proofs.Frame.{slot-same}
-use Rattle.slots.proofs.Sized.{Sized}
+use Rattle.slots.specs.Sized.{Sized}
 use Rattle.commands.specs.Commands.{Done, setInput, setDelay, quiet, first, changed}
 use Rattle.flows.specs.Flows.{recalled}
 use Rattle.instances.specs.declared.Extra.the-variants.{Key}

@@ -8,7 +8,7 @@ use Rattle.lag_window.specs.Parts.{partOf}
 use Rattle.delay_hold.specs.Next.{Held, held}
 use Rattle.record.specs.Lent.{Lists, withWindow, withHeld}
 use Rattle.record.specs.Checks.{Long}
-use Rattle.record.proofs.Blocks.{block-length, block-same, block-other}
+use Rattle.base.proofs.Blocks.{block-length, block-same, block-other}
 
 -- m is l but for the lists of input i
 pub record Beside (n buckets i : ℕ) (l m : Lists) : Type 0 where

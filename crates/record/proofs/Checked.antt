@@ -11,17 +11,13 @@ use Rattle.policy.specs.declared.DelayPolicy.{DelayPolicy}
 use Rattle.policy.specs.Settings.{reachesAllowed, timesAllowed, marginsAllowed}
 use Rattle.policy.proofs.Checks.{allowed-sound, allowed-times}
 use Rattle.slots.specs.declared.Inputs.{Inputs}
-use Rattle.slots.proofs.Sized.{Sized}
+use Rattle.slots.specs.Sized.{Sized}
 use Rattle.record.specs.declared.Commands.{Commands}
 use Rattle.record.specs.Lent.{Lists}
 use Rattle.record.specs.Checks.{inputsAllowed, bucketsAllowed, pausesAllowed, listsFit, commandsFit, recordNumber, Allowed, Long, Fitting}
-use Rattle.record.proofs.Facts.{Whole, whole-of, of-whole}
-
--- a record with its lists that checks 1 to 6 let through; that its tables have their places is no check's, but the program's
-pub record Checked (s : Inputs) (l : Lists) : Type 0 where
-  pub fitting : Fitting s l
-  pub sized : Sized s
-  pub whole : Whole s l
+use Rattle.record.specs.Facts.{Checked}
+use Rattle.record.proofs.Facts.{whole-of, of-whole}
+use Rattle.record.specs.Facts.{Whole}
 
 -- ---- 1 to 4
 module _ (n : ℕ) (policy : DelayPolicy) (width stall : ℕ) where

@@ -18,19 +18,10 @@ use Rattle.instances.specs.Instances.{noKey, keyAt, distinctKeys}
 use Rattle.record.specs.Lent.{Lists, windowOf, heldOf}
 use Rattle.record.specs.Places.{proposalFits, routeFits, wholeSlot, unusedSlot, unusedEntry, entryFits, entriesFit, wholeFlows, unusedKey, keyFits, keysFit, wholeInstances}
 use Rattle.record.specs.Record.{wholeInput, inputFits, wholeInputs, wholeRecord}
+use Rattle.record.specs.Facts.{WholeSlot, WholeInput, WholeFlows, WholeInstances, Whole}
 use Rattle.record.proofs.Unused.{unused-slot, empty-slot, unused-entry, empty-entry, unused-key, no-key}
 
 -- ---- one slot
-pub record WholeSlot (maximum n : ℕ) (slot : Slot) : Type 0 where
-  pub delay : slot .delay ≤ maximum
-  pub proposed : proposalFits (slot .proposed) maximum ≡ true
-  pub route : routeFits (slot .route) (slot .state) n ≡ true
-  pub reopens : slot .reopens < 9_223_372_036_854_775_808
-  pub changes : slot .«delay_changes» < 9_223_372_036_854_775_808
-  pub lates : slot .«late_events» < 9_223_372_036_854_775_808
-  pub head : slot .«head_changed» ≤ timeLimit
-  pub set : momentTimely (slot .«last_set») ≡ true
-
 module _ (maximum n : ℕ) (slot : Slot) where
   pub slot-of : wholeSlot maximum n slot ≡ true → WholeSlot maximum n slot
   unfolding wholeSlot
@@ -65,11 +56,6 @@ module _ (maximum n : ℕ) (slot : Slot) where
       (true-both _ _ (le-leb _ _ (w .head)) (w .set)))))))
 
 -- ---- one input
-pub record WholeInput (s : Inputs) (l : Lists) (i : ℕ) : Type 0 where
-  pub window : wholeWindow (windowOf s l i) ≡ true
-  pub hold : wholeHold (s .policy) (s .width) (heldOf s l i) ≡ true
-  pub slot : WholeSlot (s .policy .«delay_max») (s .«flow_count») (slotAt s i)
-
 module _ (s : Inputs) (l : Lists) (i : ℕ) where
   pub input-of : wholeInput s l i ≡ true → WholeInput s l i
   unfolding wholeInput
@@ -83,17 +69,6 @@ module _ (s : Inputs) (l : Lists) (i : ℕ) where
   of-input w = true-both _ _ (w .window) (true-both _ _ (w .hold) (of-slot _ _ _ (w .slot)))
 
 -- ---- the tables
-pub record WholeFlows (s : Inputs) : Type 0 where
-  pub most : s .«flow_count» ≤ 64
-  pub distinct : distinctFlows s ≡ true
-  pub unused : (place : ℕ) → s .«flow_count» ≤ place → entryAt s place ≡ emptyEntry
-
-pub record WholeInstances (s : Inputs) : Type 0 where
-  pub most : s .«instance_count» ≤ 17
-  pub distinct : distinctKeys s ≡ true
-  pub known : (place : ℕ) → place < s .«instance_count» → keyAt s place .flow < s .«flow_count»
-  pub unused : (place : ℕ) → s .«instance_count» ≤ place → keyAt s place ≡ noKey
-
 module _ (s : Inputs) where
   -- past its end a table has empty places
   entry-past : (place : ℕ) → 64 ≤ place → entryAt s place ≡ emptyEntry
@@ -149,12 +124,6 @@ module _ (s : Inputs) where
       (λ place k. lt-rule place (s .«instance_count») _ _ (λ b. b ≡ true) (λ m. lt-ltb _ _ (w .known place m)) (λ m. ap unusedKey (w .unused place m) ∙ no-key))))
 
 -- ---- the whole record
-pub record Whole (s : Inputs) (l : Lists) : Type 0 where
-  pub inputs : (i : ℕ) → i < s .count → WholeInput s l i
-  pub unused : (i : ℕ) → s .count ≤ i → slotAt s i ≡ emptySlot
-  pub flows : WholeFlows s
-  pub instances : WholeInstances s
-
 module _ (s : Inputs) (l : Lists) where
   pub whole-of : s .count ≤ 16 → wholeRecord s l ≡ true → Whole s l
   unfolding wholeRecord wholeInputs

@@ -22,8 +22,8 @@ use Rattle.flows.proofs.Table.{distinct-cong}
 use Rattle.instances.specs.Instances.{keyAt, keyBelow, distinctKeys}
 use Rattle.instances.specs.Instances as keys
 use Rattle.record.specs.Lent.{Lists, bucketsIn, windowFor, heldFor, windowOf, heldOf, withWindow, withHeld}
-use Rattle.record.proofs.Facts.{WholeSlot, WholeInput, WholeFlows, WholeInstances}
-use Rattle.record.proofs.Checked.{Checked}
+use Rattle.record.specs.Facts.{WholeSlot, WholeInput, WholeFlows, WholeInstances}
+use Rattle.record.specs.Facts.{Checked}
 use Rattle.record.proofs.Beside.{Beside, beside-same, beside-window, beside-held, beside-then, window-same, held-same}
 use Rattle.record.proofs.Shapes.{held-times, held-lags, fresh-sound, cleared-whole}
 

@@ -2,7 +2,6 @@
 pub mod Unused
 pub mod Facts
 pub mod Checked
-pub mod Blocks
 pub mod Beside
 pub mod Keep
 pub mod Shapes

@@ -5,45 +5,41 @@ use native.Mathlib.Omega.{arith}
 use lib.Dec.{ltb}
 use borrow.Author.Tests.{leb-true, ltb-true, eqb-true, lt-ltb, le-ltb, le-leb, lt-leb}
 use Rattle.base.specs.Limits.{timeLimit, timely}
-use Rattle.base.proofs.Choices.{yes-ask, no-ask, asked, by-bool}
+use Rattle.base.proofs.Choices.{yes-ask, no-ask, asked, by-bool, by-zero}
 use Rattle.slots.specs.declared.Inputs.{Inputs}
 use Rattle.slots.specs.Inputs.{slotAt}
 use Rattle.record.specs.declared.Commands.the-variants.{Words}
 use Rattle.record.specs.Lent.{Lists}
-use Rattle.record.specs.Checks.{recordNumber, inputNumber, Fitting}
-use Rattle.record.proofs.Facts.{Whole, whole-of}
+use Rattle.record.specs.Checks.{recordNumber, inputNumber, timedNumber, Fitting}
+use Rattle.record.proofs.Facts.{whole-of}
+use Rattle.record.specs.Facts.{Whole}
 use Rattle.record.proofs.Checked.{allowed-of, long-of, checked-commands, number-passed, number-refused}
-
--- a case by whether a number is 0. Of general use: it belongs to base.
-pub by-zero : {C : Type 0} (n : ℕ) → (n ≡ 0 → C) → ((n ≡ 0 → ⊥) → C) → C
-by-zero zero f g = f refl
-by-zero (suc n) f g = g (λ e. omega arith)
 
 -- ---- 7 and 8 after 1 to 6
 module _ (s : Inputs) (l : Lists) (words input time : ℕ) {n : ℕ} (is-record : n ≡ recordNumber s l (Words words) 0) where
-  pub record-refused : (n ≡ 0 → ⊥) → n ≡ inputNumber s l words input time 0
-  unfolding inputNumber
+  pub record-refused : (n ≡ 0 → ⊥) → n ≡ timedNumber s l words input time 0
+  unfolding timedNumber inputNumber
   record-refused h = is-record ∙ sym (number-refused s l (Words words) (λ e. h (is-record ∙ e)) _)
 
   module _ (passed : n ≡ 0) where
-    pub input-missing : s .count ≤ input → 7 ≡ inputNumber s l words input time 0
-    unfolding inputNumber
+    pub input-missing : s .count ≤ input → 7 ≡ timedNumber s l words input time 0
+    unfolding timedNumber inputNumber
     input-missing h = sym (number-passed s l (Words words) (sym is-record ∙ passed) _ ∙ no-ask 7 _ (le-ltb _ _ h))
 
     module _ (there : input < s .count) where
-      pub input-late : timeLimit < time → 8 ≡ inputNumber s l words input time 0
-      unfolding inputNumber
+      pub input-late : timeLimit < time → 8 ≡ timedNumber s l words input time 0
+      unfolding timedNumber inputNumber
       input-late h = sym (number-passed s l (Words words) (sym is-record ∙ passed) _ ∙ yes-ask 7 _ (lt-ltb _ _ there) ∙ no-ask 8 0 (lt-leb _ _ h))
 
-      pub input-timely : time ≤ timeLimit → 0 ≡ inputNumber s l words input time 0
-      unfolding inputNumber
+      pub input-timely : time ≤ timeLimit → 0 ≡ timedNumber s l words input time 0
+      unfolding timedNumber inputNumber
       input-timely h = sym (number-passed s l (Words words) (sym is-record ∙ passed) _ ∙ yes-ask 7 _ (lt-ltb _ _ there) ∙ yes-ask 8 0 (le-leb _ _ h))
 
 -- ---- another check after 8
 module _ (s : Inputs) (l : Lists) (words input time : ℕ) where
   -- what number 0 says
-  pub input-told : (rest : ℕ) → inputNumber s l words input time rest ≡ 0 → (recordNumber s l (Words words) 0 ≡ 0) × (input < s .count) × (time ≤ timeLimit) × (rest ≡ 0)
-  unfolding inputNumber
+  pub input-told : (rest : ℕ) → timedNumber s l words input time rest ≡ 0 → (recordNumber s l (Words words) 0 ≡ 0) × (input < s .count) × (time ≤ timeLimit) × (rest ≡ 0)
+  unfolding timedNumber inputNumber
   input-told rest h =
       by-zero (recordNumber s l (Words words) 0)
       (λ e.
@@ -52,14 +48,14 @@ module _ (s : Inputs) (l : Lists) (words input time : ℕ) where
       (e, ltb-true _ _ (a .0), leb-true _ _ (b .0), b .1))
       (λ e. absurd (e (sym (number-refused s l (Words words) e _) ∙ h)))
 
-  input-passed : inputNumber s l words input time 0 ≡ 0 → (rest : ℕ) → inputNumber s l words input time rest ≡ rest
-  unfolding inputNumber
+  input-passed : timedNumber s l words input time 0 ≡ 0 → (rest : ℕ) → timedNumber s l words input time rest ≡ rest
+  unfolding timedNumber inputNumber
   input-passed h rest =
       let told = input-told 0 h in
       number-passed s l (Words words) (told .0) _ ∙ yes-ask 7 _ (lt-ltb _ _ (told .1)) ∙ yes-ask 8 rest (le-leb _ _ (told .2))
 
-  input-refused : (inputNumber s l words input time 0 ≡ 0 → ⊥) → (rest : ℕ) → inputNumber s l words input time rest ≡ inputNumber s l words input time 0
-  unfolding inputNumber
+  input-refused : (timedNumber s l words input time 0 ≡ 0 → ⊥) → (rest : ℕ) → timedNumber s l words input time rest ≡ timedNumber s l words input time 0
+  unfolding timedNumber inputNumber
   input-refused h rest =
       by-zero (recordNumber s l (Words words) 0)
       (λ e.
@@ -71,11 +67,11 @@ module _ (s : Inputs) (l : Lists) (words input time : ℕ) where
       (λ no. number-passed s l (Words words) e _ ∙ no-ask 7 _ no ∙ sym (number-passed s l (Words words) e _ ∙ no-ask 7 _ no)))
       (λ e. number-refused s l (Words words) e _ ∙ sym (number-refused s l (Words words) e _))
 
-  module _ {n : ℕ} (is-input : n ≡ inputNumber s l words input time 0) where
-    pub refused-by : (n ≡ 0 → ⊥) → (rest : ℕ) → n ≡ inputNumber s l words input time rest
+  module _ {n : ℕ} (is-input : n ≡ timedNumber s l words input time 0) where
+    pub refused-by : (n ≡ 0 → ⊥) → (rest : ℕ) → n ≡ timedNumber s l words input time rest
     refused-by h rest = is-input ∙ sym (input-refused (λ e. h (is-input ∙ e)) rest)
 
-    pub passed-by : n ≡ 0 → {rest : ℕ} (number : ℕ) → rest ≡ number → number ≡ inputNumber s l words input time rest
+    pub passed-by : n ≡ 0 → {rest : ℕ} (number : ℕ) → rest ≡ number → number ≡ timedNumber s l words input time rest
     passed-by passed number e = sym (input-passed (sym is-input ∙ passed) _ ∙ e)
 
 -- ---- what an accepted call has
@@ -105,7 +101,7 @@ module _ (s : Inputs) (l : Lists) (words : ℕ) where
   pub record-room : recordNumber s l (Words words) 0 ≡ 0 → 3 ≤ words
   record-room h = omega (arith, eqb-true words (s .count * 12) (checked-commands s l (Words words) h), record-fitting h .allowed .least)
 
-  module _ (input time rest : ℕ) (accepted : inputNumber s l words input time rest ≡ 0) where
+  module _ (input time rest : ℕ) (accepted : timedNumber s l words input time rest ≡ 0) where
     abbrev told : (recordNumber s l (Words words) 0 ≡ 0) × (input < s .count) × (time ≤ timeLimit) × (rest ≡ 0)
     told = input-told s l words input time rest accepted
 

@@ -15,15 +15,15 @@ use Rattle.base.proofs.Choices.{by-bool, yes-pick, lt-rule}
 use Rattle.slots.specs.declared.Instance.{Instance}
 use Rattle.slots.specs.declared.Inputs.{Inputs}
 use Rattle.slots.specs.Inputs.{slotAt, withInstances}
-use Rattle.slots.proofs.Sized.{Sized}
+use Rattle.slots.specs.Sized.{Sized}
 use Rattle.flows.specs.Flows.{entryAt, flowAt, known, placeBelow, distinctFlows}
 use Rattle.instances.specs.declared.Extra.{Extra}
 use Rattle.instances.specs.Instances.{noKey, keyAt, held, foundKey, made, wantedKey, keepOne, keptKeys, withKeys, pruned}
 use Rattle.instances.proofs.Keys.{Distinct, keys-distinct, distinct-keys, kept-length, pruned-count, pruned-distinct, pruned-sized, pruned-rest, made-distinct, made-sized, made-rest}
 use Rattle.instances.proofs.Few.{pruned-few}
 use Rattle.record.specs.Lent.{Lists, bucketsIn}
-use Rattle.record.proofs.Facts.{WholeInput, WholeFlows, WholeInstances}
-use Rattle.record.proofs.Checked.{Checked}
+use Rattle.record.specs.Facts.{WholeInput, WholeFlows, WholeInstances}
+use Rattle.record.specs.Facts.{Checked}
 
 -- ---- the instance table is replaced by a whole one
 module _ (s : Inputs) (l : Lists) (c : Checked s l) (instances : List Instance) (n : ℕ) where

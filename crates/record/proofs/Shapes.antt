@@ -23,8 +23,8 @@ use Rattle.slots.specs.declared.Inputs.{Inputs}
 use Rattle.slots.specs.Inputs.{slotAt}
 use Rattle.record.specs.Lent.{Lists, bucketsIn, windowIn, windowFor, windowOf, heldOf}
 use Rattle.record.specs.Checks.{Fitting}
-use Rattle.record.proofs.Blocks.{block-within, block-long}
-use Rattle.record.proofs.Checked.{Checked}
+use Rattle.base.proofs.Blocks.{block-within, block-long}
+use Rattle.record.specs.Facts.{Checked}
 
 pub zeros-blank : (k m : ℕ) → blankFrom k (replicate m 0) ≡ true
 zeros-blank k m = blank-intro k (replicate m 0) (λ i h. zeros-at m i)

@@ -26,8 +26,8 @@ use Rattle.instances.specs.Instances as keys
 use Rattle.instances.specs.Instances.{keyAt, keyBelow, distinctKeys}
 use Rattle.record.specs.Lent.{Lists, bucketsIn}
 use Rattle.record.specs.Places.{routeFits}
-use Rattle.record.proofs.Facts.{WholeSlot, WholeInput, WholeFlows, WholeInstances}
-use Rattle.record.proofs.Checked.{Checked}
+use Rattle.record.specs.Facts.{WholeSlot, WholeInput, WholeFlows, WholeInstances}
+use Rattle.record.specs.Facts.{Checked}
 
 -- ---- more flows known
 route-more : (to : Routed) (state : State) (n m : ℕ) → n ≤ m → routeFits to state n ≡ true → routeFits to state m ≡ true

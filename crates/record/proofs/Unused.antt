@@ -12,6 +12,7 @@ use Rattle.delay_hold.specs.declared.Seed.{Seed}
 use Rattle.delay_hold.specs.declared.Seed.the-variants as Seed
 use Rattle.delay_hold.specs.declared.LowerTimer.{LowerTimer}
 use Rattle.delay_hold.specs.declared.DelayHold.{DelayHold}
+use Rattle.delay_hold.specs.Next.{freshHold}
 use Rattle.slots.specs.declared.AutoTag.the-variants as AutoTag
 use Rattle.slots.specs.declared.ExtraDelay.{ExtraDelay}
 use Rattle.slots.specs.declared.ExtraDelay.the-variants.{Auto, Ms}
@@ -28,7 +29,7 @@ use Rattle.slots.specs.declared.Remembered.{Remembered}
 use Rattle.slots.specs.declared.Remembered.the-variants as Remembered
 use Rattle.slots.specs.declared.FlowEntry.{FlowEntry}
 use Rattle.slots.specs.declared.Instance.{Instance}
-use Rattle.slots.specs.Slots.{stateNumber, isAuto, emptyHold, emptySlot}
+use Rattle.slots.specs.Slots.{stateNumber, isAuto, emptySlot}
 use Rattle.flows.specs.Flows.{emptyEntry}
 use Rattle.instances.specs.Instances.{noKey}
 use Rattle.record.specs.Places.{neverYet, noSeed, noRoute, noInode, noProposal, noDelay, unusedTimer, unusedHold, unusedParts, unusedNumbers, unusedSlot, unusedEntry, unusedKey}
@@ -81,8 +82,8 @@ unused-timer timer h =
       highest = eqb-true (timer .highest) 0 (t2 .1) i;
     }
 
-pub unused-hold : (hold : DelayHold) → unusedHold hold ≡ true → hold ≡ emptyHold
-unfolding unusedHold emptyHold
+pub unused-hold : (hold : DelayHold) → unusedHold hold ≡ true → hold ≡ freshHold
+unfolding unusedHold
 unused-hold hold h =
     let t1 = both-true _ _ h in
     let t2 = both-true _ _ (t1 .1) in
@@ -140,7 +141,7 @@ unused-slot slot h =
     }
 
 pub empty-slot : unusedSlot emptySlot ≡ true
-unfolding unusedSlot unusedParts unusedNumbers unusedHold unusedTimer emptySlot emptyHold both
+unfolding unusedSlot unusedParts unusedNumbers unusedHold unusedTimer emptySlot both
 empty-slot = refl
 
 -- ---- an entry of the flow table, and an instance

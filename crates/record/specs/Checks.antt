@@ -57,10 +57,13 @@ recordNumber s l commands rest =
     (ask 6 (wholeRecord s l) rest))))))
 
 -- ---- a call on one input
--- 1 to 6, with so many words of commands; 7: "Does the input exist?"; 8: "Is the time at most 4 times 10^18";
--- `rest` is the number that the checks after these give
-unfoldable pub inputNumber : Inputs → Lists → (words input time rest : ℕ) → ℕ
-inputNumber s l words input time rest = recordNumber s l (Words words) (ask 7 (ltb input (s .count)) (ask 8 (timely time) rest))
+-- 1 to 6, and 7: "Does the input exist?"; `rest` is the number that the checks after these give
+unfoldable pub inputNumber : Inputs → Lists → Commands → (input rest : ℕ) → ℕ
+inputNumber s l commands input rest = recordNumber s l commands (ask 7 (ltb input (s .count)) rest)
+
+-- 1 to 7, with so many words of commands, and 8: "Is the time at most 4 times 10^18"
+unfoldable pub timedNumber : Inputs → Lists → (words input time rest : ℕ) → ℕ
+timedNumber s l words input time rest = inputNumber s l (Words words) input (ask 8 (timely time) rest)
 
 -- ---- what they let through
 -- what 1 to 4 let through, as facts

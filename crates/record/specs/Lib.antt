@@ -5,3 +5,4 @@ pub mod Record
 pub mod Checks
 pub mod Effects
 pub mod Reply
+pub mod Facts

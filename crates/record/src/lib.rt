@@ -1,8 +1,8 @@
 // The whole record of a supervisor with the lists lent for it: checks 1 to 6 of every call (document 01, "The gatekeeper's questions").
 ghost use mathlib.Core.Path.{_≡_};
-ghost use Rattle.slots.proofs.Sized.{Sized};
+ghost use Rattle.slots.specs.Sized.{Sized};
 ghost use Rattle.record.specs.Lent.{lists};
-ghost use Rattle.record.specs.Checks.{inputsAllowed, bucketsAllowed, pausesAllowed, recordNumber, inputNumber};
+ghost use Rattle.record.specs.Checks.{inputsAllowed, bucketsAllowed, pausesAllowed, recordNumber, timedNumber};
 use policy::DelayPolicy;
 use slots::Inputs;
 
@@ -123,7 +123,7 @@ pub fn input_checks(
     lags: &[u32],
     words: usize,
 ) -> u32
-    ensures { λ r. ⌜ r ≡ inputNumber inputs (lists (now (starts .entry)) (now (totals .entry)) (now (counts .entry)) (now (times .entry)) (now (lags .entry))) words input time 0 ⌝ }
+    ensures { λ r. ⌜ r ≡ timedNumber inputs (lists (now (starts .entry)) (now (totals .entry)) (now (counts .entry)) (now (times .entry)) (now (lags .entry))) words input time 0 ⌝ }
 {
     let number = checks(
         inputs,

@@ -13,13 +13,14 @@ use Rattle.base.proofs.Points.{both-true}
 use Rattle.slots.specs.declared.ExtraDelay.{ExtraDelay}
 use Rattle.slots.specs.declared.Inputs.{Inputs}
 use Rattle.slots.specs.Inputs.{slotAt}
-use Rattle.slots.proofs.Sized.{Sized}
+use Rattle.slots.specs.Sized.{Sized}
 use Rattle.opening.specs.declared.World.{World}
 use Rattle.record.specs.Lent.{Lists}
 use Rattle.record.specs.Effects.{Effect}
 use Rattle.record.specs.Checks.{inputsAllowed, recordNumber}
 use Rattle.record.specs.Reply.{Reply, replied}
-use Rattle.record.proofs.Numbers.{by-zero, call-low}
+use Rattle.record.proofs.Numbers.{call-low}
+use Rattle.base.proofs.Choices.{by-zero}
 use Rattle.inputs_new.specs.declared.Settings.{Settings}
 use Rattle.inputs_new.specs.Fresh.{blankFor, noInputs}
 use Rattle.inputs_new.specs.Checks.{newNumber}

@@ -14,7 +14,7 @@ use Rattle.slots.specs.declared.Flow.{Flow}
 use Rattle.slots.specs.declared.Slot.{Slot}
 use Rattle.slots.specs.declared.Inputs.{Inputs}
 use Rattle.slots.specs.Inputs.{slotAt, putSlot}
-use Rattle.slots.proofs.Sized.{Sized}
+use Rattle.slots.specs.Sized.{Sized}
 use Rattle.flows.specs.Flows.{enrolled}
 use Rattle.flows.proofs.Table.{enrolled-rest, enrolled-sized}
 use Rattle.opening.specs.declared.World.{World}

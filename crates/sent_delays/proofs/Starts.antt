@@ -14,7 +14,7 @@ use Rattle.slots.specs.declared.Slot.{Slot}
 use Rattle.slots.specs.declared.Inputs.{Inputs}
 use Rattle.slots.specs.Slots.{emptySlot}
 use Rattle.slots.specs.Inputs.{slotAt}
-use Rattle.slots.proofs.Sized.{Sized}
+use Rattle.slots.specs.Sized.{Sized}
 use Rattle.flows.specs.Flows.{emptyEntry, enrolled, placeOf, kept}
 use Rattle.instances.specs.Instances.{noKey}
 use Rattle.commands.specs.Commands.{quiet}

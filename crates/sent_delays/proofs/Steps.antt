@@ -13,7 +13,8 @@ use Rattle.slots.specs.declared.State.the-variants.{Stalled}
 use Rattle.slots.specs.Slots.{stateNumber, withState}
 use Rattle.slots.specs.Inputs.{slotAt, putSlot}
 use Rattle.slots.proofs.Frame.{slot-same, slot-other}
-use Rattle.slots.proofs.Sized.{Sized, sized-put}
+use Rattle.slots.proofs.Sized.{sized-put}
+use Rattle.slots.specs.Sized.{Sized}
 use Rattle.commands.specs.Commands.{Done, setInput, clearInput, setDelay, quiet, first}
 use Rattle.set_delay.specs.SetDelay.{setDelayOf}
 use Rattle.set_delay.proofs.Stored.{stored-same, stored-other, stored-sized}

@@ -13,7 +13,7 @@ use Rattle.slots.specs.declared.Slot.{Slot}
 use Rattle.slots.specs.declared.Inputs.{Inputs}
 use Rattle.slots.specs.Slots.{stateNumber, withHold}
 use Rattle.slots.specs.Inputs.{slotAt}
-use Rattle.slots.proofs.Sized.{Sized}
+use Rattle.slots.specs.Sized.{Sized}
 use Rattle.commands.specs.Commands.{quiet}
 use Rattle.instances.specs.declared.Extra.{Extra}
 use Rattle.instances.specs.declared.Extra.the-variants.{Nothing}

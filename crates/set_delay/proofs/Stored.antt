@@ -7,7 +7,8 @@ use Rattle.slots.specs.declared.Inputs.{Inputs}
 use Rattle.slots.specs.Slots.{withDelay}
 use Rattle.slots.specs.Inputs.{slotAt, putSlot, withSlots, withFlows}
 use Rattle.slots.proofs.Frame.{slot-same, slot-other, put-rest}
-use Rattle.slots.proofs.Sized.{Sized, sized-put}
+use Rattle.slots.proofs.Sized.{sized-put}
+use Rattle.slots.specs.Sized.{Sized}
 use Rattle.flows.specs.Flows.{entryAt, flowAt, known, placeBelow, distinctFlows, rememberedFor}
 use Rattle.flows.proofs.Table.{for-rest, for-distinct, for-sized, for-slot}
 use Rattle.set_delay.specs.SetDelay.{delayStored}

@@ -1,4 +1,4 @@
 -- The record of the inputs.
-pub mod First
 pub mod Slots
 pub mod Inputs
+pub mod Sized

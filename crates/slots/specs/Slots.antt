@@ -30,10 +30,6 @@ abbrev pub isAuto : ExtraDelay → Bool
 isAuto (Auto tag) = true
 isAuto (Ms delay) = false
 
--- an unused hold is a fresh one
-unfoldable pub emptyHold : DelayHold
-emptyHold = freshHold
-
 -- an unused place
 unfoldable pub emptySlot : Slot
 emptySlot = record {
@@ -48,7 +44,7 @@ emptySlot = record {
   «last_lag» = 0;
   delay = 0;
   proposed = Nothing;
-  hold = emptyHold;
+  hold = freshHold;
   «delay_changes» = 0;
   «late_events» = 0;
   «late_before» = false;

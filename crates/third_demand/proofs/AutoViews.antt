@@ -16,8 +16,9 @@ use Rattle.slots.specs.declared.Inputs.{Inputs}
 use Rattle.slots.specs.Slots.{stateNumber, isAuto, withHold, withProposed, withDelayChanges, withDelay}
 use Rattle.slots.specs.Inputs.{slotAt, putSlot}
 use Rattle.slots.proofs.Frame.{slot-same}
-use Rattle.slots.proofs.Sized.{Sized, sized-put}
-use Rattle.slots.proofs.Tests.{not-both}
+use Rattle.slots.proofs.Sized.{sized-put}
+use Rattle.slots.specs.Sized.{Sized}
+use Rattle.base.proofs.Tests.{not-both}
 use Rattle.commands.specs.Commands.{quiet, first}
 use Rattle.set_delay.specs.SetDelay.{delayStored, setDelayOf}
 use Rattle.set_delay.proofs.Stored.{stored-same}

@@ -12,8 +12,9 @@ use Rattle.record.specs.declared.Commands.the-variants.{Words}
 use Rattle.record.specs.Lent.{Lists}
 use Rattle.record.specs.Effects.{Effect}
 use Rattle.record.specs.Reply.{Reply, replied}
-use Rattle.record.specs.Checks.{commandsFit, recordNumber, inputNumber}
-use Rattle.record.proofs.Checked.{Checked, of-checked}
+use Rattle.record.specs.Checks.{commandsFit, recordNumber, inputNumber, timedNumber}
+use Rattle.record.proofs.Checked.{of-checked}
+use Rattle.record.specs.Facts.{Checked}
 use Rattle.inputs_update.specs.Checks.{updateNumber}
 use Rattle.inputs_update.specs.Update.{updated}
 use Rattle.inputs_update.specs.Reply.{updateReply}
@@ -55,8 +56,8 @@ module _ (settings : Settings) (n : ℕ) (r : Reply) (g : Good settings n r) whe
   own-record : (rest : ℕ) → Own rest → Own (recordNumber (r .inputs) (r .lists) (Words (length (r .commands))) rest)
   own-record rest own = subst Own (sym (of-checked (r .inputs) (r .lists) (Words (length (r .commands))) (g .checked) fits rest)) own
 
-  own-input : (input time rest : ℕ) → Own rest → Own (inputNumber (r .inputs) (r .lists) (length (r .commands)) input time rest)
-  unfolding inputNumber
+  own-input : (input time rest : ℕ) → Own rest → Own (timedNumber (r .inputs) (r .lists) (length (r .commands)) input time rest)
+  unfolding timedNumber inputNumber
   own-input input time rest own = own-record _ (own-ask 7 _ _ (omega arith) (own-ask 8 _ _ (omega arith) own))
 
   pub beyond : (call : Call) → after r call .number ≤ 6 → Accepted r call

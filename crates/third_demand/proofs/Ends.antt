@@ -9,7 +9,7 @@ use Rattle.base.specs.Limits.{timeLimit}
 use Rattle.policy.specs.declared.DelayPolicy.{DelayPolicy}
 use Rattle.lag_window.specs.Window.{Window, pushedAll}
 use Rattle.lag_window.specs.Checks.{roomFor}
-use Rattle.slots.proofs.Tests.{not-both}
+use Rattle.base.proofs.Tests.{not-both}
 use Rattle.history.specs.View.{Rules, rulesOf, InputView, Tick}
 use Rattle.history.specs.Events.{Event, ticks, seeds, after, history, timeOf, Fits, Room, Lawful, clock}
 use Rattle.history.proofs.Demand.{history-append}

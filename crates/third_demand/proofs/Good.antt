@@ -11,7 +11,7 @@ use Rattle.slots.specs.Slots.{stateNumber}
 use Rattle.slots.specs.Inputs.{slotAt}
 use Rattle.opening.specs.declared.World.{World}
 use Rattle.record.specs.Reply.{Reply}
-use Rattle.record.proofs.Checked.{Checked}
+use Rattle.record.specs.Facts.{Checked}
 use Rattle.keeping.proofs.Settings.{SameSettings}
 use Rattle.auto_delay.specs.Auto.{goesOn}
 use Rattle.inputs_new.specs.declared.Settings.{Settings}

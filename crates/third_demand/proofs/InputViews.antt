@@ -13,7 +13,7 @@ use Rattle.slots.specs.declared.Proposal.the-variants.{Nothing}
 use Rattle.slots.specs.declared.Inputs.{Inputs}
 use Rattle.slots.specs.Slots.{stateNumber}
 use Rattle.slots.specs.Inputs.{slotAt}
-use Rattle.slots.proofs.Sized.{Sized}
+use Rattle.slots.specs.Sized.{Sized}
 use Rattle.record.specs.Lent.{Lists, windowOf}
 use Rattle.record.specs.Effects.{Effect, followedBy}
 use Rattle.auto_delay.specs.Arrival.{largestOf}

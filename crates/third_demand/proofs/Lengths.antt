@@ -19,7 +19,8 @@ use Rattle.slots.specs.declared.Routed.the-variants.{Nowhere, To}
 use Rattle.slots.specs.declared.Slot.{Slot}
 use Rattle.slots.specs.declared.Inputs.{Inputs}
 use Rattle.slots.specs.Inputs.{slotAt}
-use Rattle.slots.proofs.Sized.{Sized, sized-put}
+use Rattle.slots.proofs.Sized.{sized-put}
+use Rattle.slots.specs.Sized.{Sized}
 use Rattle.commands.specs.Commands.{Done, quiet, first}
 use Rattle.set_delay.specs.SetDelay.{setDelayOf}
 use Rattle.opening.specs.declared.World.{World}

@@ -13,7 +13,7 @@ use Rattle.slots.specs.Inputs.{slotAt}
 use Rattle.record.specs.Lent.{Lists, bucketsIn}
 use Rattle.record.specs.Effects.{Effect}
 use Rattle.record.specs.Reply.{Reply, carriedOut}
-use Rattle.record.proofs.Checked.{Checked}
+use Rattle.record.specs.Facts.{Checked}
 use Rattle.keeping.proofs.Settings.{SameSettings}
 use Rattle.inputs_new.specs.declared.Settings.{Settings}
 use Rattle.inputs_new.specs.Fresh.{policyOf, blank, blankFor}

@@ -19,7 +19,8 @@ use Rattle.slots.specs.declared.Slot.{Slot}
 use Rattle.slots.specs.declared.Inputs.{Inputs}
 use Rattle.slots.specs.Inputs.{slotAt, putSlot}
 use Rattle.slots.proofs.Frame.{slot-same}
-use Rattle.slots.proofs.Sized.{Sized, sized-put}
+use Rattle.slots.proofs.Sized.{sized-put}
+use Rattle.slots.specs.Sized.{Sized}
 use Rattle.commands.specs.Commands.{quiet}
 use Rattle.flows.proofs.Table.{enrolled-rest, enrolled-sized}
 use Rattle.opening.specs.declared.World.{World}

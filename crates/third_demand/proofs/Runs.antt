@@ -11,8 +11,8 @@ use Rattle.slots.specs.declared.Inputs.{Inputs}
 use Rattle.slots.specs.Inputs.{slotAt}
 use Rattle.record.specs.Lent.{Lists}
 use Rattle.record.specs.Reply.{Reply}
-use Rattle.record.proofs.Checked.{Checked}
-use Rattle.record.proofs.Numbers.{by-zero}
+use Rattle.record.specs.Facts.{Checked}
+use Rattle.base.proofs.Choices.{by-zero}
 use Rattle.keeping.proofs.Settings.{SameSettings}
 use Rattle.inputs_new.specs.declared.Settings.{Settings}
 use Rattle.inputs_new.specs.Fresh.{policyOf, blankFor}

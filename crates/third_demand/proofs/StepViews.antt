@@ -20,7 +20,7 @@ use Rattle.slots.specs.declared.Slot.{Slot}
 use Rattle.slots.specs.declared.Inputs.{Inputs}
 use Rattle.slots.specs.Slots.{stateNumber, withState}
 use Rattle.slots.specs.Inputs.{slotAt}
-use Rattle.slots.proofs.Sized.{Sized}
+use Rattle.slots.specs.Sized.{Sized}
 use Rattle.opening.specs.Opening.{runningSlot, openedSlot, startsAnew}
 use Rattle.opening.proofs.Outcomes.{startedSlot}
 use Rattle.watching.specs.Watching.{lostSlot, movedSlot}

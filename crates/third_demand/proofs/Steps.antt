@@ -14,7 +14,7 @@ use Rattle.slots.specs.Inputs.{slotAt}
 use Rattle.opening.specs.declared.World.{World}
 use Rattle.record.specs.Effects.{Effect}
 use Rattle.record.specs.Reply.{Reply, carriedOut}
-use Rattle.record.proofs.Checked.{Checked}
+use Rattle.record.specs.Facts.{Checked}
 use Rattle.record.proofs.Numbers.{call-low}
 use Rattle.keeping.proofs.Settings.{settings-then}
 use Rattle.auto_delay.specs.Auto.{goesOn}

@@ -16,7 +16,7 @@ use Rattle.slots.specs.Slots.{stateNumber, isAuto}
 use Rattle.slots.specs.Inputs.{slotAt}
 use Rattle.opening.specs.declared.World.{World}
 use Rattle.record.specs.Reply.{Reply}
-use Rattle.record.proofs.Numbers.{by-zero}
+use Rattle.base.proofs.Choices.{by-zero}
 use Rattle.auto_delay.specs.Auto.{goesOn}
 use Rattle.inputs_new.specs.declared.Settings.{Settings}
 use Rattle.inputs_new.specs.Fresh.{policyOf}

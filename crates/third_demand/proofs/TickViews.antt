@@ -13,10 +13,10 @@ use Rattle.slots.specs.declared.Slot.{Slot}
 use Rattle.slots.specs.declared.Inputs.{Inputs}
 use Rattle.slots.specs.Slots.{stateNumber}
 use Rattle.slots.specs.Inputs.{slotAt}
-use Rattle.slots.proofs.Sized.{Sized}
+use Rattle.slots.specs.Sized.{Sized}
 use Rattle.record.specs.Lent.{Lists, windowOf}
 use Rattle.record.specs.Effects.{Effect}
-use Rattle.record.proofs.Checked.{Checked}
+use Rattle.record.specs.Facts.{Checked}
 use Rattle.auto_delay.specs.Auto.{goesOn}
 use Rattle.auto_delay.specs.Asked.{Ready}
 use Rattle.auto_delay.proofs.Readiness.{ready-low, ready-of}

@@ -2,7 +2,7 @@
 use Prim.Native.Nat.{ℕ, _<_}
 use mathlib.Core.Path.{_≡_}
 use Rattle.slots.specs.Inputs.{slotAt}
-use Rattle.slots.proofs.Sized.{Sized}
+use Rattle.slots.specs.Sized.{Sized}
 use Rattle.record.specs.Reply.{Reply}
 use Rattle.sent_delays.specs.Last.{lastDelay}
 use Rattle.sent_delays.proofs.Calls.{Told, accepted-told, route-told, update-told, tick-told, new-delays}

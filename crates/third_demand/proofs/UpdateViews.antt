@@ -15,7 +15,7 @@ use Rattle.slots.specs.declared.Proposal.the-variants.{Nothing}
 use Rattle.slots.specs.declared.Slot.{Slot}
 use Rattle.slots.specs.declared.Inputs.{Inputs}
 use Rattle.slots.specs.Inputs.{slotAt}
-use Rattle.slots.proofs.Sized.{Sized}
+use Rattle.slots.specs.Sized.{Sized}
 use Rattle.record.specs.Lent.{Lists}
 use Rattle.record.specs.Checks.{Fitting}
 use Rattle.record.specs.Effects.{Effect}

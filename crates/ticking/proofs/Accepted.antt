@@ -15,13 +15,14 @@ use Rattle.base.proofs.Choices.{asked}
 use Rattle.base.proofs.Points.{both-true, all-at}
 use Rattle.lag_window.specs.Checks.{roomFor}
 use Rattle.slots.specs.declared.Inputs.{Inputs}
-use Rattle.slots.proofs.Sized.{Sized}
+use Rattle.slots.specs.Sized.{Sized}
 use Rattle.opening.specs.Checks.{readerFits}
 use Rattle.record.specs.declared.Commands.the-variants.{Words}
 use Rattle.record.specs.Lent.{Lists, windowOf}
 use Rattle.record.specs.Checks.{recordNumber}
-use Rattle.record.proofs.Checked.{Checked, checked, number-passed, number-refused}
-use Rattle.record.proofs.Numbers.{by-zero}
+use Rattle.record.proofs.Checked.{checked, number-passed, number-refused}
+use Rattle.record.specs.Facts.{Checked}
+use Rattle.base.proofs.Choices.{by-zero}
 use Rattle.ticking.specs.declared.Look.{Look}
 use Rattle.ticking.specs.Looks.{lookAt, lagsBefore, lagsOf}
 use Rattle.ticking.specs.Checks.{lookFits, looksFit, lagsFit, roomsFit, tickNumber}

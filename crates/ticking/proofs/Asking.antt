@@ -8,7 +8,8 @@ use Rattle.base.specs.Limits.{timeLimit}
 use Rattle.delay_hold.specs.declared.Lag.{Lag}
 use Rattle.slots.specs.declared.Inputs.{Inputs}
 use Rattle.slots.specs.Inputs.{slotAt}
-use Rattle.slots.proofs.Sized.{Sized, sized-put}
+use Rattle.slots.proofs.Sized.{sized-put}
+use Rattle.slots.specs.Sized.{Sized}
 use Rattle.commands.specs.declared.Sent.{Sent}
 use Rattle.commands.specs.Commands.{Did}
 use Rattle.record.specs.Lent.{Lists, lists}

@@ -12,11 +12,12 @@ use Rattle.base.proofs.All.{told-no, told-yes}
 use Rattle.lag_window.proofs.WholeAt.{whole-of}
 use Rattle.slots.specs.declared.Inputs.{Inputs}
 use Rattle.slots.specs.Inputs.{slotAt}
-use Rattle.slots.proofs.Sized.{Sized}
+use Rattle.slots.specs.Sized.{Sized}
 use Rattle.record.specs.declared.Commands.the-variants.{Words}
 use Rattle.record.specs.Lent.{Lists}
 use Rattle.record.specs.Checks.{recordNumber}
-use Rattle.record.proofs.Checked.{Checked, checked, checked-commands, number-passed, number-refused}
+use Rattle.record.proofs.Checked.{checked, checked-commands, number-passed, number-refused}
+use Rattle.record.specs.Facts.{Checked}
 use Rattle.record.proofs.Numbers.{record-fitting}
 use Rattle.auto_delay.proofs.Asks.{ready-sound, ready-window}
 use Rattle.auto_delay.proofs.Readiness.{ready-of}

@@ -8,7 +8,7 @@ use Rattle.base.proofs.Choices.{by-le, accepted-all}
 use Rattle.slots.specs.declared.Slot.{Slot}
 use Rattle.slots.specs.declared.Inputs.{Inputs}
 use Rattle.slots.specs.Inputs.{slotAt}
-use Rattle.slots.proofs.Sized.{Sized}
+use Rattle.slots.specs.Sized.{Sized}
 use Rattle.record.specs.Lent.{Lists}
 use Rattle.record.specs.Effects.{followedBy}
 use Rattle.record.specs.Reply.{Reply}

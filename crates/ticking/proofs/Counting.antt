@@ -15,8 +15,8 @@ use Rattle.slots.specs.declared.Slot.{Slot}
 use Rattle.slots.specs.declared.Inputs.{Inputs}
 use Rattle.slots.specs.Inputs.{slotAt}
 use Rattle.record.specs.Lent.{lists, windowOf}
-use Rattle.record.proofs.Numbers.{by-zero}
-use Rattle.record.proofs.Blocks.{block-within}
+use Rattle.base.proofs.Choices.{by-zero}
+use Rattle.base.proofs.Blocks.{block-within}
 use Rattle.ticking.specs.declared.Look.{Look}
 use Rattle.ticking.specs.Looks.{lookAt, lagsBefore}
 use Rattle.ticking.specs.Checks.{lookFits, looksFit, lagsFit, roomsFit}

@@ -14,7 +14,8 @@ use Rattle.lag_window.specs.Checks.{roomFor}
 use Rattle.delay_hold.specs.declared.Lag.{Lag}
 use Rattle.slots.specs.declared.Inputs.{Inputs}
 use Rattle.slots.specs.Inputs.{slotAt, withFlows, withInstances}
-use Rattle.slots.proofs.Sized.{Sized, sized-put}
+use Rattle.slots.proofs.Sized.{sized-put}
+use Rattle.slots.specs.Sized.{Sized}
 use Rattle.commands.specs.Commands.{quiet, first}
 use Rattle.instances.specs.declared.Extra.the-variants.{Nothing}
 use Rattle.instances.specs.Instances.{pruned}

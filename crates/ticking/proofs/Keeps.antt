@@ -14,14 +14,14 @@ use Rattle.slots.specs.declared.Slot.{Slot}
 use Rattle.slots.specs.declared.Inputs.{Inputs}
 use Rattle.slots.specs.Slots.{stateNumber}
 use Rattle.slots.specs.Inputs.{slotAt}
-use Rattle.slots.proofs.Sized.{Sized}
+use Rattle.slots.specs.Sized.{Sized}
 use Rattle.commands.specs.Commands.{Done, quiet}
 use Rattle.instances.specs.declared.Extra.the-variants.{Nothing}
 use Rattle.instances.specs.Instances.{pruned}
 use Rattle.record.specs.Lent.{Lists, windowOf}
 use Rattle.record.specs.Effects.{followedBy}
 use Rattle.record.specs.Reply.{Reply}
-use Rattle.record.proofs.Checked.{Checked}
+use Rattle.record.specs.Facts.{Checked}
 use Rattle.record.proofs.Tables.{mark-keeps}
 use Rattle.record.proofs.Pruned.{prune-keeps}
 use Rattle.keeping.proofs.Opening.{waiting-keeps}

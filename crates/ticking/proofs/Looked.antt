@@ -12,7 +12,7 @@ use Rattle.slots.specs.declared.State.the-variants.{Stalled}
 use Rattle.slots.specs.declared.Inode.the-variants.{Of}
 use Rattle.slots.specs.Slots.{stateNumber, withState, withReopens}
 use Rattle.slots.specs.Inputs.{slotAt}
-use Rattle.slots.proofs.Sized.{Sized}
+use Rattle.slots.specs.Sized.{Sized}
 use Rattle.commands.specs.Commands.{Done, setInput, clearInput, setDelay, quiet}
 use Rattle.opening.specs.declared.Reader.the-variants.{Open}
 use Rattle.opening.specs.Opening.{runningSlot, openedSlot, startsAnew}

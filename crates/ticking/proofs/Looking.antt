@@ -17,7 +17,7 @@ use Rattle.slots.specs.declared.Slot.{Slot}
 use Rattle.slots.specs.declared.Inputs.{Inputs}
 use Rattle.slots.specs.Slots.{stateNumber, withState}
 use Rattle.slots.specs.Inputs.{slotAt}
-use Rattle.slots.proofs.Sized.{Sized}
+use Rattle.slots.specs.Sized.{Sized}
 use Rattle.commands.specs.Commands.{Done, quiet}
 use Rattle.opening.specs.Opening.{runningSlot, openedSlot, tryOpenOf}
 use Rattle.opening.proofs.Frame.{Frame, leaves-quiet, open-leaves}

@@ -12,11 +12,11 @@ use Rattle.slots.specs.declared.Proposal.the-variants.{Nothing}
 use Rattle.slots.specs.declared.Slot.{Slot}
 use Rattle.slots.specs.declared.Inputs.{Inputs}
 use Rattle.slots.specs.Inputs.{slotAt}
-use Rattle.slots.proofs.Sized.{Sized}
+use Rattle.slots.specs.Sized.{Sized}
 use Rattle.record.specs.Lent.{Lists, windowOf}
 use Rattle.record.specs.Effects.{followedBy}
 use Rattle.record.specs.Reply.{Reply}
-use Rattle.record.proofs.Checked.{Checked}
+use Rattle.record.specs.Facts.{Checked}
 use Rattle.auto_delay.specs.Arrival.{arrived, largestOf}
 use Rattle.auto_delay.specs.Asked.{Ready}
 use Rattle.auto_delay.proofs.Arriving.{arrived-slot}

@@ -11,7 +11,7 @@ use Rattle.lag_window.specs.Window.{Window}
 use Rattle.lag_window.specs.Checks.{roomFor}
 use Rattle.slots.specs.declared.Slot.{Slot}
 use Rattle.slots.specs.declared.Inputs.{Inputs}
-use Rattle.slots.proofs.Sized.{Sized}
+use Rattle.slots.specs.Sized.{Sized}
 use Rattle.commands.specs.declared.Sent.{Sent}
 use Rattle.record.specs.Lent.{Lists, bucketsIn, windowOf}
 use Rattle.record.specs.Checks.{Long}

@@ -8,7 +8,7 @@ use Rattle.base.specs.Limits.{timeLimit}
 use Rattle.lag_window.specs.Checks.{roomFor}
 use Rattle.slots.specs.declared.Inputs.{Inputs}
 use Rattle.slots.specs.Inputs.{slotAt}
-use Rattle.slots.proofs.Sized.{Sized}
+use Rattle.slots.specs.Sized.{Sized}
 use Rattle.record.specs.Lent.{Lists, windowOf}
 use Rattle.auto_delay.specs.Asked.{Ready}
 use Rattle.ticking.specs.declared.Look.{Look}

@@ -5,7 +5,7 @@ ghost use Prim.Native.Nat.{ℕ, _+_, _*_, _<_, _≤_, _^_};
 ghost use lib.ListN.{length};
 ghost use Rattle.base.specs.Limits.{timeLimit};
 ghost use Rattle.slots.specs.Inputs.{slotAt};
-ghost use Rattle.slots.proofs.Sized.{Sized};
+ghost use Rattle.slots.specs.Sized.{Sized};
 ghost use Rattle.commands.specs.Commands.{Did};
 ghost use Rattle.record.specs.Lent.{lists};
 ghost use Rattle.record.specs.Effects.{Effected};

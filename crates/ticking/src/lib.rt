@@ -1,6 +1,6 @@
 // A tick of all inputs (document 01, "Supervision"), and its checks.
 ghost use mathlib.Core.Path.{_≡_};
-ghost use Rattle.slots.proofs.Sized.{Sized};
+ghost use Rattle.slots.specs.Sized.{Sized};
 ghost use Rattle.record.specs.Lent.{lists};
 ghost use Rattle.ticking.specs.Checks.{tickNumber};
 use opening::World;

@@ -17,8 +17,9 @@ use Rattle.slots.specs.declared.Inode.the-variants.{Gone, Of}
 use Rattle.slots.specs.Slots.{isAuto, withState}
 use Rattle.slots.specs.Inputs.{slotAt, putSlot}
 use Rattle.slots.proofs.Frame.{slot-same}
-use Rattle.slots.proofs.Sized.{Sized, sized-put}
-use Rattle.slots.proofs.Tests.{not-both}
+use Rattle.slots.proofs.Sized.{sized-put}
+use Rattle.slots.specs.Sized.{Sized}
+use Rattle.base.proofs.Tests.{not-both}
 use Rattle.commands.specs.Commands.{Done, setInput, clearInput, setDelay, quiet, first}
 use Rattle.opening.specs.declared.Reader.the-variants.{Open}
 use Rattle.opening.specs.declared.World.{World}

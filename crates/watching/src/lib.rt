@@ -1,4 +1,4 @@
-// Watching a running input: its slot when the flow is gone or the head moved, and whether it stalls.
+// Watching a running input: its slot when the head moved, and whether it stalls.
 ghost use mathlib.Core.Path.{_≡_};
 ghost use Rattle.watching.specs.Watching.{movedSlot, stallsNow};
 use slots::Slot;

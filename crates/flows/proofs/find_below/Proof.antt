@@ -2,8 +2,8 @@
 use Prim.Native.Nat.{_-_, _≤_}
 use mathlib.Core.Path.{_≡_}
 use native.Mathlib.Omega.{arith}
-use Rattle.slots.proofs.First.{first-none, first-more, first-stop, first-end}
-use Rattle.slots.specs.First.{first}
+use Rattle.base.proofs.First.{first-none, first-more, first-stop, first-end}
+use Rattle.base.specs.First.{first}
 use Rattle.flows.proofs.Cases.{told-flow}
 use Rattle.flows.specs.Flows.{holdsFlow, placeBelow}
 use Rattle.flows.proofs.find_below.Statement.{statement}

@@ -4,8 +4,8 @@ use mathlib.Core.Path.{_≡_}
 use mathlib.Core.Bool.{false}
 use native.Mathlib.Omega.{arith}
 use Rattle.slots.specs.Inputs.{slotAt}
-use Rattle.instances.proofs.Any.{any-none, any-more, any-stop, any-end}
-use Rattle.instances.specs.Any.{any}
+use Rattle.base.proofs.Any.{any-none, any-more, any-stop, any-end}
+use Rattle.base.specs.Any.{any}
 use Rattle.instances.proofs.Cases.{told-uses}
 use Rattle.instances.specs.Instances.{usesKey, anyUses}
 use Rattle.instances.proofs.any_uses.Statement.{statement}

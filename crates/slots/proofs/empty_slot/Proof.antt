@@ -1,6 +1,6 @@
 -- `slots::empty_slot` meets its contract. Assumes nothing.
 use borrow.Author.Needs.{needs}
-use Rattle.slots.specs.Slots.{emptySlot, emptyHold}
+use Rattle.slots.specs.Slots.{emptySlot}
 use Rattle.slots.proofs.empty_slot.Statement.{statement}
 use Rattle.slots.proofs.empty_slot.Tie as tie
 
@@ -8,7 +8,7 @@ fresh-requires : tie.Need-fresh-requires
 fresh-requires c κs = search needs
 
 returns : tie.Need-returns
-unfolding emptySlot emptyHold
+unfolding emptySlot
 returns c = rw (c .fresh .ensures)
 
 pub empty-slot-spec : {M : Type 1} → statement M

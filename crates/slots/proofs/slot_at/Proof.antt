@@ -1,7 +1,7 @@
 -- `slots::slot_at` meets its contract. Assumes nothing.
 use borrow.Author.Tests.{lt-ltb, le-ltb}
 use borrow.Author.Needs.{needs}
-use Rattle.slots.specs.Slots.{emptySlot, emptyHold}
+use Rattle.slots.specs.Slots.{emptySlot}
 use Rattle.slots.specs.Inputs.{slotAt}
 use Rattle.slots.proofs.slot_at.Statement.{statement}
 use Rattle.slots.proofs.slot_at.Tie as tie
@@ -13,7 +13,7 @@ element-copy-out-result : tie.Need-element-copy-out-result
 element-copy-out-result c = search needs
 
 returns : tie.Need-returns
-unfolding slotAt emptySlot emptyHold
+unfolding slotAt emptySlot
 returns c = rw (lt-ltb _ _ (c .before .if1 .taken))
 
 empty-slot-requires : tie.Need-empty-slot-requires

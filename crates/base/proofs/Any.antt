@@ -1,12 +1,12 @@
--- Some number passes a test, as a loop looks for it. Of general use: it belongs to base. Assumes nothing.
+-- Some number passes a test, as a loop looks for it. Assumes nothing.
 use Prim.Native.Nat.{ℕ, zero, suc, _+_, _<_, _≤_}
 use mathlib.Core.Bool.{Bool, true, false}
 use mathlib.Core.Path.{_≡_, refl, sym}
 use mathlib.Core.Logic.{⊎-elim}
 use native.Mathlib.Nat.{le-antisymm, not-suc-le-zero, le-of-suc-le-suc, eq-or-lt-of-le}
 use native.Mathlib.Numerals.{add-one}
 use Rattle.base.specs.Choice.{pick}
-use Rattle.instances.specs.Any.{any}
+use Rattle.base.specs.Any.{any}
 
 module _ (p : ℕ → Bool) where
   pub any-none : any p 0 ≡ false
