@@ -316,7 +316,7 @@ def bad_lines():
     say("", " ", "snore", "ms", "ms 5 5", "ms  5", " ms 5", "ms 5 ", "ms -1", "ms +1", "ms 5.0", "ms 4294967296", "ms 0x5", "ms 00048", "MS 5", "ms -", "ms 18446744073709551616")
     say("samples 3FF0000000000000", "samples 13ff0000000000000", "samples g", "samples -", "need 1 2 3 4", "need 480 4800 96 4049000000000000 4294967296", "index_at 18446744073709551616")
     say("full 2", "full", "full 0 0", "wset 5", "wset 5:1,3", "wset 5:1,3=-", "wset 5:1,3=4294967296", "hset 1 - - - 0 0 -", "hset 0 - - - 256 0 -", "hset 0 - - - 0 2 -", "hset 0 - - - 0 0", "hset 0 - 5 - 0 0 -")
-    say("next 480 4800 48 1 1 96 0 - - -", "co_set", "co_set x", "q_set 5", "q_set 5:", "q_set :5", "wquant 3ff0000000000000", "hnew 5", "!5", "!5 ", "!5 snore", "! ms 5", "dry", "dry ms 5", "flush", "full 0", "full 00")
+    say("next 480 4800 48 1 1 96 0 - - -", "co_set", "co_set x", "q_set 5", "q_set 5:", "q_set :5", "wquant 3ff0000000000000", "hnew 5", "!5", "!5 ", "!5 snore", "! ms 5", "ms\t5", "ms 5\t", "ms \u0663", "\u00fc", "dry", "dry ms 5", "flush", "full 0", "full 00")
 
 
 # ---- a whole supervisor
@@ -425,6 +425,12 @@ def refusals():
     say(short(route_line(4 * S, 2, "c/1")), short(tick(U64)), f"update {U64} 2 A", f"update {U64} 0 {manual(NAN)}", f"update {4 * S} 2 {manual(NAN)}", f"confirm {U64} 2", f"confirm {U64} 1", "status 2 4801 65", f"settled {U64} 2", route_line(U64, 2, "c/1", channels=65), route_line(U64, 0, "c/1", channels=65), tick(U64, applied=4801), "has 2 65 2")
     say("dump", f"update {4 * S} 1 {manual(100.0)}", f"update {4 * S} 1 {manual(-0.0)}", f"update {4 * S} 1 {manual(0.03125)}", f"confirm {4 * S} 0", f"confirm {4 * S} 0")
     say("put 2 delays 5 -", "put 0 counters 1 2", "put 0 delays 5", "put 0 snore", "put 0 window 5", "put 0 hold 0", "put 0 counters 1 2 3 4", "route 5 0 a 5 1 2 0", "route 5 0 a/1 5 2 2 0", "route 5 0 a/1 5 1 2", "update 5 0 B", "update 5 0 M", "update 5 0 a", "tick 5 5,5,1,2,0,0,0 L", "tick 5 5,5,1,2,0,0,0 5,5,1,2,0,0,0", "tick 5 5,5,1,2,0,0 5,5,1,2,0,0,0 L", "tick 5 5,5,1,2,0,0,0,0 5,5,1,2,0,0,0 L", "tick 5 5,5,1,2,0,0,0 5,5,1,2,0,0,0 M", "status 0 0", "has 0 0", "settled 0")
+
+    section("8: the latest time is a time")
+    s = Supervisor(n=1, confirm=1)
+    s.route(LATEST, 0, "a/1")
+    s.tick(LATEST, [700])
+    say(f"confirm {LATEST} 0", f"update {LATEST} 0 A", f"settled {LATEST} 0", "dump")
 
     section("9: no room for another flow")
     s = Supervisor(n=1, loaded=[(format(k, "x"), k) for k in range(63)], maximum=40)
