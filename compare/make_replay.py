@@ -261,7 +261,7 @@ def hold():
     say(nxt(5, offset=96001), nxt(5, maximum=96001), nxt(5, w=0), nxt(5, w=4801), nxt(5, p999=480, w=1, offset=96000, maximum=96000))
     say(nxt(5, hold=600 * S + 1), nxt(5, window=S - 1), nxt(5, window=600 * S + 1), nxt(5, hold=U64), nxt(5, hold=600 * S, window=600 * S, p999=480))
     say(nxt(5, margin=96001), nxt(5, percent=NAN), nxt(5, percent=-1.0), nxt(5, percent=1001.0), nxt(5, percent=INF), nxt(5, percent=-LEAST, p999=480))
-    say(short(nxt(5, p999=480)), nxt(LATEST + 1), nxt(U64), nxt(5, current=4801), nxt(5, p999=5329), nxt(5, p999=5328, current=4800), nxt(5, p999=5328, lag=U32))
+    say(short(nxt(5, p999=480)), nxt(LATEST), nxt(LATEST + 1), nxt(U64), nxt(5, current=4801), nxt(5, p999=5329), nxt(5, p999=5328, current=4800), nxt(5, p999=5328, lag=U32))
     say(nxt(5, offset=96001, hold=U64), nxt(5, hold=U64, percent=NAN), short(nxt(5, percent=NAN)), short(nxt(LATEST + 1)), nxt(LATEST + 1, current=4801))
     bad = [
         hset(peaks=[(5, 100), (S + 4, 100)]),  # less than 1 s apart
@@ -377,7 +377,7 @@ def making():
     # Reading 12: any double is a kind, and keeps its bits; -0.0 is a percent.
     Supervisor(n=6, kinds=[manual(-0.0), manual(-5.0), manual(INF), manual(-INF), "M7ff8000000000000", "Mfff0000000000001"], percent=-0.0)
     Supervisor(n=16, offset=0, maximum=0, w=4800, hold=0, window=S, stall=0, margin=0, percent=0.0)
-    Supervisor(offset=96000, maximum=96000, w=48, hold=600 * S, window=600 * S, stall=600 * S, margin=96000, percent=1000.0)
+    Supervisor(offset=96000, maximum=96000, w=49, hold=600 * S, window=600 * S, stall=600 * S, margin=96000, percent=1000.0)
     say(new_line(w=4, offset=11579, maximum=0), new_line(w=4, offset=11580, maximum=0))  # 4,096 buckets, 4,097
     # Reading 14: 9 counts distinct flows: 64 of them in 65 words are as many as fit; 65 are not.
     flows = [(format(k, "x"), k) for k in range(64)]
@@ -407,7 +407,7 @@ def refusals():
     tick = lambda now=4 * S, *lags, **named: s.tick_line(now, *lags, moving=False, **named)
     lists = [route_line(4 * S, 0, "c/1"), f"update {4 * S} 0 A", f"update {4 * S} 0 {manual(5.0)}", f"confirm {4 * S} 0", tick(), "status 0 0 2", "has 0 2 2", f"settled {4 * S} 0"]
     say(*map(short, lists))  # 5
-    for n in (2, U64):  # 7
+    for n in (2, 2**32, U64):  # 7
         say(route_line(4 * S, n, "c/1"), f"update {4 * S} {n} A", f"confirm {4 * S} {n}", f"status {n} 0 2", f"settled {4 * S} {n}")
     say("has 2 2 2", "has 18446744073709551615 2 2")  # Reading 14: 7 answers `has` of a missing input
     late = LATEST + 1  # 8
@@ -429,7 +429,7 @@ def refusals():
     section("8: the latest time is a time")
     s = Supervisor(n=1, confirm=1)
     s.route(LATEST, 0, "a/1")
-    s.tick(LATEST, [700])
+    s.tick(LATEST, [700], channels=64, applied=4800)
     say(f"confirm {LATEST} 0", f"update {LATEST} 0 A", f"settled {LATEST} 0", "dump")
 
     section("9: no room for another flow")
