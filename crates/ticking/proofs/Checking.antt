@@ -78,7 +78,7 @@ module _ (s : Inputs) (l : Lists) (words : ℕ) (looks : List Look) (lags : List
               ∙ yes-ask 8 _ (le-leb _ _ soon)
               ∙ yes-ask 10 _ (told-yes _ _ is-good fits)
               ∙ yes-ask 10 _ (told-yes _ _ is-even too)
-              ∙ no-ask 11 0 (told-no _ _ is-roomy refused))
+              ∙ no-ask 11 _ (told-no _ _ is-roomy refused))
 
           pub tick-passes : not roomy ≡ false → 0 ≡ tickNumber s l words looks lags time
           unfolding tickNumber

@@ -92,7 +92,7 @@ module _ (i : ℕ) (look : Look) (lags : List ℕ) (time : ℕ) (s : Inputs) (l 
 
 -- ---- "Last, prune; the unsaved mark is .. cleared"
 pub lastly-keeps : (s : Inputs) (l : Lists) → Checked s l → Checked (lastly s) l
-lastly-keeps s l c = mark-keeps (pruned s Nothing) l (prune-keeps s l c Nothing) false
+lastly-keeps s l c = mark-keeps (pruned s Nothing) l (prune-keeps s l c Nothing) _
 
 -- ---- all inputs
 module _ (looks : List Look) (lags : List ℕ) (time : ℕ) (s : Inputs) (l : Lists) (c : Checked s l) (a : Accepted s l looks lags time) (few : (j : ℕ) → j < s .count → MayCount (slotAt s j)) where
