@@ -298,7 +298,7 @@ def hold():
 def helpers():
     section("Coalesce")
     say("co_pending", "co_take", "co_take_due 5", f"co_changed 5 {S}", "co_pending", f"co_changed 6 {S}", f"co_changed 7 0", f"co_take_due {S + 4}", f"co_take_due {S + 5}", "co_pending", f"co_take_due {S + 5}")
-    say("co_changed 5 0", "co_take_due 4", "co_take", "co_take", f"co_changed {LATEST} {600 * S}", f"co_take_due {LATEST}", "co_take")
+    say("co_changed 5 0", "co_take_due 0", "co_take_due 4", "co_take", "co_take", f"co_changed {LATEST} {600 * S}", f"co_take_due {LATEST}", "co_take")
     say(f"co_changed 5 {600 * S + 1}", f"co_changed {LATEST + 1} 5", f"co_take_due {LATEST + 1}", f"co_changed {LATEST + 1} {600 * S + 1}")
     say(f"co_set {LATEST + 600 * S}", "co_pending", "co_take", f"co_set {LATEST + 600 * S + 1}", "co_pending", "co_take", "co_take_due 5", "co_changed 5 5")
     say(f"co_changed 5 {U64}", f"co_changed {U64} 5", f"co_take_due {U64}", "co_set -", "co_pending", "co_set 7", "co_take_due 7")
@@ -574,6 +574,7 @@ def routing():
     s.route(5, 1, "b/1", inode=8, make=0)  # not made: no pruning
     s.route(6, 0, None)  # nor here
     s.route(7, 0, "b/1", inode=None)
+    s.route(7, 0, "d/1", inode=3, channels=None)  # made, not opened: pruned, and itself kept
     s.tick(8)
     s.world[1].update(watch=9, open=9)
     s.tick(9)
@@ -597,9 +598,10 @@ def ticking():
     s.tick(7 * S - 1, [700], moving=False)
     s.tick(7 * S, [700], moving=False, make=0, open=6)  # stalls; not made
     s.tick(8 * S, [700], moving=False)  # a stalled input does not decide; no late event
-    s.tick(9 * S, [700], moving=False, watch=6, open=6)  # another inode: opened again, still stalled
-    s.tick(10 * S, [700], watch=6)
-    s.world[0].update(watch=6, open=6)
+    s.world[0].update(watch=6, open=6, head=99)
+    s.tick(9 * S, [700], moving=False)  # another inode: opened again, its head stored, still stalled
+    s.tick(9 * S + 1, [700], moving=False)
+    s.tick(10 * S, [700])
     s.tick(11 * S, [700])
     # Reading 5: no inode
     s.tick(12 * S, [700], watch=None)
@@ -760,7 +762,7 @@ def looking():
     s.route(6 * S, 0, None)
     say("status 0 0 2", "dump")
     # Quantiles: 1,000 lags, the 500th, the 990th and the 999th.
-    say(f"put 2 window 0:500,3=500 {S}:500,4=490,5=9,6=1", "status 2 0 2", f"put 2 window 0:500,3=499,4=1 {S}:500,4=490,5=8,6=2", "status 2 0 2")
+    say(f"put 2 window 0:500,3=500 {S}:500,4=490,5=9,6=1", "status 2 0 2", f"put 2 window 0:500,3=499,4=1 {S}:500,4=485,5=13,6=2", "status 2 0 2")
     say("put 2 hold 3 0:50 1000000000:900 2000000000:60 - - - 0 0 -", "status 2 0 2", "put 1 hold 1 0:50 - - - 0 0 -", "status 1 0 2")
 
     section("settled after every call that sends SetDelay")
