@@ -500,9 +500,7 @@ def ticking():
     s.tick(2)
     say("dump")
 
-    section(
-        "Reading 15: 6 does not bound the last lag nor a manual double, nor asks an inode of a running input"
-    )
+    section("Reading 15: 6 bounds neither the last lag nor a manual double")
     s = Supervisor(n=2, kinds=["A", "Mfff8000000000000"])
     s.route(0, 0, "a/18446744073709551615", inode=0)
     s.route(0, 1, "ffffffffffffffffffffffffffffffff/0", inode=U64, channels=0)
