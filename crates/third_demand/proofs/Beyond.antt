@@ -5,7 +5,9 @@ use mathlib.Core.Path.{_≡_, refl, sym, ap, subst, _∙_}
 use mathlib.Core.List.{List}
 use native.Mathlib.Omega.{arith}
 use lib.ListN.{length}
-use borrow.Author.Tests.{eq-eqb}
+use borrow.Author.Tests.{eq-eqb, le-leb}
+use Rattle.base.specs.Limits.{timeLimit}
+use Rattle.base.proofs.Choices.{yes-ask}
 use Rattle.base.specs.Choice.{ask}
 use Rattle.slots.specs.declared.Inputs.{Inputs}
 use Rattle.record.specs.declared.Commands.the-variants.{Words}
@@ -21,7 +23,8 @@ use Rattle.inputs_update.specs.Reply.{updateReply}
 use Rattle.inputs_route.specs.Checks.{routeNumber}
 use Rattle.inputs_route.specs.Route.{routed}
 use Rattle.inputs_route.specs.Reply.{routeReply}
-use Rattle.ticking.specs.Checks.{tickNumber}
+use Rattle.ticking.specs.declared.Look.{Look}
+use Rattle.ticking.specs.Checks.{looksFit, lagsFit, roomsFit, tickNumber}
 use Rattle.ticking.specs.Tick.{ticked}
 use Rattle.ticking.specs.Reply.{tickReply}
 use Rattle.inputs_new.specs.declared.Settings.{Settings}
@@ -44,6 +47,10 @@ own-zero = λ le. refl
 reply-own : (s : Inputs) (l : Lists) (commands : List ℕ) (effect : Effect) (number : ℕ) → Own number → Own (replied number s l commands effect .number)
 reply-own s l commands effect zero own = own
 reply-own s l commands effect (suc n) own = own
+
+reply-passed : (s : Inputs) (l : Lists) (commands : List ℕ) (effect : Effect) (number : ℕ) → number ≡ 0 → replied number s l commands effect .number ≡ 0
+reply-passed s l commands effect zero e = e
+reply-passed s l commands effect (suc n) e = e
 
 module _ (settings : Settings) (n : ℕ) (r : Reply) (g : Good settings n r) where
   counted : r .inputs .count ≡ settings .count
@@ -71,3 +78,16 @@ module _ (settings : Settings) (n : ℕ) (r : Reply) (g : Good settings n r) whe
   beyond (ticks looks lags time) =
       reply-own (r .inputs) (r .lists) (r .commands) (ticked looks lags time (r .inputs) (r .lists)) (tickNumber (r .inputs) (r .lists) (length (r .commands)) looks lags time)
       (own-record _ (own-ask 8 _ _ (omega arith) (own-ask 10 _ _ (omega arith) (own-ask 10 _ _ (omega arith) (own-ask 11 _ _ (omega arith) own-zero)))))
+
+  -- a tick that passes 8, 10 and 11
+  pub takes :
+      (looks : List Look) (lags : List ℕ) (time : ℕ) → time ≤ timeLimit → looksFit (r .inputs) looks ≡ true → lagsFit (r .inputs) looks lags ≡ true → roomsFit (r .inputs) (r .lists) looks time ≡ true →
+      Accepted r (ticks looks lags time)
+  unfolding after tickReply tickNumber
+  takes looks lags time soon seen counted-lags rooms =
+      reply-passed (r .inputs) (r .lists) (r .commands) (ticked looks lags time (r .inputs) (r .lists)) (tickNumber (r .inputs) (r .lists) (length (r .commands)) looks lags time)
+      (of-checked (r .inputs) (r .lists) (Words (length (r .commands))) (g .checked) fits _
+      ∙ yes-ask 8 _ (le-leb _ _ soon)
+      ∙ yes-ask 10 _ seen
+      ∙ yes-ask 10 _ counted-lags
+      ∙ yes-ask 11 _ rooms)

@@ -50,10 +50,10 @@ module _ (night : Night) (is-new : fresh night .number ≡ 0) where
         record { proposed = slot .proposed; reopens = omega (arith, slot .reopens); changes = omega (arith, slot .changes); lates = omega (arith, slot .lates) };
   }
 
-  lived : (i : ℕ) → i < night .settings .count → Lived (night .settings) (night .time) (seenAt (fresh night) i)
+  lived : (i : ℕ) → i < night .settings .count → Lived (night .settings) 0 (seenAt (fresh night) i)
   unfolding history
   lived i h =
-      lived-lifted (night .settings) 0 (night .time) (freshView (policyOf (night .settings)) (night .settings .width)) (seenAt (fresh night) i) (omega arith)
+      lived-lifted (night .settings) 0 0 (freshView (policyOf (night .settings)) (night .settings .width)) (seenAt (fresh night) i) (omega arith)
       (record { past = []; leads = refl; lawful = tt; clocked = omega arith })
       (begun .lifted i h)
 

@@ -20,7 +20,7 @@ use Rattle.inputs_new.specs.Fresh.{policyOf, blank, blankFor}
 use Rattle.inputs_new.specs.Start.{kindAt, started}
 use Rattle.inputs_new.specs.Checks.{newNumber}
 use Rattle.inputs_new.specs.Reply.{newReply}
-use Rattle.inputs_new.proofs.Accepted.{accepted-of, startedDelay, AsStarted, new-checked, new-settings, new-started, new-window, new-held}
+use Rattle.inputs_new.proofs.Accepted.{startedDelay, AsStarted, new-checked, new-settings, new-started, new-window, new-held}
 use Rattle.history.specs.View.{InputView}
 use Rattle.history.specs.Events.{sets, freshView, after, history}
 use Rattle.third_demand.proofs.Lifted.{viewOf, Lifted}
@@ -35,15 +35,15 @@ startedView settings kind = record {
   delay = startedDelay kind (settings .«delay_max»);
 }
 
--- nothing happens to an automatic input; "A Ms input then gets `set_delay` with the smaller of `samples` and maximum"
-started-lifted : (settings : Settings) (time : ℕ) → time ≤ timeLimit → (kind : ExtraDelay) (view : InputView) → view ≡ startedView settings kind
-    → Lifted (policyOf settings) time (freshView (policyOf settings) (settings .width)) view
+-- no window and no hold has the time of `new`, so its events are those of time 0: nothing happens to an automatic input; "A Ms input then gets `set_delay` with the smaller of `samples` and maximum"
+started-lifted : (settings : Settings) (kind : ExtraDelay) (view : InputView) → view ≡ startedView settings kind
+    → Lifted (policyOf settings) 0 (freshView (policyOf settings) (settings .width)) view
 unfolding freshView history after policyOf
-started-lifted settings time soon (Auto tag) view is-view = lifted-none (policyOf settings) time (freshView (policyOf settings) (settings .width)) view is-view
-started-lifted settings time soon (Ms delay) view is-view = record {
-  events = sets time (startedDelay (Ms delay) (settings .«delay_max»)) ∷ [];
+started-lifted settings (Auto tag) view is-view = lifted-none (policyOf settings) 0 (freshView (policyOf settings) (settings .width)) view is-view
+started-lifted settings (Ms delay) view is-view = record {
+  events = sets 0 (startedDelay (Ms delay) (settings .«delay_max»)) ∷ [];
   leads = sym is-view;
-  lawful = λ before first. (first, soon, omega arith, tt, tt);
+  lawful = λ before first. (first, omega arith, omega arith, tt, tt);
   clocked = λ before first. omega arith;
 }
 
@@ -51,7 +51,7 @@ started-lifted settings time soon (Ms delay) view is-view = record {
 pub record Started (settings : Settings) (kinds : List ExtraDelay) (time : ℕ) (z : Inputs) (m : Lists) : Type 0 where
   pub checked : Checked z m
   pub given : SameSettings (blankFor settings) z
-  pub lifted : (i : ℕ) → i < settings .count → Lifted (policyOf settings) time (freshView (policyOf settings) (settings .width)) (viewOf z m i)
+  pub lifted : (i : ℕ) → i < settings .count → Lifted (policyOf settings) 0 (freshView (policyOf settings) (settings .width)) (viewOf z m i)
   pub slot : (i : ℕ) → i < settings .count → AsStarted (kindAt kinds i) time (settings .«delay_max») (slotAt z i)
 
 module _ (settings : Settings) (kinds : List ExtraDelay) (bytes delays : List ℕ) (time : ℕ) (l : Lists) (commands : List ℕ) (accepted : newNumber settings bytes delays time l (length commands) ≡ 0) where
@@ -75,7 +75,7 @@ module _ (settings : Settings) (kinds : List ExtraDelay) (bytes delays : List �
     checked = new-checked settings kinds bytes delays time l (length commands) accepted;
     given = new-settings settings kinds bytes delays time l (length commands) accepted;
     lifted = λ i there.
-        started-lifted settings time (accepted-of settings l (length commands) bytes delays time accepted .1) (kindAt kinds i)
+        started-lifted settings (kindAt kinds i)
         (viewOf (effect .inputs) (effect .lists) i) (view-is i there);
     slot = new-started settings kinds bytes delays time l (length commands) accepted;
   }

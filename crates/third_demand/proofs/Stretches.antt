@@ -117,7 +117,7 @@ module _ (settings : Settings) (laws : Laws settings) (i L : ℕ) (h : i < setti
               subst (λ (x : ℕ). x ≤ clockAfter clock r call) (sym (accepted-last call took order))
               (subst (λ (x : ℕ). time ≤ x) (sym (accepted-clock call took order)) (omega arith));
           prefix = λ {next} {end} st.
-              joined before (seenAt r i) tick (seenAt (after r call) i) next end lift (omega (arith, le, order)) (goes .soon) (goes .lagged) (goes .none-above)
+              joined before (seenAt r i) tick (seenAt (after r call) i) next end lift (omega (arith, le, order)) (omega (arith, goes .soon)) (goes .lagged) (goes .none-above)
               (subst (λ (x : ℕ). Steadily settings L x (seenAt (after r call) i) next end) (accepted-last call took order) st);
         }
 

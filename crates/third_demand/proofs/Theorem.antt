@@ -37,12 +37,12 @@ use Rattle.third_demand.proofs.Lifted.{TickLifted}
 use Rattle.third_demand.proofs.Good.{Good, most, seenAt, Laws}
 use Rattle.third_demand.proofs.Runs.{run-append, clocks, orderly-append, lawful-join, clock-append, Lived, good-after, good-run, lived-run, told-run}
 use Rattle.third_demand.proofs.Stretches.{Steadily, stretch-run}
-use Rattle.third_demand.proofs.Beyond.{beyond}
+use Rattle.third_demand.proofs.Beyond.{beyond, takes}
 
 -- what an accepted `new` without confirmation leaves
 pub record Born (night : Night) : Type 0 where
   pub good : Good (night .settings) 0 (fresh night)
-  pub lived : (i : ℕ) → i < night .settings .count → Lived (night .settings) (night .time) (seenAt (fresh night) i)
+  pub lived : (i : ℕ) → i < night .settings .count → Lived (night .settings) 0 (seenAt (fresh night) i)
   pub told : (i : ℕ) → i < night .settings .count → slotAt (fresh night .inputs) i .delay ≡ lastDelay i 0 (fresh night .commands)
 
 append-length : (calls : List Call) (call : Call) (later : List Call) → length (calls ++ (call ∷ later)) ≡ length calls + suc (length later)
@@ -96,7 +96,7 @@ module _ (laws : (settings : Settings) → settings .confirm ≡ false → Laws 
 
     module _ (calls : List Call) (looks : List Look) (lags : List ℕ) (first i : ℕ) (later : List Call)
         (few : length (calls ++ (ticks looks lags first ∷ later)) < most)
-        (orderly : Orderly (night .time) (fresh night) (calls ++ (ticks looks lags first ∷ later)))
+        (orderly : Orderly 0 (fresh night) (calls ++ (ticks looks lags first ∷ later)))
         (h : i < settings .count)
         (took : Accepted (left night calls) (ticks looks lags first)) where
       abbrev call : Call
@@ -108,14 +108,14 @@ module _ (laws : (settings : Settings) → settings .confirm ≡ false → Laws 
       fewer : length calls + suc (length later) < most
       fewer = subst (λ (x : ℕ). x < most) (append-length calls call later) few
 
-      abbrev apart : Orderly (night .time) (fresh night) calls × Orderly (clocks (night .time) (fresh night) calls) (left night calls) (call ∷ later)
-      apart = orderly-append (night .time) (fresh night) calls (call ∷ later) orderly
+      abbrev apart : Orderly 0 (fresh night) calls × Orderly (clocks 0 (fresh night) calls) (left night calls) (call ∷ later)
+      apart = orderly-append 0 (fresh night) calls (call ∷ later) orderly
 
       good : Good settings (length calls) (left night calls)
       good = good-at calls (omega (arith, fewer))
 
-      life : Lived settings (clocks (night .time) (fresh night) calls) (seenAt (left night calls) i)
-      life = lived-run settings law 0 (night .time) (fresh night) calls i (omega (arith, fewer)) h (birth .good) (apart .0) (birth .lived i h)
+      life : Lived settings (clocks 0 (fresh night) calls) (seenAt (left night calls) i)
+      life = lived-run settings law 0 0 (fresh night) calls i (omega (arith, fewer)) h (birth .good) (apart .0) (birth .lived i h)
 
       -- the events before the tick's own, where the tick leaves the input running on automatic
       module _ (runs : RunsOn i (after (left night calls) call)) where
@@ -162,9 +162,9 @@ module _ (laws : (settings : Settings) → settings .confirm ≡ false → Laws 
           steady : Steadily settings L first (seenAt (after (left night calls) call) i) (seenAt (run (after (left night calls) call) later) i) (ending first (after (left night calls) call) later)
           unfolding clockAfter
           steady =
-              stretch-run settings law i L h (length calls + 1) (clockAfter (clocks (night .time) (fresh night) calls) (left night calls) call) first (after (left night calls) call) later
+              stretch-run settings law i L h (length calls + 1) (clockAfter (clocks 0 (fresh night) calls) (left night calls) call) first (after (left night calls) call) later
               (omega (arith, fewer)) (good-after settings law (length calls) (left night calls) call (omega (arith, fewer)) good)
-              (subst (λ (x : ℕ). first ≤ x) (sym (accepted-new (after (left night calls) call .number) (clocks (night .time) (fresh night) calls) first took)) (omega arith))
+              (subst (λ (x : ℕ). first ≤ x) (sym (accepted-new (after (left night calls) call .number) (clocks 0 (fresh night) calls) first took)) (omega arith))
               runs (apart .1 .1) stretch
 
           all : past ++ runningTicks (tick ∷ steady .passed) ≡ (past ++ (events.ticks tick ∷ [])) ++ runningTicks (steady .passed)
@@ -194,8 +194,8 @@ module _ (laws : (settings : Settings) → settings .confirm ≡ false → Laws 
 
   whole-met : StaysWhole
   whole-met night calls a =
-      let g = good-at night (a .new) (a .unconfirmed) calls (a .few) in
-      record { record-whole = of-whole _ _ (g .checked .whole); beyond-six = beyond (night .settings) (length calls) (left night calls) g }
+      let g = good-at night (a .new) (a .unconfirmed) calls (omega (arith, a .few)) in
+      record { record-whole = of-whole _ _ (g .checked .whole); beyond-six = beyond (night .settings) (length calls) (left night calls) g; takes-ticks = takes (night .settings) (length calls) (left night calls) g }
 
   -- what is left by the calls and one more, and by later ones
   left-tick : (night : Night) (calls : List Call) (call : Call) (later : List Call) → left night (calls ++ (call ∷ later)) ≡ run (after (left night calls) call) later
@@ -208,9 +208,9 @@ module _ (laws : (settings : Settings) → settings .confirm ≡ false → Laws 
       let call : Call = ticks looks lags time in
       let here : left night (calls ++ (call ∷ [])) ≡ after (left night calls) call = left-tick night calls call [] in
       let runs-here : RunsOn i (after (left night calls) call) = subst (RunsOn i) here runs in
-      let bound = floor-here night (a .new) (a .unconfirmed) calls looks lags time i [] (a .few) (a .orderly) h took runs-here lag e fits in
+      let bound = floor-here night (a .new) (a .unconfirmed) calls looks lags time i [] (omega (arith, a .few)) (a .orderly) h took runs-here lag e (omega (arith, fits)) in
       let is-told : delayOf i night (calls ++ (call ∷ [])) ≡ slotAt (after (left night calls) call .inputs) i .delay =
-      told-at night (a .new) (a .unconfirmed) (calls ++ (call ∷ [])) i (a .few) h ∙ ap (λ (r : Reply). slotAt (r .inputs) i .delay) here
+      told-at night (a .new) (a .unconfirmed) (calls ++ (call ∷ [])) i (omega (arith, a .few)) h ∙ ap (λ (r : Reply). slotAt (r .inputs) i .delay) here
       in
       omega (arith, bound, is-told)
 
@@ -218,9 +218,9 @@ module _ (laws : (settings : Settings) → settings .confirm ≡ false → Laws 
   ceiling-met night calls looks lags first i L later a h took in-it stretch long =
       let call : Call = ticks looks lags first in
       let here : left night (calls ++ (call ∷ later)) ≡ run (after (left night calls) call) later = left-tick night calls call later in
-      let bound = ceiling-here night (a .new) (a .unconfirmed) calls looks lags first i later (a .few) (a .orderly) h took (in-it .runs) L in-it stretch long in
+      let bound = ceiling-here night (a .new) (a .unconfirmed) calls looks lags first i later (omega (arith, a .few)) (a .orderly) h took (in-it .runs) L in-it stretch (omega (arith, long)) in
       let is-told : delayOf i night (calls ++ (call ∷ later)) ≡ slotAt (run (after (left night calls) call) later .inputs) i .delay =
-      told-at night (a .new) (a .unconfirmed) (calls ++ (call ∷ later)) i (a .few) h ∙ ap (λ (r : Reply). slotAt (r .inputs) i .delay) here
+      told-at night (a .new) (a .unconfirmed) (calls ++ (call ∷ later)) i (omega (arith, a .few)) h ∙ ap (λ (r : Reply). slotAt (r .inputs) i .delay) here
       in
       omega (arith, bound, is-told)
 

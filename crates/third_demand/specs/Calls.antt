@@ -81,7 +81,7 @@ pub record Admitted (night : Night) (calls : List Call) : Type 0 where
   pub new : fresh night .number ≡ 0
   pub unconfirmed : night .settings .confirm ≡ false
   pub few : length calls < 1_000_000_000_000_000_000
-  pub orderly : Orderly (night .time) (fresh night) calls
+  pub orderly : Orderly 0 (fresh night) calls
 
 -- what the calls leave
 abbrev pub left : Night → List Call → Reply

@@ -3,7 +3,7 @@ use Prim.Native.Nat.{ℕ, _+_, _*_, _≤_, _<_}
 use mathlib.Core.Bool.{true}
 use mathlib.Core.Path.{_≡_}
 use mathlib.Core.List.{List, [], _∷_, _++_}
-use Rattle.base.specs.Limits.{nanos}
+use Rattle.base.specs.Limits.{nanos, timeLimit}
 use Rattle.base.specs.Choice.{accepted}
 use Rattle.policy.specs.declared.DelayPolicy.{DelayPolicy}
 use Rattle.policy.specs.Need.{needOf}
@@ -16,6 +16,7 @@ use Rattle.auto_delay.specs.Auto.{goesOn}
 use Rattle.inputs_new.specs.Fresh.{policyOf}
 use Rattle.ticking.specs.declared.Look.{Look}
 use Rattle.ticking.specs.Looks.{lagsOf}
+use Rattle.ticking.specs.Checks.{looksFit, lagsFit, roomsFit}
 use Rattle.history.specs.Stretch.{NonEmpty, NoneAbove, bucketEnd}
 use Rattle.third_demand.specs.Calls.{Call, routes, updates, ticks, timeOf, after, Accepted, Night, Admitted, left, delayOf}
 
@@ -28,10 +29,14 @@ RunsOn i r = goesOn (slotAt (r .inputs) i) ≡ true
 
 -- ---- "Then, whatever the calls bring, each is answered and recorded as the first two demands say"
 -- the answers are those of the definitions (Calls.after); the record is whole after every list of calls, and no call is refused by number 6,
--- nor by one before it
+-- nor by one before it; a tick is refused only for what it brings
 pub record Whole (night : Night) (calls : List Call) : Type 0 where
   pub record-whole : wholeRecord (left night calls .inputs) (left night calls .lists) ≡ true
   pub beyond-six : (call : Call) → after (left night calls) call .number ≤ 6 → Accepted (left night calls) call
+  -- a tick whose time, looks, lag counts and rooms fit (8, 10, 11) is accepted
+  pub takes-ticks :
+      (looks : List Look) (lags : List ℕ) (time : ℕ) → time ≤ timeLimit → looksFit (left night calls .inputs) looks ≡ true → lagsFit (left night calls .inputs) looks lags ≡ true →
+      roomsFit (left night calls .inputs) (left night calls .lists) looks time ≡ true → Accepted (left night calls) (ticks looks lags time)
 
 abbrev pub StaysWhole : Type 0
 StaysWhole = (night : Night) (calls : List Call) → Admitted night calls → Whole night calls
