@@ -15,7 +15,8 @@ use Rattle.delay_hold.specs.Next.{nextOf, delayAfter, oneMillisecond, alwaysLow
 use Rattle.delay_hold.proofs.Wholes.{in-use}
 use Rattle.delay_hold.proofs.Covers.{next-covers}
 use Rattle.lag_window.specs.Window.{pushedAll}
-use Rattle.history.specs.View.{Rules, InputView, Tick, p999Of, tickedView}
+use Rattle.auto_delay.specs.Auto.{p999Of}
+use Rattle.history.specs.View.{Rules, InputView, Tick, tickedView}
 use Rattle.history.specs.Events.{Event, ticks, freshView, after, history, timeOf, Lawful, clock}
 use Rattle.history.specs.Stretch.{Allowed, runningTicks, NonEmpty, NoneAbove, Stretch, ending, bucketEnd}
 use Rattle.history.specs.Whole.{Kept}

@@ -20,7 +20,8 @@ use Rattle.delay_hold.specs.Steps.{noted}
 use Rattle.delay_hold.specs.Peaks.{joinTimes, joinLags, oldCount, timesAfter, lagsAfter}
 use Rattle.delay_hold.specs.Decide.{lowering, weighed, decideAt, decide}
 use Rattle.delay_hold.specs.Next.{nextOf}
-use Rattle.history.specs.View.{Tick, permille999, p999Of, tickedView}
+use Rattle.auto_delay.specs.Auto.{permille999, p999Of}
+use Rattle.history.specs.View.{Tick, tickedView}
 use Rattle.history.specs.Events.{freshView, after, history}
 use Rattle.history.specs.Stretch.{Allowed, runningTicks, bucketEnd}
 use Rattle.history.specs.Demand.{delayOf, Accepted}

@@ -24,7 +24,8 @@ use Rattle.delay_hold.specs.Whole.{peakMost, wholeHold}
 use Rattle.delay_hold.proofs.Wholes as hold-facts
 use Rattle.delay_hold.proofs.Marks as marks
 use Rattle.delay_hold.proofs.Keeps.{next-keeps-whole, next-keeps-lengths, next-delay-fits}
-use Rattle.history.specs.View.{InputView, permille999, lagAt, p999Of, tickedView}
+use Rattle.auto_delay.specs.Auto.{permille999, quantileLag, p999Of}
+use Rattle.history.specs.View.{InputView, tickedView}
 use Rattle.history.specs.Events.{Event, ticks, rests, seeds, clears, sets, freshView, interrupted, after, timeOf, Fits, Room}
 use Rattle.history.specs.Stretch.{Allowed}
 use Rattle.history.specs.Whole.{wholeView, Kept}
@@ -112,7 +113,7 @@ module _ (policy : DelayPolicy) (width : ℕ) (allowed : Allowed policy width) w
   p999-up w e =
       let limit : ℕ = policy .«read_offset» + policy .«delay_max» in
       le-rule nanos (spanOf (w .seconds) (w .starts)) _ _ (λ x. lagUpTo x (peakMost policy width) ≡ true)
-      (λ l. subst (λ (x : ℕ). lagUpTo (lagAt (quantileUpto permille999 limit w)) (limit + x) ≡ true) e (quantile-most permille999 limit w)) (λ l. refl)
+      (λ l. subst (λ (x : ℕ). lagUpTo (quantileLag (quantileUpto permille999 limit w)) (limit + x) ≡ true) e (quantile-most permille999 limit w)) (λ l. refl)
 
   module _ (time : ℕ) (soon : time ≤ timeLimit) (lags : List ℕ) (view : InputView) (k : Kept policy width view) (room : roomFor time (length lags) (view .window) ≡ true) where
     pub kept-pushed : Ready width buckets time 0 (pushedAll time lags (view .window))

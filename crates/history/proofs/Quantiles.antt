@@ -17,7 +17,7 @@ use Rattle.lag_window.specs.Quantile.{column, lagsIn, quantileUpto, Placeable}
 use Rattle.lag_window.proofs.Laws.{Holds, quantile-bucket, quantile-at-most, quantile-exists, quantile-cases}
 use Rattle.delay_hold.specs.Checks.{lagUpTo}
 use Rattle.delay_hold.proofs.Outcomes.{AtMost}
-use Rattle.history.specs.View.{lagAt}
+use Rattle.auto_delay.specs.Auto.{quantileLag}
 use Rattle.history.proofs.Pushed.{countAt}
 
 -- no second has a count above bucket c
@@ -39,13 +39,13 @@ lag-more c w h k =
     record { row = k .row; bucket = k .bucket; row-in = k .row-in; bucket-in = k .bucket-in; low = k .low; reaches = omega (arith, k .reaches); counted = k .counted }
 
 module _ (q : Float) (limit : ℕ) (w : Window) where
-  pub quantile-most : lagUpTo (lagAt (quantileUpto q limit w)) (limit + w .width) ≡ true
+  pub quantile-most : lagUpTo (quantileLag (quantileUpto q limit w)) (limit + w .width) ≡ true
   quantile-most =
-      ⊎-elim (λ e. subst (λ (x : Quantile). lagUpTo (lagAt x) (limit + w .width) ≡ true) (sym e) refl)
+      ⊎-elim (λ e. subst (λ (x : Quantile). lagUpTo (quantileLag x) (limit + w .width) ≡ true) (sym e) refl)
       (λ s.
       let b = quantile-bucket q limit w (s .0) (s .1) in
       let f : s .0 ≤ limit + w .width = omega (arith, b .1 .1, b .1 .0 .shown, add-mul (b .0) 1 (w .width)) in
-      subst (λ (x : Quantile). lagUpTo (lagAt x) (limit + w .width) ≡ true) (sym (s .1)) (le-leb (s .0) (limit + w .width) f))
+      subst (λ (x : Quantile). lagUpTo (quantileLag x) (limit + w .width) ≡ true) (sym (s .1)) (le-leb (s .0) (limit + w .width) f))
       (quantile-cases q limit w)
 
   module _ (c : ℕ) (low : LowCounts c w) where
@@ -66,7 +66,7 @@ module _ (q : Float) (limit : ℕ) (w : Window) where
           some = omega (arith, has .counted, sum-at-le (λ r. getD (w .counts) (r * w .buckets + has .bucket) 0) (w .seconds) (has .row) (has .row-in));
         }
 
-    pub quantile-low : Placeable q limit w → HasLag c limit w → AtMost ((c + 1) * w .width) (lagAt (quantileUpto q limit w))
+    pub quantile-low : Placeable q limit w → HasLag c limit w → AtMost ((c + 1) * w .width) (quantileLag (quantileUpto q limit w))
     quantile-low p has =
         let s = quantile-exists q limit w p (has .bucket) (lag-holds has) in
-        subst (λ (x : Quantile). AtMost ((c + 1) * w .width) (lagAt x)) (sym (s .1)) (quantile-at-most q limit w (s .0) c (s .1) holds-low)
+        subst (λ (x : Quantile). AtMost ((c + 1) * w .width) (quantileLag x)) (sym (s .1)) (quantile-at-most q limit w (s .0) c (s .1) holds-low)

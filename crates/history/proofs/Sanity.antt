@@ -12,7 +12,8 @@ use Rattle.lag_window.specs.Checks.{roomFor}
 use Rattle.delay_hold.specs.Peaks.{worstOf}
 use Rattle.delay_hold.proofs.Later.{HoldTill, hold-later, next-till}
 use Rattle.delay_hold.proofs.Marks.{fresh-till, seeded-till, interrupted-till}
-use Rattle.history.specs.View.{Rules, InputView, p999Of, tickedView}
+use Rattle.auto_delay.specs.Auto.{p999Of}
+use Rattle.history.specs.View.{Rules, InputView, tickedView}
 use Rattle.history.specs.Events.{Event, ticks, rests, seeds, clears, sets, freshView, after, timeOf, Room}
 use Rattle.history.specs.Stretch.{Allowed}
 use Rattle.history.specs.Whole.{Kept}

@@ -26,7 +26,7 @@ use Rattle.delay_hold.proofs.Bounds.{larger-up, up-more, worst-up, capped-le}
 use Rattle.delay_hold.proofs.Outcomes.{AtMost}
 use Rattle.delay_hold.proofs.Wholes.{WholePeaks}
 use Rattle.delay_hold.proofs.Later.{SeedTill, Each, HoldTill, seed-kept, seed-gone, next-low, next-seeded, next-till, next-peaked, worst-low}
-use Rattle.history.specs.View.{p999Of}
+use Rattle.auto_delay.specs.Auto.{p999Of}
 use Rattle.history.specs.Stretch.{Allowed, NoneAbove, bucketEnd}
 use Rattle.history.proofs.Phase.{Phase, early, step-phase}
 use Rattle.history.proofs.Windows.{buckets-some, div-mono, bucket-start, Windowed, p999-windowed}

@@ -18,9 +18,10 @@ use Rattle.inputs_new.specs.Loading.{loadFits}
 unfoldable pub marginFits : Settings → Bool
 marginFits settings = both (leb (settings .margin) 96000) (percentAllowed (settings .percent))
 
--- 1 2 3 4 5 8 9
-unfoldable pub newNumber : Settings → (bytes delays : List ℕ) → (time : ℕ) → Lists → (words : ℕ) → ℕ
-newNumber settings bytes delays time l words =
+-- 1 2 3 4 5, with so many flow bytes, loaded delays and words of commands: the number of the first that says no,
+-- or the number that the checks after them give
+unfoldable pub settingsNumber : Settings → (bytes delays : ℕ) → Lists → (words rest : ℕ) → ℕ
+settingsNumber settings bytes delays l words rest =
     ask 1 (inputsAllowed (settings .count))
     (ask 2 (bucketsAllowed (policyOf settings) (settings .width))
     (ask 3 (pausesAllowed (policyOf settings) (settings .stall))
@@ -28,6 +29,10 @@ newNumber settings bytes delays time l words =
     (ask 5 (listsFit (settings .count) (bucketsIn (blankFor settings)) l)
     (ask 5 (commandsFit (settings .count) (Words words))
     -- "for `new`, 16 flow bytes to each loaded delay, of any number"
-    (ask 5 (eqb (length bytes) (length delays * 16))
-    (ask 8 (timely time)
-    (ask 9 (loadFits (length delays) bytes delays (blankFor settings)) 0))))))))
+    (ask 5 (eqb bytes (delays * 16)) rest))))))
+
+-- 1 2 3 4 5 8 9
+unfoldable pub newNumber : Settings → (bytes delays : List ℕ) → (time : ℕ) → Lists → (words : ℕ) → ℕ
+newNumber settings bytes delays time l words =
+    settingsNumber settings (length bytes) (length delays) l words
+    (ask 8 (timely time) (ask 9 (loadFits (length delays) bytes delays (blankFor settings)) 0))

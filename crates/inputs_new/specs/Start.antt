@@ -1,6 +1,6 @@
 -- The inputs of a new supervisor: their kinds, and the delays of the manual ones. Assumes nothing.
 use Prim.Native.Nat.{ℕ, zero, suc, min}
-use mathlib.Core.List.{List, _++_}
+use mathlib.Core.List.{List}
 use lib.ListN.{getD, length, replicate}
 use Rattle.doubles.specs.Doubles.{samplesOf}
 use Rattle.slots.specs.declared.AutoTag.the-variants as AutoTag

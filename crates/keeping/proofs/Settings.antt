@@ -7,6 +7,7 @@ use Rattle.slots.specs.Inputs.{putSlot}
 use Rattle.slots.proofs.Frame.{put-rest}
 use Rattle.set_delay.specs.SetDelay.{delayStored}
 use Rattle.set_delay.proofs.Stored.{stored-rest}
+use Rattle.opening.proofs.Frame.{Frame}
 
 -- the slots and the tables of z under the settings of s
 abbrev pub underSettings : Inputs → Inputs → Inputs
@@ -36,3 +37,19 @@ settings-put s i slot = subst (SameSettings s) (sym (put-rest s i slot)) refl
 
 pub settings-stored : (s : Inputs) (i delay time : ℕ) → SameSettings s (delayStored s i delay time)
 settings-stored s i delay time = subst (SameSettings s) (sym (stored-rest s i delay time)) refl
+
+-- a step on one input keeps the settings
+pub settings-frame : (i : ℕ) (s z : Inputs) → Frame i s z → SameSettings s z
+settings-frame i s z f = λ t. record {
+  count = f .count t;
+  policy = f .policy t;
+  width = f .width t;
+  stall = f .stall t;
+  confirm = f .confirm t;
+  slots = z .slots;
+  flows = z .flows;
+  «flow_count» = z .«flow_count»;
+  unsaved = z .unsaved;
+  instances = z .instances;
+  «instance_count» = z .«instance_count»;
+}

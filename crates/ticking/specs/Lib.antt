@@ -3,3 +3,5 @@ pub mod Looks
 pub mod Checks
 pub mod Tick
 pub mod Reply
+pub mod Answer
+pub mod Asked

@@ -1,0 +1,2 @@
+-- Laws of the public call `tick`.
+pub mod Replies

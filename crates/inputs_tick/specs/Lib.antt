@@ -1,0 +1,2 @@
+-- The definitions that the contract of `inputs_tick` cites.
+pub mod Reply

@@ -1,0 +1,154 @@
+-- An input's delay in the record that an accepted call leaves is the samples of the last SetDelay among its commands, or where there is none
+-- the delay that it had before: of `new`, `route`, `update`, `confirm_delay` and `tick`. Assumes nothing.
+use Prim.Native.Nat.{ℕ, _≤_, _<_}
+use mathlib.Core.Bool.{true}
+use mathlib.Core.Path.{_≡_, refl, sym, ap, subst, _∙_}
+use mathlib.Core.List.{List}
+use lib.ListN.{length}
+use borrow.Author.Tests.{leb-true}
+use Rattle.base.specs.Choice.{accepted}
+use Rattle.base.specs.Lists.{padded}
+use Rattle.base.proofs.Choices.{asked, refused-old, accepted-new, accepted-all}
+use Rattle.base.proofs.Points.{both-true}
+use Rattle.slots.specs.declared.ExtraDelay.{ExtraDelay}
+use Rattle.slots.specs.declared.Inputs.{Inputs}
+use Rattle.slots.specs.Inputs.{slotAt}
+use Rattle.slots.proofs.Sized.{Sized}
+use Rattle.opening.specs.declared.World.{World}
+use Rattle.record.specs.Lent.{Lists}
+use Rattle.record.specs.Effects.{Effect}
+use Rattle.record.specs.Checks.{inputsAllowed, recordNumber}
+use Rattle.record.specs.Reply.{Reply, replied}
+use Rattle.record.proofs.Numbers.{by-zero, call-low}
+use Rattle.inputs_new.specs.declared.Settings.{Settings}
+use Rattle.inputs_new.specs.Fresh.{blankFor, noInputs}
+use Rattle.inputs_new.specs.Checks.{newNumber}
+use Rattle.inputs_new.proofs.Accepted.{accepted-of}
+use Rattle.inputs_new.specs.Start.{started}
+use Rattle.inputs_new.specs.Reply.{newReply}
+use Rattle.inputs_route.specs.declared.Wanted.{Wanted}
+use Rattle.inputs_route.specs.Checks.{routeNumber}
+use Rattle.inputs_route.specs.Route.{routed}
+use Rattle.inputs_route.specs.Reply.{routeReply}
+use Rattle.inputs_update.specs.Checks.{updateNumber, confirmNumber}
+use Rattle.inputs_update.specs.Update.{updated, confirmed}
+use Rattle.inputs_update.specs.Reply.{updateReply, confirmReply}
+use Rattle.ticking.specs.declared.Look.{Look}
+use Rattle.ticking.specs.Checks.{tickNumber}
+use Rattle.ticking.specs.Tick.{ticked}
+use Rattle.ticking.specs.Reply.{tickReply}
+use Rattle.sent_delays.specs.Last.{lastDelay}
+use Rattle.sent_delays.proofs.Words.{last-padded}
+use Rattle.sent_delays.proofs.Steps.{TellsEffect}
+use Rattle.sent_delays.proofs.Ticks.{tells-ticked}
+use Rattle.sent_delays.proofs.OneInput.{tells-routed, tells-updated, tells-confirmed}
+use Rattle.sent_delays.proofs.Starts.{blank-delay, tells-started}
+
+-- What a call on the record s leaves: an accepted one tells every delay, a refused one leaves it as it was.
+pub record Told (s : Inputs) (reply : Reply) : Type 0 where
+  pub sized : Sized (reply .inputs)
+  pub delays : (j : ℕ) → j < 16 → slotAt (reply .inputs) j .delay ≡ accepted (reply .number) (slotAt s j .delay) (lastDelay j (slotAt s j .delay) (reply .commands))
+
+-- the same of an accepted call
+pub accepted-told : {s : Inputs} {reply : Reply} → Told s reply → reply .number ≡ 0 → (j : ℕ) → j < 16 → slotAt (reply .inputs) j .delay ≡ lastDelay j (slotAt s j .delay) (reply .commands)
+accepted-told {s} {reply} t e j l = t .delays j l ∙ accepted-new (reply .number) _ _ e
+
+-- ---- a reply
+-- an accepted call carries its effect out: the commands, padded with zeros, tell what its words tell
+module _ (number : ℕ) (s : Inputs) (l : Lists) (commands : List ℕ) (effect : Effect) where
+  abbrev reply : Reply
+  reply = replied number s l commands effect
+
+  padded-delays : {t : Inputs} → TellsEffect t effect → (j : ℕ) → j < 16 → slotAt (effect .inputs) j .delay ≡ lastDelay j (slotAt t j .delay) (padded (length commands) (effect .words))
+  padded-delays {t} f j low = f .delays j low ∙ sym (last-padded j (slotAt t j .delay) (length commands) (effect .words) (f .whole))
+
+  reply-number : reply .number ≡ number
+  reply-number = accepted-all (λ (r : Reply). r .number ≡ number) number _ _ refl (λ e. refl)
+
+  reply-sized : Sized s → (number ≡ 0 → Sized (effect .inputs)) → Sized (reply .inputs)
+  reply-sized h f = accepted-all (λ (r : Reply). Sized (r .inputs)) number _ _ h f
+
+  reply-told : Sized s → (number ≡ 0 → TellsEffect s effect) → Told s reply
+  reply-told h f = record {
+    sized = reply-sized h (λ e. f e .sized);
+    delays = λ j low.
+        let P : Reply → Type 0 = λ (r : Reply). slotAt (r .inputs) j .delay ≡ accepted (r .number) (slotAt s j .delay) (lastDelay j (slotAt s j .delay) (r .commands)) in
+        by-zero number
+        (λ e. subst P (sym (accepted-new number _ _ e)) (padded-delays (f e) j low ∙ sym (accepted-new number _ _ e)))
+        (λ none. subst P (sym (refused-old number _ _ none)) (sym (refused-old number _ _ none)));
+  }
+
+-- ---- the calls on a record, accepted or refused
+allowed-most : (n : ℕ) → inputsAllowed n ≡ true → n ≤ 16
+unfolding inputsAllowed
+allowed-most n h = leb-true _ _ (both-true _ _ h .1)
+
+module _ (s : Inputs) (sized : Sized s) (l : Lists) (commands : List ℕ) where
+  pub route-told : (input : ℕ) (wanted : Wanted) (time : ℕ) (world : World) → Told s (routeReply s l commands input wanted time world)
+  unfolding routeReply routeNumber
+  route-told input wanted time world =
+      reply-told (routeNumber s l (length commands) input wanted time world) s l commands (routed input wanted time world s l) sized
+      (λ e. tells-routed input (call-low s l (length commands) input time _ e) time wanted world s l sized)
+
+  pub update-told : (input : ℕ) (kind : ExtraDelay) (time : ℕ) → Told s (updateReply s l commands input kind time)
+  unfolding updateReply updateNumber
+  update-told input kind time =
+      reply-told (updateNumber s l (length commands) input kind time) s l commands (updated input kind time s l) sized
+      (λ e. tells-updated input (call-low s l (length commands) input time _ e) time kind s l sized)
+
+  pub confirm-told : (input time : ℕ) → Told s (confirmReply s l commands input time)
+  unfolding confirmReply confirmNumber
+  confirm-told input time =
+      reply-told (confirmNumber s l (length commands) input time) s l commands (confirmed input time s l) sized
+      (λ e. tells-confirmed input (call-low s l (length commands) input time _ e) time s l sized)
+
+  pub tick-told : (looks : List Look) (lags : List ℕ) (time : ℕ) → Told s (tickReply s l commands looks lags time)
+  unfolding tickReply tickNumber recordNumber
+  tick-told looks lags time =
+      reply-told (tickNumber s l (length commands) looks lags time) s l commands (ticked looks lags time s l) sized
+      (λ e. tells-ticked looks lags time s l sized (allowed-most (s .count) (asked 0 _ _ e .0)))
+
+  -- ---- .. and accepted: the delay is the samples of the last SetDelay among the commands
+  module _ (j : ℕ) (low : j < 16) where
+    pub route-delays : (input : ℕ) (wanted : Wanted) (time : ℕ) (world : World) → routeReply s l commands input wanted time world .number ≡ 0
+        → slotAt (routeReply s l commands input wanted time world .inputs) j .delay ≡ lastDelay j (slotAt s j .delay) (routeReply s l commands input wanted time world .commands)
+    route-delays input wanted time world e = accepted-told (route-told input wanted time world) e j low
+
+    pub update-delays : (input : ℕ) (kind : ExtraDelay) (time : ℕ) → updateReply s l commands input kind time .number ≡ 0
+        → slotAt (updateReply s l commands input kind time .inputs) j .delay ≡ lastDelay j (slotAt s j .delay) (updateReply s l commands input kind time .commands)
+    update-delays input kind time e = accepted-told (update-told input kind time) e j low
+
+    pub confirm-delays : (input time : ℕ) → confirmReply s l commands input time .number ≡ 0
+        → slotAt (confirmReply s l commands input time .inputs) j .delay ≡ lastDelay j (slotAt s j .delay) (confirmReply s l commands input time .commands)
+    confirm-delays input time e = accepted-told (confirm-told input time) e j low
+
+    pub tick-delays : (looks : List Look) (lags : List ℕ) (time : ℕ) → tickReply s l commands looks lags time .number ≡ 0
+        → slotAt (tickReply s l commands looks lags time .inputs) j .delay ≡ lastDelay j (slotAt s j .delay) (tickReply s l commands looks lags time .commands)
+    tick-delays looks lags time e = accepted-told (tick-told looks lags time) e j low
+
+-- ---- `new`: "0 before any"
+module _ (settings : Settings) (kinds : List ExtraDelay) (bytes delays : List ℕ) (time : ℕ) (l : Lists) (commands : List ℕ) where
+  abbrev fresh : Reply
+  fresh = newReply settings kinds bytes delays time l commands
+
+  abbrev number : ℕ
+  number = newNumber settings bytes delays time l (length commands)
+
+  new-number : fresh .number ≡ number
+  unfolding newReply
+  new-number = reply-number number noInputs l commands (started settings kinds bytes delays time l)
+
+  new-tells : number ≡ 0 → TellsEffect (blankFor settings) (started settings kinds bytes delays time l)
+  new-tells e = tells-started settings kinds bytes delays time l (accepted-of settings l (length commands) bytes delays time e .0 .allowed .most)
+
+  module _ (passed : fresh .number ≡ 0) where
+    pub new-sized : Sized (fresh .inputs)
+    unfolding newReply
+    new-sized = subst (λ (r : Reply). Sized (r .inputs)) (sym (accepted-new number _ _ (sym new-number ∙ passed))) (new-tells (sym new-number ∙ passed) .sized)
+
+    pub new-delays : (j : ℕ) → j < 16 → slotAt (fresh .inputs) j .delay ≡ lastDelay j 0 (fresh .commands)
+    unfolding newReply
+    new-delays j low =
+        subst (λ (r : Reply). slotAt (r .inputs) j .delay ≡ lastDelay j 0 (r .commands)) (sym (accepted-new number _ _ (sym new-number ∙ passed)))
+        (padded-delays number noInputs l commands (started settings kinds bytes delays time l) (new-tells (sym new-number ∙ passed)) j low
+        ∙ ap (λ (d : ℕ). lastDelay j d (padded (length commands) (started settings kinds bytes delays time l .words))) (blank-delay settings j low))

@@ -1,0 +1,7 @@
+-- Laws of what the commands tell.
+pub mod Words
+pub mod Steps
+pub mod Ticks
+pub mod OneInput
+pub mod Starts
+pub mod Calls

@@ -1,0 +1,76 @@
+-- `new` tells the delays, from a record in which they are 0. Assumes nothing.
+use Prim.Native.Nat.{ℕ, zero, suc, _≤_, _<_, min}
+use mathlib.Core.Path.{_≡_, refl, ap, _∙_}
+use mathlib.Core.List.{List, []}
+use native.Mathlib.Omega.{arith}
+use lib.Dec.{ltb}
+use lib.ListN.{length, getD, length-set, length-replicate, getD-replicate}
+use Rattle.base.proofs.Choices.{pick-all, lt-yes}
+use Rattle.doubles.specs.Doubles.{samplesOf}
+use Rattle.slots.specs.declared.ExtraDelay.{ExtraDelay}
+use Rattle.slots.specs.declared.ExtraDelay.the-variants.{Auto, Ms}
+use Rattle.slots.specs.declared.Flow.{Flow}
+use Rattle.slots.specs.declared.Slot.{Slot}
+use Rattle.slots.specs.declared.Inputs.{Inputs}
+use Rattle.slots.specs.Slots.{emptySlot}
+use Rattle.slots.specs.Inputs.{slotAt}
+use Rattle.slots.proofs.Sized.{Sized}
+use Rattle.flows.specs.Flows.{emptyEntry, enrolled, placeOf, kept}
+use Rattle.instances.specs.Instances.{noKey}
+use Rattle.commands.specs.Commands.{quiet}
+use Rattle.record.specs.Lent.{Lists}
+use Rattle.inputs_new.specs.declared.Settings.{Settings}
+use Rattle.inputs_new.specs.Fresh.{blank, blankFor}
+use Rattle.inputs_new.specs.Loading.{loadedFlow, loadedOne, loadedBelow}
+use Rattle.inputs_new.specs.Start.{kindAt, madeAt, startedOne, startedBelow, loaded, started}
+use Rattle.sent_delays.proofs.Steps.{Tells, TellsDone, TellsEffect, tells-then, tells-first, tells-same, tells-none, tells-put, tells-set}
+use Rattle.sent_delays.proofs.OneInput.{tells-enrolled}
+
+-- ---- "the remembered delays that the host loaded": no slot changes
+pub tells-kept : (s : Inputs) (place delay : ℕ) → Sized s → Tells s (kept s place delay) []
+unfolding kept slotAt
+tells-kept s place delay h =
+    pick-all (λ (z : Inputs). Tells s z []) (ltb place 64)
+    (tells-same (record { slots = h .slots; flows = length-set (s .flows) place _ ∙ h .flows; instances = h .instances }) (λ j. refl))
+    (tells-none h)
+
+pub tells-loaded : (n : ℕ) (bytes delays : List ℕ) (s : Inputs) → Sized s → Tells s (loadedBelow n bytes delays s) []
+unfolding loadedBelow loadedOne
+tells-loaded zero bytes delays s h = tells-none h
+tells-loaded (suc n) bytes delays s h =
+    let f = tells-loaded n bytes delays s h in
+    let z : Inputs = loadedBelow n bytes delays s in
+    let flow : Flow = loadedFlow bytes n in
+    let g = tells-enrolled z flow (f .sized) in
+    tells-then f (tells-then g (tells-kept (enrolled z flow) (placeOf (enrolled z flow) flow) (getD delays n 0) (g .sized)))
+
+-- ---- "A Ms input then gets `set_delay`"
+pub tells-started-one : (i : ℕ) → i < 16 → (kind : ExtraDelay) (time : ℕ) (s : Inputs) → Sized s → TellsDone s (startedOne i kind time s)
+unfolding startedOne quiet
+tells-started-one i input (Auto tag) time s h = tells-put i input s h _ refl
+tells-started-one i input (Ms delay) time s h =
+    let f : Tells s (madeAt i (Ms delay) time s) [] = tells-put i input s h _ refl in
+    tells-then f (tells-set i input (madeAt i (Ms delay) time s) (f .sized) (min (samplesOf delay) (s .policy .«delay_max»)) time)
+
+pub tells-started-below : (n : ℕ) → n ≤ 16 → (kinds : List ExtraDelay) (time : ℕ) (s : Inputs) → Sized s → TellsDone s (startedBelow n kinds time s)
+unfolding startedBelow quiet
+tells-started-below zero most kinds time s h = tells-none h
+tells-started-below (suc n) most kinds time s h =
+    let f = tells-started-below n (omega arith) kinds time s h in
+    tells-first _ _ f (tells-started-one n (omega arith) (kindAt kinds n) time _ (f .sized))
+
+-- ---- from fresh
+pub blank-sized : (settings : Settings) → Sized (blankFor settings)
+unfolding blankFor blank
+blank-sized settings = record { slots = length-replicate 16 emptySlot; flows = length-replicate 64 emptyEntry; instances = length-replicate 18 noKey }
+
+-- a slot that is not in use has delay 0
+pub blank-delay : (settings : Settings) (j : ℕ) → j < 16 → slotAt (blankFor settings) j .delay ≡ 0
+unfolding blankFor blank slotAt emptySlot
+blank-delay settings j l = ap (λ (x : Slot). x .delay) (lt-yes j 16 _ _ l ∙ getD-replicate 16 j emptySlot emptySlot l)
+
+pub tells-started : (settings : Settings) (kinds : List ExtraDelay) (bytes delays : List ℕ) (time : ℕ) (l : Lists) → settings .count ≤ 16 → TellsEffect (blankFor settings) (started settings kinds bytes delays time l)
+unfolding started
+tells-started settings kinds bytes delays time l most =
+    let f = tells-loaded (length delays) bytes delays (blankFor settings) (blank-sized settings) in
+    tells-then f (tells-started-below (settings .count) most kinds time (loaded settings bytes delays) (f .sized))

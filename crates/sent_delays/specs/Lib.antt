@@ -1,0 +1,2 @@
+-- What the commands tell of an input's delay.
+pub mod Last

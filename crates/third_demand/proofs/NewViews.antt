@@ -1,0 +1,84 @@
+-- What an accepted `new` leaves of every input: a fresh one, whose delay is set where it is manual. Assumes nothing.
+use Prim.Native.Nat.{ℕ, _<_, _≤_}
+use mathlib.Core.Path.{_≡_, refl, sym, subst}
+use mathlib.Core.List.{List, [], _∷_}
+use native.Mathlib.Omega.{arith}
+use lib.ListN.{length}
+use Rattle.base.specs.Limits.{timeLimit}
+use Rattle.base.proofs.Choices.{accepted-new}
+use Rattle.slots.specs.declared.ExtraDelay.{ExtraDelay}
+use Rattle.slots.specs.declared.ExtraDelay.the-variants.{Auto, Ms}
+use Rattle.slots.specs.declared.Inputs.{Inputs}
+use Rattle.slots.specs.Inputs.{slotAt}
+use Rattle.record.specs.Lent.{Lists, bucketsIn}
+use Rattle.record.specs.Effects.{Effect}
+use Rattle.record.specs.Reply.{Reply, carriedOut}
+use Rattle.record.proofs.Checked.{Checked}
+use Rattle.keeping.proofs.Settings.{SameSettings}
+use Rattle.inputs_new.specs.declared.Settings.{Settings}
+use Rattle.inputs_new.specs.Fresh.{policyOf, blank, blankFor}
+use Rattle.inputs_new.specs.Start.{kindAt, started}
+use Rattle.inputs_new.specs.Checks.{newNumber}
+use Rattle.inputs_new.specs.Reply.{newReply}
+use Rattle.inputs_new.proofs.Accepted.{accepted-of, startedDelay, AsStarted, new-checked, new-settings, new-started, new-window, new-held}
+use Rattle.history.specs.View.{InputView}
+use Rattle.history.specs.Events.{sets, freshView, after, history}
+use Rattle.third_demand.proofs.Lifted.{viewOf, Lifted}
+use Rattle.third_demand.proofs.CallViews.{lifted-none}
+
+-- ---- one input
+-- the fresh input with the delay that it starts with
+abbrev startedView : Settings → ExtraDelay → InputView
+startedView settings kind = record {
+  window = freshView (policyOf settings) (settings .width) .window;
+  held = freshView (policyOf settings) (settings .width) .held;
+  delay = startedDelay kind (settings .«delay_max»);
+}
+
+-- nothing happens to an automatic input; "A Ms input then gets `set_delay` with the smaller of `samples` and maximum"
+started-lifted : (settings : Settings) (time : ℕ) → time ≤ timeLimit → (kind : ExtraDelay) (view : InputView) → view ≡ startedView settings kind
+    → Lifted (policyOf settings) time (freshView (policyOf settings) (settings .width)) view
+unfolding freshView history after policyOf
+started-lifted settings time soon (Auto tag) view is-view = lifted-none (policyOf settings) time (freshView (policyOf settings) (settings .width)) view is-view
+started-lifted settings time soon (Ms delay) view is-view = record {
+  events = sets time (startedDelay (Ms delay) (settings .«delay_max»)) ∷ [];
+  leads = sym is-view;
+  lawful = λ before first. (first, soon, omega arith, tt, tt);
+  clocked = λ before first. omega arith;
+}
+
+-- ---- what an accepted `new` leaves
+pub record Started (settings : Settings) (kinds : List ExtraDelay) (time : ℕ) (z : Inputs) (m : Lists) : Type 0 where
+  pub checked : Checked z m
+  pub given : SameSettings (blankFor settings) z
+  pub lifted : (i : ℕ) → i < settings .count → Lifted (policyOf settings) time (freshView (policyOf settings) (settings .width)) (viewOf z m i)
+  pub slot : (i : ℕ) → i < settings .count → AsStarted (kindAt kinds i) time (settings .«delay_max») (slotAt z i)
+
+module _ (settings : Settings) (kinds : List ExtraDelay) (bytes delays : List ℕ) (time : ℕ) (l : Lists) (commands : List ℕ) (accepted : newNumber settings bytes delays time l (length commands) ≡ 0) where
+  abbrev effect : Effect
+  effect = started settings kinds bytes delays time l
+
+  pub new-reply : newReply settings kinds bytes delays time l commands ≡ carriedOut (newNumber settings bytes delays time l (length commands)) commands effect
+  unfolding newReply
+  new-reply = accepted-new _ _ _ accepted
+
+  view-is : (i : ℕ) → i < settings .count → viewOf (effect .inputs) (effect .lists) i ≡ startedView settings (kindAt kinds i)
+  unfolding freshView bucketsIn blankFor blank
+  view-is i there = λ t. record {
+    window = new-window settings kinds bytes delays time l (length commands) accepted i there t;
+    held = new-held settings kinds bytes delays time l (length commands) accepted i there t;
+    delay = new-started settings kinds bytes delays time l (length commands) accepted i there .delay t;
+  }
+
+  pub started-fresh : Started settings kinds time (effect .inputs) (effect .lists)
+  started-fresh = record {
+    checked = new-checked settings kinds bytes delays time l (length commands) accepted;
+    given = new-settings settings kinds bytes delays time l (length commands) accepted;
+    lifted = λ i there.
+        started-lifted settings time (accepted-of settings l (length commands) bytes delays time accepted .1) (kindAt kinds i)
+        (viewOf (effect .inputs) (effect .lists) i) (view-is i there);
+    slot = new-started settings kinds bytes delays time l (length commands) accepted;
+  }
+
+  pub new-fresh : Started settings kinds time (newReply settings kinds bytes delays time l commands .inputs) (newReply settings kinds bytes delays time l commands .lists)
+  new-fresh = subst (λ (r : Reply). Started settings kinds time (r .inputs) (r .lists)) (sym new-reply) started-fresh

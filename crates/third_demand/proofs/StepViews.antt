@@ -1,0 +1,168 @@
+-- What the first steps of an input's tick make of its view: its lags are pushed, and then it is opened or watched, which seeds it, at most. Assumes nothing.
+use Prim.Native.Nat.{ℕ, _*_, _≤_, _<_}
+use mathlib.Core.Bool.{true, false}
+use mathlib.Core.Path.{_≡_, refl, sym, ap, subst, _∙_}
+use mathlib.Core.List.{List}
+use native.Mathlib.Omega.{arith}
+use borrow.Author.Tests.{eqb-true, ne-eqb}
+use lib.Dec.{eqb}
+use lib.ListN.{length}
+use Rattle.base.specs.Limits.{timeLimit}
+use Rattle.base.specs.Lists.{part}
+use Rattle.base.proofs.Choices.{pick-all}
+use Rattle.base.proofs.Points.{both-true}
+use Rattle.lag_window.specs.Window.{lent}
+use Rattle.lag_window.specs.Parts.{partOf}
+use Rattle.lag_window.specs.Checks.{roomFor}
+use Rattle.delay_hold.specs.Next.{held, seededHold}
+use Rattle.slots.specs.declared.State.the-variants.{Stalled}
+use Rattle.slots.specs.declared.Slot.{Slot}
+use Rattle.slots.specs.declared.Inputs.{Inputs}
+use Rattle.slots.specs.Slots.{stateNumber, withState}
+use Rattle.slots.specs.Inputs.{slotAt}
+use Rattle.slots.proofs.Sized.{Sized}
+use Rattle.opening.specs.Opening.{runningSlot, openedSlot, startsAnew}
+use Rattle.opening.proofs.Outcomes.{startedSlot}
+use Rattle.watching.specs.Watching.{lostSlot, movedSlot}
+use Rattle.record.specs.Lent.{Lists, bucketsIn, windowFor, windowOf, heldFor, heldOf}
+use Rattle.record.specs.Effects.{Effect, followedBy}
+use Rattle.keeping.proofs.Opening.{opened-seconds, opened-hold}
+use Rattle.keeping.proofs.Watching.{moved-seconds, moved-hold}
+use Rattle.auto_delay.specs.Arrival.{windowAfter, lastLag, arrivedSlot, arrived, largestOf, lateSlot}
+use Rattle.auto_delay.specs.Asked.{Ready}
+use Rattle.auto_delay.proofs.Arriving.{arrived-slot}
+use Rattle.auto_delay.proofs.LateKeeps.{late-slot}
+use Rattle.auto_delay.proofs.Views.{arrived-window, arrived-held, late-window, late-held}
+use Rattle.ticking.specs.declared.Look.{Look}
+use Rattle.ticking.specs.Tick.{heard, looked}
+use Rattle.ticking.proofs.Looked.{looked-settings, looked-outcomes}
+use Rattle.ticking.proofs.Frames.{arrived-sized}
+use Rattle.history.specs.View.{InputView, Tick}
+use Rattle.history.specs.Events.{after}
+use Rattle.third_demand.proofs.Lifted.{viewOf}
+use Rattle.third_demand.proofs.Ends.{pushedView, Seeded, seeded-none, seeded-once}
+
+-- the view of input i, where this is its slot
+abbrev viewFor : Inputs → Lists → ℕ → Slot → InputView
+viewFor s l i slot = record { window = windowFor s l i slot; held = heldFor l i slot; delay = slot .delay }
+
+-- ---- the lags are pushed, and a late event counts
+module _ (i : ℕ) (look : Look) (lags : List ℕ) (time : ℕ) (s : Inputs) (l : Lists) (low : i < 16) (sized : Sized s) where
+  abbrev pushed : Effect
+  pushed = arrived i time lags s l
+
+  pushed-long : length (pushed .inputs .slots) ≡ 16
+  pushed-long = arrived-sized i look lags time s l sized .slots
+
+  heard-slot : slotAt (heard i look lags time s l .inputs) i
+      ≡ lateSlot (pushed .inputs .policy) (arrivedSlot (slotAt s i) (windowAfter i time lags s l .seconds) (lastLag lags (slotAt s i .«last_lag»))) (look .applied) (largestOf lags)
+  unfolding heard followedBy
+  heard-slot =
+      late-slot i (look .applied) (largestOf lags) (pushed .inputs) low pushed-long
+      ∙ ap (λ (x : Slot). lateSlot (pushed .inputs .policy) x (look .applied) (largestOf lags)) (arrived-slot i time lags s l low (sized .slots))
+
+  -- its state, its kind and its delay stay
+  pub heard-state : slotAt (heard i look lags time s l .inputs) i .state ≡ slotAt s i .state
+  heard-state = ap (λ (x : Slot). x .state) heard-slot
+
+  pub heard-config : slotAt (heard i look lags time s l .inputs) i .config ≡ slotAt s i .config
+  heard-config = ap (λ (x : Slot). x .config) heard-slot
+
+  pub heard-delay : slotAt (heard i look lags time s l .inputs) i .delay ≡ slotAt s i .delay
+  heard-delay = ap (λ (x : Slot). x .delay) heard-slot
+
+  pub heard-view : Ready s l i → time ≤ timeLimit → roomFor time (length lags) (windowOf s l i) ≡ true
+      → pushedView (record { time = time; lags = lags }) (viewOf s l i) ≡ viewOf (heard i look lags time s l .inputs) (heard i look lags time s l .lists) i
+  unfolding heard followedBy windowAfter
+  heard-view r soon room = sym (λ t. record {
+    window = (late-window i (look .applied) (largestOf lags) (pushed .inputs) (pushed .lists) low pushed-long ∙ arrived-window i time lags s l r (sized .slots) soon room) t;
+    held = (late-held i (look .applied) (largestOf lags) (pushed .inputs) (pushed .lists) low pushed-long ∙ arrived-held i time lags s l r (sized .slots)) t;
+    delay = heard-delay t;
+  })
+
+-- ---- it is opened or watched
+moved-delay : (slot : Slot) (head time : ℕ) → movedSlot slot head time .delay ≡ slot .delay
+unfolding movedSlot
+moved-delay slot head time = pick-all (λ (x : Slot). x .delay ≡ slot .delay) (eqb (stateNumber (slot .state)) 3) refl refl
+
+opened-delay : (slot : Slot) (inode head time : ℕ) → openedSlot slot inode head time .delay ≡ slot .delay
+unfolding openedSlot runningSlot
+opened-delay slot inode head time =
+    pick-all (λ (x : Slot). x .delay ≡ slot .delay) (eqb (stateNumber (slot .state)) 1)
+    (pick-all (λ (x : Slot). x .delay ≡ slot .delay) (eqb (stateNumber (slot .state)) 3) refl refl)
+    (pick-all (λ (x : Slot). x .delay ≡ slot .delay) (eqb (stateNumber (slot .state)) 3) refl refl)
+
+module _ (i : ℕ) (look : Look) (s : Inputs) (l : Lists) (tick : Tick) (input : i < 16) (sized : Sized s) (soon : tick .time ≤ timeLimit) where
+  abbrev seen : Inputs
+  seen = looked i look (tick .time) s .inputs
+
+  -- an input that starts anew was Waiting
+  anew-rested : startsAnew (slotAt s i) ≡ true → eqb (stateNumber (slotAt s i .state)) 2 ≡ false
+  unfolding startsAnew
+  anew-rested anew =
+      let waiting : stateNumber (slotAt s i .state) ≡ 1 = eqb-true _ _ (both-true _ _ (both-true _ _ anew .1) .0) in
+      ne-eqb (stateNumber (slotAt s i .state)) 2 (λ e. omega arith)
+
+  module _ (view : InputView) (is : pushedView tick view ≡ viewOf s l i) where
+    abbrev Begins : Slot → Type 0
+    Begins new = Seeded (s .policy) tick (eqb (stateNumber (slotAt s i .state)) 2) view (viewFor s l i new)
+
+    -- a slot whose seconds, hold and delay stay
+    same : (new : Slot) → new .«lag_seconds» ≡ slotAt s i .«lag_seconds» → new .hold ≡ slotAt s i .hold → new .delay ≡ slotAt s i .delay → viewFor s l i new ≡ viewOf s l i
+    same new seconds hold delay = λ t. record {
+      window = partOf i (lent (record { seconds = seconds t; buckets = bucketsIn s; width = s .width }) (l .starts) (l .totals) (l .counts));
+      held = held (hold t) (part (i * 600) 600 (l .times)) (part (i * 600) 600 (l .lags));
+      delay = delay t;
+    }
+
+    stays : (new : Slot) → new .«lag_seconds» ≡ slotAt s i .«lag_seconds» → new .hold ≡ slotAt s i .hold → new .delay ≡ slotAt s i .delay → Begins new
+    stays new seconds hold delay = seeded-none (s .policy) tick _ view (viewFor s l i new) (is ∙ sym (same new seconds hold delay))
+
+    -- its delay is set, and its hold seeded
+    starts : (new : Slot) (delay : ℕ) → new .«lag_seconds» ≡ slotAt s i .«lag_seconds» → new .hold ≡ slotAt s i .hold → startsAnew (slotAt s i) ≡ true → delay ≤ s .policy .«delay_max»
+        → Begins (startedSlot new delay (tick .time))
+    unfolding after
+    starts new delay seconds hold anew most =
+        seeded-once (s .policy) tick _ view (viewFor s l i (startedSlot new delay (tick .time))) delay soon most (anew-rested anew)
+        (λ t. record {
+          window = (ap (λ (x : InputView). x .window) is ∙ (λ k. partOf i (lent (record { seconds = sym seconds k; buckets = bucketsIn s; width = s .width }) (l .starts) (l .totals) (l .counts)))) t;
+          held = (ap (λ (x : InputView). held (seededHold (x .held .hold) delay (tick .time)) (x .held .times) (x .held .lags)) is ∙ (λ k. held (seededHold (sym hold k) delay (tick .time)) (part (i * 600) 600 (l .times)) (part (i * 600) 600 (l .lags)))) t;
+          delay = delay;
+        })
+
+    -- an open reader
+    module _ (slot : Slot) (inode : ℕ) where
+      abbrev opened : Slot
+      opened = openedSlot slot inode (look .world .head) (tick .time)
+
+      opened-stays : slot .«lag_seconds» ≡ slotAt s i .«lag_seconds» → slot .hold ≡ slotAt s i .hold → slot .delay ≡ slotAt s i .delay → Begins opened
+      opened-stays seconds hold delay =
+          stays opened (opened-seconds slot inode (look .world .head) (tick .time) ∙ seconds) (opened-hold slot inode (look .world .head) (tick .time) ∙ hold)
+          (opened-delay slot inode (look .world .head) (tick .time) ∙ delay)
+
+    begins : Begins (slotAt seen i)
+    unfolding lostSlot
+    begins =
+        let slot : Slot = slotAt s i in
+        let head : ℕ = look .world .head in
+        let time : ℕ = tick .time in
+        looked-outcomes i look time s input sized (λ new words. Begins new)
+        (stays slot refl refl refl)
+        (stays (lostSlot slot) refl refl refl)
+        (stays (movedSlot slot head time) (moved-seconds slot head time) (moved-hold slot head time) (moved-delay slot head time))
+        (λ inode channels of to. opened-stays slot inode refl refl refl)
+        (λ inode channels delay of to anew most. starts (opened slot inode) delay (opened-seconds slot inode head time) (opened-hold slot inode head time) anew most)
+        (λ stalls. stays (withState slot Stalled) refl refl refl)
+        (λ inode channels stalls of to. opened-stays (withState slot Stalled) inode refl refl refl)
+
+    view-under : viewFor s l i (slotAt seen i) ≡ viewOf seen l i
+    unfolding bucketsIn
+    view-under = sym (λ t. record {
+      window = partOf i (lent (record { seconds = slotAt seen i .«lag_seconds»; buckets = bucketsIn (looked-settings i look (tick .time) s t); width = looked-settings i look (tick .time) s t .width }) (l .starts) (l .totals) (l .counts));
+      held = heldOf seen l i;
+      delay = slotAt seen i .delay;
+    })
+
+    -- it is seeded, or its view stays
+    pub looked-seeded : Seeded (s .policy) tick (eqb (stateNumber (slotAt s i .state)) 2) view (viewOf seen l i)
+    looked-seeded = subst (Seeded (s .policy) tick (eqb (stateNumber (slotAt s i .state)) 2) view) view-under begins

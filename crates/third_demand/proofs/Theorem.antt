@@ -1,0 +1,228 @@
+-- The third demand is met, given the laws of one call and of `new`. Assumes nothing.
+use Prim.Native.Nat.{ℕ, zero, suc, _+_, _*_, _≤_, _<_}
+use mathlib.Core.Bool.{Bool, true, false}
+use mathlib.Core.Path.{_≡_, refl, sym, ap, subst, _∙_}
+use mathlib.Core.List.{List, [], _∷_, _++_}
+use native.Mathlib.Omega.{arith}
+use lib.Dec.{eqb}
+use lib.ListN.{length}
+use Rattle.base.specs.Limits.{nanos}
+use Rattle.base.proofs.Choices.{accepted-new}
+use Rattle.policy.specs.declared.DelayPolicy.{DelayPolicy}
+use Rattle.policy.specs.Need.{needOf}
+use Rattle.delay_hold.specs.declared.Lag.{Lag}
+use Rattle.delay_hold.specs.declared.Lag.the-variants.{Of}
+use Rattle.slots.specs.declared.Inputs.{Inputs}
+use Rattle.slots.specs.Slots.{stateNumber}
+use Rattle.slots.specs.Inputs.{slotAt}
+use Rattle.record.specs.Reply.{Reply}
+use Rattle.record.proofs.Facts.{of-whole}
+use Rattle.record.specs.Checks as checks
+use Rattle.auto_delay.specs.Auto.{goesOn}
+use Rattle.auto_delay.specs.Arrival.{largestOf}
+use Rattle.inputs_new.specs.declared.Settings.{Settings}
+use Rattle.inputs_new.specs.Fresh.{policyOf, blankFor, blank}
+use Rattle.ticking.specs.declared.Look.{Look}
+use Rattle.ticking.specs.Looks.{lagsOf}
+use Rattle.sent_delays.specs.Last.{lastDelay}
+use Rattle.history.specs.View.{Rules, rulesOf, InputView, Tick}
+use Rattle.history.specs.Events.{Event, freshView, history, Lawful, clock}
+use Rattle.history.specs.Events as events
+use Rattle.history.specs.Stretch.{Allowed, runningTicks, bucketEnd}
+use Rattle.history.specs.Stretch as stretches
+use Rattle.history.proofs.Demand.{history-append, floor-after, ceiling-after}
+use Rattle.third_demand.specs.Calls.{Call, ticks, timeOf, after, run, Accepted, clockAfter, Orderly, told, Night, fresh, Admitted, left, delayOf}
+use Rattle.third_demand.specs.Demand.{policyIn, RunsOn, InStretch, Stretch, ending, StaysWhole, Floor, Ceiling, ThirdDemand}
+use Rattle.third_demand.proofs.Lifted.{TickLifted}
+use Rattle.third_demand.proofs.Good.{Good, most, seenAt, Laws}
+use Rattle.third_demand.proofs.Runs.{run-append, clocks, orderly-append, lawful-join, clock-append, Lived, good-after, good-run, lived-run, told-run}
+use Rattle.third_demand.proofs.Stretches.{Steadily, stretch-run}
+use Rattle.third_demand.proofs.Beyond.{beyond}
+
+-- what an accepted `new` without confirmation leaves
+pub record Born (night : Night) : Type 0 where
+  pub good : Good (night .settings) 0 (fresh night)
+  pub lived : (i : ℕ) → i < night .settings .count → Lived (night .settings) (night .time) (seenAt (fresh night) i)
+  pub told : (i : ℕ) → i < night .settings .count → slotAt (fresh night .inputs) i .delay ≡ lastDelay i 0 (fresh night .commands)
+
+append-length : (calls : List Call) (call : Call) (later : List Call) → length (calls ++ (call ∷ later)) ≡ length calls + suc (length later)
+append-length [] call later = omega arith
+append-length (one ∷ calls) call later = omega (arith, append-length calls call later)
+
+append-assoc : (a b c : List Event) → (a ++ b) ++ c ≡ a ++ (b ++ c)
+append-assoc [] b c = refl
+append-assoc (event ∷ a) b c = ap (λ (x : List Event). event ∷ x) (append-assoc a b c)
+
+module _ (laws : (settings : Settings) → settings .confirm ≡ false → Laws settings) (born : (night : Night) → fresh night .number ≡ 0 → night .settings .confirm ≡ false → Born night) where
+  module _ (night : Night) (is-new : fresh night .number ≡ 0) (unconfirmed : night .settings .confirm ≡ false) where
+    abbrev settings : Settings
+    settings = night .settings
+
+    abbrev law : Laws settings
+    law = laws settings unconfirmed
+
+    abbrev birth : Born night
+    birth = born night is-new unconfirmed
+
+    abbrev rules : Rules
+    rules = rulesOf (policyOf settings)
+
+    abbrev start : InputView
+    start = freshView (policyOf settings) (settings .width)
+
+    allowed : Allowed (policyOf settings) (settings .width)
+    unfolding blankFor blank
+    allowed =
+        let s : Inputs = fresh night .inputs in
+        let e : s ≡ _ = birth .good .same in
+        let a = subst (λ (x : Inputs). checks.Allowed (x .count) (x .policy) (x .width) (x .stall)) e (birth .good .checked .fitting .allowed) in
+        record {
+          sound = a .sound;
+          hold-most = a .hold-most;
+          window-least = a .window-least;
+          window-most = a .window-most;
+          width-least = a .width-least;
+          width-most = a .width-most;
+          buckets-most = a .buckets-most;
+        }
+
+    good-at : (calls : List Call) → length calls < most → Good settings (length calls) (left night calls)
+    good-at calls few = subst (λ (x : ℕ). Good settings x (left night calls)) (omega arith) (good-run settings law 0 (fresh night) calls (omega (arith, few)) (birth .good))
+
+    -- the delay that the commands tell is the one in the record
+    told-at : (calls : List Call) (i : ℕ) → length calls < most → i < settings .count → delayOf i night calls ≡ slotAt (left night calls .inputs) i .delay
+    unfolding delayOf
+    told-at calls i few h = told-run settings law 0 (fresh night) calls i _ (omega (arith, few)) h (birth .good) (sym (birth .told i h))
+
+    module _ (calls : List Call) (looks : List Look) (lags : List ℕ) (first i : ℕ) (later : List Call)
+        (few : length (calls ++ (ticks looks lags first ∷ later)) < most)
+        (orderly : Orderly (night .time) (fresh night) (calls ++ (ticks looks lags first ∷ later)))
+        (h : i < settings .count)
+        (took : Accepted (left night calls) (ticks looks lags first)) where
+      abbrev call : Call
+      call = ticks looks lags first
+
+      abbrev tick : Tick
+      tick = record { time = first; lags = lagsOf looks lags i }
+
+      fewer : length calls + suc (length later) < most
+      fewer = subst (λ (x : ℕ). x < most) (append-length calls call later) few
+
+      abbrev apart : Orderly (night .time) (fresh night) calls × Orderly (clocks (night .time) (fresh night) calls) (left night calls) (call ∷ later)
+      apart = orderly-append (night .time) (fresh night) calls (call ∷ later) orderly
+
+      good : Good settings (length calls) (left night calls)
+      good = good-at calls (omega (arith, fewer))
+
+      life : Lived settings (clocks (night .time) (fresh night) calls) (seenAt (left night calls) i)
+      life = lived-run settings law 0 (night .time) (fresh night) calls i (omega (arith, fewer)) h (birth .good) (apart .0) (birth .lived i h)
+
+      -- the events before the tick's own, where the tick leaves the input running on automatic
+      module _ (runs : RunsOn i (after (left night calls) call)) where
+        lift : TickLifted (policyOf settings) tick (eqb (stateNumber (slotAt (left night calls .inputs) i .state)) 2) true (seenAt (left night calls) i) (seenAt (after (left night calls) call) i)
+        lift =
+            subst (λ (b : Bool). TickLifted (policyOf settings) tick (eqb (stateNumber (slotAt (left night calls .inputs) i .state)) 2) b (seenAt (left night calls) i) (seenAt (after (left night calls) call) i)) runs
+            (law .tick (length calls) (left night calls) looks lags first i (omega (arith, fewer)) good took h)
+
+        past : List Event
+        past = life .past ++ lift .seeding
+
+        is-past : life .past ++ (lift .seeding ++ (lift .last ∷ [])) ≡ past ++ (events.ticks tick ∷ [])
+        unfolding past
+        is-past = ap (λ (x : Event). life .past ++ (lift .seeding ++ (x ∷ []))) (lift .runs-on refl) ∙ sym (append-assoc (life .past) (lift .seeding) (events.ticks tick ∷ []))
+
+        soon : clock 0 (life .past) ≤ first
+        soon = omega (arith, life .clocked, apart .1 .0 took)
+
+        past-leads : history rules start (past ++ (events.ticks tick ∷ [])) ≡ seenAt (after (left night calls) call) i
+        past-leads =
+            ap (history rules start) (sym is-past)
+            ∙ history-append rules start (life .past) (lift .seeding ++ (lift .last ∷ []))
+            ∙ ap (λ (x : InputView). history rules x (lift .seeding ++ (lift .last ∷ []))) (life .leads)
+            ∙ lift .leads
+
+        past-lawful : Lawful rules 0 start (past ++ (events.ticks tick ∷ []))
+        past-lawful =
+            subst (Lawful rules 0 start) is-past
+            (lawful-join rules 0 start (life .past) (lift .seeding ++ (lift .last ∷ [])) (life .lawful)
+            (subst (λ (x : InputView). Lawful rules (clock 0 (life .past)) x (lift .seeding ++ (lift .last ∷ []))) (sym (life .leads)) (lift .lawful _ soon)))
+
+        past-clock : clock 0 (past ++ (events.ticks tick ∷ [])) ≡ first
+        past-clock = clock-append 0 past (events.ticks tick ∷ [])
+
+        -- ---- the floor
+        floor-here : (lag : ℕ) → largestOf (lagsOf looks lags i) ≡ Of lag → lag ≤ policyOf settings .«read_offset» + policyOf settings .«delay_max»
+            → lag ≤ policyOf settings .«read_offset» + slotAt (after (left night calls) call .inputs) i .delay
+        floor-here lag e fits =
+            subst (λ (x : InputView). lag ≤ policyOf settings .«read_offset» + x .delay) past-leads
+            (floor-after (policyOf settings) (settings .width) allowed past tick lag past-lawful e fits)
+
+        -- ---- the ceiling
+        module _ (L : ℕ) (in-it : InStretch i L first looks lags first (after (left night calls) call)) (stretch : Stretch i L first (after (left night calls) call) later) where
+          steady : Steadily settings L first (seenAt (after (left night calls) call) i) (seenAt (run (after (left night calls) call) later) i) (ending first (after (left night calls) call) later)
+          unfolding clockAfter
+          steady =
+              stretch-run settings law i L h (length calls + 1) (clockAfter (clocks (night .time) (fresh night) calls) (left night calls) call) first (after (left night calls) call) later
+              (omega (arith, fewer)) (good-after settings law (length calls) (left night calls) call (omega (arith, fewer)) good)
+              (subst (λ (x : ℕ). first ≤ x) (sym (accepted-new (after (left night calls) call .number) (clocks (night .time) (fresh night) calls) first took)) (omega arith))
+              runs (apart .1 .1) stretch
+
+          all : past ++ runningTicks (tick ∷ steady .passed) ≡ (past ++ (events.ticks tick ∷ [])) ++ runningTicks (steady .passed)
+          all = sym (append-assoc past (events.ticks tick ∷ []) (runningTicks (steady .passed)))
+
+          all-leads : history rules start (past ++ runningTicks (tick ∷ steady .passed)) ≡ seenAt (run (after (left night calls) call) later) i
+          all-leads =
+              ap (history rules start) all
+              ∙ history-append rules start (past ++ (events.ticks tick ∷ [])) (runningTicks (steady .passed))
+              ∙ ap (λ (x : InputView). history rules x (runningTicks (steady .passed))) past-leads
+              ∙ steady .leads
+
+          all-lawful : Lawful rules 0 start (past ++ runningTicks (tick ∷ steady .passed))
+          all-lawful =
+              subst (Lawful rules 0 start) (sym all)
+              (lawful-join rules 0 start (past ++ (events.ticks tick ∷ [])) (runningTicks (steady .passed)) past-lawful
+              (subst (λ (x : InputView). Lawful rules (clock 0 (past ++ (events.ticks tick ∷ []))) x (runningTicks (steady .passed))) (sym past-leads)
+              (subst (λ (x : ℕ). Lawful rules x (seenAt (after (left night calls) call) i) (runningTicks (steady .passed))) (sym past-clock) (steady .lawful))))
+
+          ceiling-here :
+              first + (30 * nanos + policyOf settings .window + 3 * policyOf settings .hold) ≤ ending first (after (left night calls) call) later →
+              slotAt (run (after (left night calls) call) later .inputs) i .delay ≤ needOf (policyOf settings) (bucketEnd (policyOf settings) (settings .width) L) + 47
+          ceiling-here long =
+              subst (λ (x : InputView). x .delay ≤ needOf (policyOf settings) (bucketEnd (policyOf settings) (settings .width) L) + 47) all-leads
+              (ceiling-after (policyOf settings) (settings .width) allowed past tick (steady .passed) L all-lawful (in-it .lagged) (in-it .none-above) (steady .stretch)
+              (subst (λ (x : ℕ). first + (30 * nanos + policyOf settings .window + 3 * policyOf settings .hold) ≤ x) (sym (steady .ends)) long))
+
+  whole-met : StaysWhole
+  whole-met night calls a =
+      let g = good-at night (a .new) (a .unconfirmed) calls (a .few) in
+      record { record-whole = of-whole _ _ (g .checked .whole); beyond-six = beyond (night .settings) (length calls) (left night calls) g }
+
+  -- what is left by the calls and one more, and by later ones
+  left-tick : (night : Night) (calls : List Call) (call : Call) (later : List Call) → left night (calls ++ (call ∷ later)) ≡ run (after (left night calls) call) later
+  unfolding run
+  left-tick night calls call later = run-append (fresh night) calls (call ∷ later)
+
+  floor-met : Floor
+  unfolding run
+  floor-met night calls looks lags time i lag a h took runs e fits =
+      let call : Call = ticks looks lags time in
+      let here : left night (calls ++ (call ∷ [])) ≡ after (left night calls) call = left-tick night calls call [] in
+      let runs-here : RunsOn i (after (left night calls) call) = subst (RunsOn i) here runs in
+      let bound = floor-here night (a .new) (a .unconfirmed) calls looks lags time i [] (a .few) (a .orderly) h took runs-here lag e fits in
+      let is-told : delayOf i night (calls ++ (call ∷ [])) ≡ slotAt (after (left night calls) call .inputs) i .delay =
+      told-at night (a .new) (a .unconfirmed) (calls ++ (call ∷ [])) i (a .few) h ∙ ap (λ (r : Reply). slotAt (r .inputs) i .delay) here
+      in
+      omega (arith, bound, is-told)
+
+  ceiling-met : Ceiling
+  ceiling-met night calls looks lags first i L later a h took in-it stretch long =
+      let call : Call = ticks looks lags first in
+      let here : left night (calls ++ (call ∷ later)) ≡ run (after (left night calls) call) later = left-tick night calls call later in
+      let bound = ceiling-here night (a .new) (a .unconfirmed) calls looks lags first i later (a .few) (a .orderly) h took (in-it .runs) L in-it stretch long in
+      let is-told : delayOf i night (calls ++ (call ∷ later)) ≡ slotAt (run (after (left night calls) call) later .inputs) i .delay =
+      told-at night (a .new) (a .unconfirmed) (calls ++ (call ∷ later)) i (a .few) h ∙ ap (λ (r : Reply). slotAt (r .inputs) i .delay) here
+      in
+      omega (arith, bound, is-told)
+
+  pub met : ThirdDemand
+  met = record { whole = whole-met; floor = floor-met; ceiling = ceiling-met }

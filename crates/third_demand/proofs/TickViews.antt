@@ -1,0 +1,125 @@
+-- What an accepted tick makes of each input, as events of its history. Assumes nothing.
+use Prim.Native.Nat.{ℕ, _<_}
+use mathlib.Core.Bool.{true, false}
+use mathlib.Core.Path.{_≡_, sym, ap, _∙_}
+use mathlib.Core.List.{List}
+use native.Mathlib.Omega.{arith}
+use lib.Dec.{eqb}
+use lib.ListN.{length}
+use Rattle.lag_window.specs.Checks.{roomFor}
+use Rattle.delay_hold.specs.Next.{held}
+use Rattle.slots.specs.declared.Proposal.the-variants.{Nothing}
+use Rattle.slots.specs.declared.Slot.{Slot}
+use Rattle.slots.specs.declared.Inputs.{Inputs}
+use Rattle.slots.specs.Slots.{stateNumber}
+use Rattle.slots.specs.Inputs.{slotAt}
+use Rattle.slots.proofs.Sized.{Sized}
+use Rattle.record.specs.Lent.{Lists, windowOf}
+use Rattle.record.specs.Effects.{Effect}
+use Rattle.record.proofs.Checked.{Checked}
+use Rattle.auto_delay.specs.Auto.{goesOn}
+use Rattle.auto_delay.specs.Asked.{Ready}
+use Rattle.auto_delay.proofs.Readiness.{ready-low, ready-of}
+use Rattle.ticking.specs.declared.Look.{Look}
+use Rattle.ticking.specs.Looks.{lookAt, lagsOf}
+use Rattle.ticking.specs.Checks.{tickNumber}
+use Rattle.ticking.specs.Tick.{heard, looked, tickedInput, ticked}
+use Rattle.ticking.proofs.Same.{SameInput}
+use Rattle.ticking.proofs.Frames.{turn, turn-inputs, turn-lists, below-settings, below-sized, turn-ready, turn-room, Turn, turns, ticked-input}
+use Rattle.ticking.proofs.Accepted.{Accepted, tick-accepted, accepted-room}
+use Rattle.ticking.proofs.Proposals.{ticked-proposed}
+use Rattle.history.specs.View.{Tick}
+use Rattle.third_demand.proofs.Lifted.{viewOf, TickLifted}
+use Rattle.third_demand.proofs.Ends.{lifted-as}
+use Rattle.third_demand.proofs.InputViews.{input-state, input-config, input-lifted}
+
+-- an input that stays, with its lists, has the same view
+view-same : (s z : Inputs) (l m : Lists) (i : ℕ) → SameInput s l z m i → viewOf z m i ≡ viewOf s l i
+view-same s z l m i same = λ t. record { window = same .window t; held = same .held t; delay = same .slot t .delay }
+
+module _ (s : Inputs) (l : Lists) (words : ℕ) (looks : List Look) (lags : List ℕ) (time i : ℕ) (sized : Sized s) (c : Checked s l) (passed : tickNumber s l words looks lags time ≡ 0) where
+  abbrev tick : Tick
+  tick = record { time = time; lags = lagsOf looks lags i }
+
+  -- the record and the lists when the turn of input i comes, and after it
+  abbrev at : Inputs
+  at = turn looks lags time s l i .inputs
+
+  abbrev lists : Lists
+  lists = turn looks lags time s l i .lists
+
+  abbrev own : Effect
+  own = tickedInput i (lookAt looks i) (lagsOf looks lags i) time at lists
+
+  -- what the whole tick leaves
+  abbrev after : Inputs
+  after = ticked looks lags time s l .inputs
+
+  abbrev left : Lists
+  left = ticked looks lags time s l .lists
+
+  facts : Accepted s l looks lags time
+  facts = tick-accepted s l words looks lags time passed
+
+  room : (j : ℕ) → j < s .count → roomFor time (length (lagsOf looks lags j)) (windowOf s l j) ≡ true
+  room = accepted-room s l looks lags time facts
+
+  module _ (h : i < s .count) where
+    turned : Turn looks lags time s l (c .fitting) sized (facts .timely) (ready-of s l c) room i
+    turned = turns looks lags time s l (c .fitting) sized (facts .timely) (ready-of s l c) room i (omega arith)
+
+    ready : Ready at lists i
+    ready = turn-ready looks lags time s l (c .fitting) sized (facts .timely) (ready-of s l c) room i turned h
+
+    at-sized : Sized at
+    at-sized = below-sized looks lags time s l i sized
+
+    -- the inputs before it leave it as it was
+    same-before : SameInput s l at lists i
+    same-before = turned .same i (omega arith) h
+
+    -- .. and so do those after it, and the prune
+    same-after : SameInput (own .inputs) (own .lists) after left i
+    same-after =
+        coe 0 1 (k. SameInput (turn-inputs looks lags time s l i k) (turn-lists looks lags time s l i k) after left i)
+        (ticked-input looks lags time s l (c .fitting) sized (facts .timely) (ready-of s l c) room i h)
+
+    -- the state is as looking at the input in its turn left it, and the kind stays
+    pub tick-state : slotAt after i .state ≡ slotAt (looked i (lookAt looks i) time (heard i (lookAt looks i) (lagsOf looks lags i) time at lists .inputs) .inputs) i .state
+    tick-state = ap (λ (x : Slot). x .state) (same-after .slot) ∙ input-state i (lookAt looks i) (lagsOf looks lags i) time at lists (ready-low at lists i ready) at-sized
+
+    pub tick-config : slotAt after i .config ≡ slotAt s i .config
+    tick-config =
+        ap (λ (x : Slot). x .config) (same-after .slot)
+        ∙ input-config i (lookAt looks i) (lagsOf looks lags i) time at lists (ready-low at lists i ready) at-sized
+        ∙ ap (λ (x : Slot). x .config) (same-before .slot)
+
+    module _ (off : s .confirm ≡ false) where
+      -- the proposal stays
+      pub tick-proposed : slotAt after i .proposed ≡ slotAt s i .proposed
+      tick-proposed = ticked-proposed looks lags time s l c facts off i
+
+      module _ (none : slotAt s i .proposed ≡ Nothing) where
+        turn-lifted : TickLifted (at .policy) tick (eqb (stateNumber (slotAt at i .state)) 2) (goesOn (slotAt (own .inputs) i)) (viewOf at lists i) (viewOf (own .inputs) (own .lists) i)
+        turn-lifted =
+            input-lifted i (lookAt looks i) (lagsOf looks lags i) time at lists ready at-sized (facts .timely)
+            (turn-room looks lags time s l (c .fitting) sized (facts .timely) (ready-of s l c) room i turned h)
+            (ap (λ (x : Inputs). x .confirm) (below-settings looks lags time s l i) ∙ off)
+            (ap (λ (x : Slot). x .proposed) (same-before .slot) ∙ none)
+
+        own-lifted : TickLifted (s .policy) tick (eqb (stateNumber (slotAt s i .state)) 2) (goesOn (slotAt after i)) (viewOf s l i) (viewOf after left i)
+        own-lifted =
+            lifted-as
+            (ap (λ (x : Inputs). x .policy) (below-settings looks lags time s l i))
+            (ap (λ (x : Slot). eqb (stateNumber (x .state)) 2) (same-before .slot))
+            (sym (ap goesOn (same-after .slot)))
+            (view-same s at l lists i same-before)
+            (sym (view-same (own .inputs) after (own .lists) left i same-after))
+            turn-lifted
+
+-- an accepted tick, without confirmation: input i is seeded, at most, and then its lags are an event
+pub tick-lifted : (s : Inputs) (l : Lists) (words : ℕ) (looks : List Look) (lags : List ℕ) (time i : ℕ) → Sized s → Checked s l → tickNumber s l words looks lags time ≡ 0 → s .confirm ≡ false
+    → slotAt s i .proposed ≡ Nothing → i < s .count
+    → TickLifted (s .policy) (record { time = time; lags = lagsOf looks lags i }) (eqb (stateNumber (slotAt s i .state)) 2) (goesOn (slotAt (ticked looks lags time s l .inputs) i)) (viewOf s l i)
+    (viewOf (ticked looks lags time s l .inputs) (ticked looks lags time s l .lists) i)
+tick-lifted s l words looks lags time i sized c passed off none h = own-lifted s l words looks lags time i sized c passed h off none

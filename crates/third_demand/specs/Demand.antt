@@ -1,0 +1,103 @@
+-- The mission's third demand, sentence by sentence. Assumes nothing.
+use Prim.Native.Nat.{ℕ, _+_, _*_, _≤_, _<_}
+use mathlib.Core.Bool.{true}
+use mathlib.Core.Path.{_≡_}
+use mathlib.Core.List.{List, [], _∷_, _++_}
+use Rattle.base.specs.Limits.{nanos}
+use Rattle.base.specs.Choice.{accepted}
+use Rattle.policy.specs.declared.DelayPolicy.{DelayPolicy}
+use Rattle.policy.specs.Need.{needOf}
+use Rattle.delay_hold.specs.declared.Lag.the-variants.{Of}
+use Rattle.slots.specs.Inputs.{slotAt}
+use Rattle.record.specs.Record.{wholeRecord}
+use Rattle.record.specs.Reply.{Reply}
+use Rattle.auto_delay.specs.Arrival.{largestOf}
+use Rattle.auto_delay.specs.Auto.{goesOn}
+use Rattle.inputs_new.specs.Fresh.{policyOf}
+use Rattle.ticking.specs.declared.Look.{Look}
+use Rattle.ticking.specs.Looks.{lagsOf}
+use Rattle.history.specs.Stretch.{NonEmpty, NoneAbove, bucketEnd}
+use Rattle.third_demand.specs.Calls.{Call, routes, updates, ticks, timeOf, after, Accepted, Night, Admitted, left, delayOf}
+
+abbrev pub policyIn : Night → DelayPolicy
+policyIn night = policyOf (night .settings)
+
+-- "Running on automatic: state 2, kind Auto."
+abbrev pub RunsOn : ℕ → Reply → Type 0
+RunsOn i r = goesOn (slotAt (r .inputs) i) ≡ true
+
+-- ---- "Then, whatever the calls bring, each is answered and recorded as the first two demands say"
+-- the answers are those of the definitions (Calls.after); the record is whole after every list of calls, and no call is refused by number 6,
+-- nor by one before it
+pub record Whole (night : Night) (calls : List Call) : Type 0 where
+  pub record-whole : wholeRecord (left night calls .inputs) (left night calls .lists) ≡ true
+  pub beyond-six : (call : Call) → after (left night calls) call .number ≤ 6 → Accepted (left night calls) call
+
+abbrev pub StaysWhole : Type 0
+StaysWhole = (night : Night) (calls : List Call) → Admitted night calls → Whole night calls
+
+-- ---- "After every accepted tick that leaves it running on automatic and brings it lags, the largest at most read offset + maximum delay,
+-- its delay + read offset is at least that lag."
+abbrev pub Floor : Type 0
+Floor =
+    (night : Night) (calls : List Call) (looks : List Look) (lags : List ℕ) (time i lag : ℕ) →
+    Admitted night (calls ++ (ticks looks lags time ∷ [])) →
+    i < night .settings .count →
+    Accepted (left night calls) (ticks looks lags time) →
+    RunsOn i (left night (calls ++ (ticks looks lags time ∷ []))) →
+    largestOf (lagsOf looks lags i) ≡ Of lag →
+    lag ≤ policyIn night .«read_offset» + policyIn night .«delay_max» →
+    lag ≤ delayOf i night (calls ++ (ticks looks lags time ∷ [])) + policyIn night .«read_offset»
+
+-- ---- "And take any stretch of successive accepted ticks, each at most 5 s after the one before, that all leave it running on automatic and
+-- bring it lags, none above L, with no accepted route or delay setting for it between them."
+-- A tick at this time that is one of them
+pub record InStretch (i L before : ℕ) (looks : List Look) (lags : List ℕ) (time : ℕ) (r : Reply) : Type 0 where
+  pub soon : time ≤ before + 5 * nanos
+  pub runs : RunsOn i r
+  pub lagged : NonEmpty (lagsOf looks lags i)
+  pub none-above : NoneAbove L (lagsOf looks lags i)
+
+-- what an accepted call of the stretch is: a tick of it, or a call for another input
+abbrev pub Goes : (i L before : ℕ) → Reply → Call → Type 0
+Goes i L before r (routes input wanted time world) = input ≡ i → ⊥
+Goes i L before r (updates input kind time) = input ≡ i → ⊥
+Goes i L before r (ticks looks lags time) = InStretch i L before looks lags time (after r (ticks looks lags time))
+
+-- the time of the stretch's last tick, after an accepted call
+abbrev pub tickTime : (before : ℕ) → Call → ℕ
+tickTime before (routes input wanted time world) = before
+tickTime before (updates input kind time) = before
+tickTime before (ticks looks lags time) = time
+
+unfoldable pub lastTick : (before : ℕ) → Reply → Call → ℕ
+lastTick before r call = accepted (after r call .number) before (tickTime before call)
+
+-- the calls after a tick of the stretch at `before`: refused ones, and accepted ones that go with it
+abbrev pub Stretch : (i L before : ℕ) → Reply → List Call → Type 0
+Stretch i L before r [] = Unit {0}
+Stretch i L before r (call ∷ calls) = (Accepted r call → Goes i L before r call) × Stretch i L (lastTick before r call) (after r call) calls
+
+-- the time of its last tick
+unfoldable pub ending : (before : ℕ) → Reply → List Call → ℕ
+ending before r [] = before
+ending before r (call ∷ calls) = ending (lastTick before r call) (after r call) calls
+
+-- "After each of them that comes 30 s + window + 3 holds or more after the first, its delay is at most the need at the end of L's bucket (the end
+-- that `quantile_upto` answers), plus 47."
+abbrev pub Ceiling : Type 0
+Ceiling =
+    (night : Night) (calls : List Call) (looks : List Look) (lags : List ℕ) (first i L : ℕ) (later : List Call) →
+    Admitted night (calls ++ (ticks looks lags first ∷ later)) →
+    i < night .settings .count →
+    Accepted (left night calls) (ticks looks lags first) →
+    InStretch i L first looks lags first (after (left night calls) (ticks looks lags first)) →
+    Stretch i L first (after (left night calls) (ticks looks lags first)) later →
+    first + (30 * nanos + policyIn night .window + 3 * policyIn night .hold) ≤ ending first (after (left night calls) (ticks looks lags first)) later →
+    delayOf i night (calls ++ (ticks looks lags first ∷ later)) ≤ needOf (policyIn night) (bucketEnd (policyIn night) (night .settings .width) L) + 47
+
+-- the third demand, "one claim about its list"
+pub record ThirdDemand : Type 0 where
+  pub whole : StaysWhole
+  pub floor : Floor
+  pub ceiling : Ceiling

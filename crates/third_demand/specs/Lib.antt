@@ -1,0 +1,3 @@
+-- The third demand's statement.
+pub mod Calls
+pub mod Demand

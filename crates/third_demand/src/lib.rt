@@ -1,0 +1,1 @@
+// The mission's third demand over lists of calls: definitions and the theorem, no code.

@@ -1,0 +1,133 @@
+-- What the steps of one input's tick ask, from what the tick asks of its caller, and the steps in a row. Assumes nothing.
+use Prim.Native.Nat.{ℕ, _<_, _≤_}
+use mathlib.Core.Path.{_≡_, refl, sym, ap, subst, _∙_}
+use mathlib.Core.List.{List, []}
+use native.Mathlib.Omega.{arith}
+use lib.ListN.{length}
+use Rattle.base.specs.Limits.{timeLimit}
+use Rattle.delay_hold.specs.declared.Lag.{Lag}
+use Rattle.slots.specs.declared.Inputs.{Inputs}
+use Rattle.slots.specs.Inputs.{slotAt}
+use Rattle.slots.proofs.Sized.{Sized, sized-put}
+use Rattle.commands.specs.declared.Sent.{Sent}
+use Rattle.commands.specs.Commands.{Did}
+use Rattle.record.specs.Lent.{Lists, lists}
+use Rattle.record.specs.Effects.{Effect, silent, beside, Effected}
+use Rattle.record.proofs.Effects.{effected-silent, effected-done}
+use Rattle.auto_delay.specs.Arrival.{arrived, largestOf, lateEvent}
+use Rattle.auto_delay.specs.Auto.{autoDelayed}
+use Rattle.auto_delay.specs.Asked.{ArriveAsked, LateAsked, Ready, AutoAsked}
+use Rattle.auto_delay.proofs.Asks.{ready-window}
+use Rattle.auto_delay.proofs.Arriving.{arrived-settings, arrived-ready, arrived-raised}
+use Rattle.auto_delay.proofs.LateKeeps.{late-ready, late-raised}
+use Rattle.auto_delay.proofs.Readiness.{ready-low}
+use Rattle.ticking.specs.declared.Look.{Look}
+use Rattle.ticking.specs.Tick.{heard, looked, tickedInput}
+use Rattle.ticking.specs.Asked.{InputAsked}
+use Rattle.ticking.proofs.Following.{effected-then}
+use Rattle.ticking.proofs.Looking.{looked-ready, looked-changes}
+
+-- ---- what the steps ask
+module _ (s : Inputs) (l : Lists) (i : ℕ) (look : Look) (lags : List ℕ) (time : ℕ) (sized : Sized s) (soon : time ≤ timeLimit) (asked : InputAsked s l i look (length lags) time) where
+  low : i < 16
+  low = ready-low s l i (asked .ready)
+
+  pub arrive-asks : ArriveAsked s (lists (l .starts) (l .totals) (l .counts) [] []) i time (length lags)
+  arrive-asks =
+      let w = ready-window s l i (asked .ready) in
+      record { window = record { sound = w .sound; held = w .held; whole = w .whole }; timely = soon; room = asked .room }
+
+  abbrev first : Inputs
+  first = arrived i time lags s l .inputs
+
+  abbrev left : Lists
+  left = arrived i time lags s l .lists
+
+  first-sized : Sized first
+  unfolding arrived
+  first-sized = sized-put s i _ sized
+
+  pub late-asks : {all : Inputs} → all ≡ first → LateAsked all i (look .applied)
+  late-asks e =
+      subst (λ (x : Inputs). LateAsked x i (look .applied)) (sym e)
+      (record {
+        sound = first-ready .fitting .allowed .sound;
+        applied-in = subst (λ (x : Inputs). look .applied ≤ x .policy .«delay_max») (sym (arrived-settings i time lags s l)) (asked .applied);
+        events = omega (arith, arrived-raised i time lags s l low (sized .slots) .lates, asked .lates);
+      })
+    where
+      first-ready : Ready first left i
+      first-ready = arrived-ready i time lags s l (asked .ready) soon (asked .room) (sized .slots)
+
+  module _ (largest : Lag) where
+    abbrev second : Inputs
+    second = lateEvent i (look .applied) largest first
+
+    second-sized : Sized second
+    unfolding lateEvent
+    second-sized = sized-put first i _ first-sized
+
+    second-ready : Ready second left i
+    second-ready = late-ready i (look .applied) largest first left (arrived-ready i time lags s l (asked .ready) soon (asked .room) (sized .slots)) (first-sized .slots)
+
+    reopens-fit : slotAt second i .reopens < 9_223_372_036_854_775_808
+    reopens-fit = omega (arith, late-raised i (look .applied) largest first low (first-sized .slots) .reopens, arrived-raised i time lags s l low (sized .slots) .reopens, asked .reopens)
+
+    changes-fit : slotAt second i .«delay_changes» < 9_223_372_036_854_775_808
+    changes-fit = omega (arith, late-raised i (look .applied) largest first low (first-sized .slots) .changes, arrived-raised i time lags s l low (sized .slots) .changes, asked .changes)
+
+    module _ {all heard : Inputs} (is-first : all ≡ first) (is-heard : heard ≡ lateEvent i (look .applied) largest all) where
+      second-is : heard ≡ second
+      second-is = is-heard ∙ ap (lateEvent i (look .applied) largest) is-first
+
+      pub look-asks : (i < 16) × (slotAt heard i .reopens < 9_223_372_036_854_775_808)
+      look-asks = (low, subst (λ (x : Inputs). slotAt x i .reopens < 9_223_372_036_854_775_808) (sym second-is) reopens-fit)
+
+      pub auto-asks : {seen : Sent} {before after a b c : List ℕ} {used : ℕ} → Did 6 (looked i look time heard) seen before after used → lists a b c (l .times) (l .lags) ≡ left → AutoAsked (seen .inputs) i a c (l .times) (l .lags)
+      auto-asks {seen} {a = a} {b = b} {c = c} h e = record {
+        totals = b;
+        ready = subst (λ (x : Inputs). Ready x (lists a b c (l .times) (l .lags)) i) (sym third-is) (subst (λ (m : Lists). Ready third m i) (sym e) (looked-ready second left i second-ready time soon second-sized look));
+        changes = subst (λ (x : Inputs). slotAt x i .«delay_changes» < 9_223_372_036_854_775_808) (sym third-is) third-changes;
+      }
+        where
+          third : Inputs
+          third = looked i look time second .inputs
+
+          third-is : seen .inputs ≡ third
+          third-is = h .inputs ∙ ap (λ (x : Inputs). looked i look time x .inputs) second-is
+
+          third-changes : slotAt third i .«delay_changes» < 9_223_372_036_854_775_808
+          third-changes = subst (λ (n : ℕ). n < 9_223_372_036_854_775_808) (sym (looked-changes second left i second-ready time soon second-sized look)) changes-fit
+
+-- ---- the steps in a row
+module _ (i : ℕ) (look : Look) (lags : List ℕ) (time : ℕ) (s : Inputs) (l : Lists) {all after-late : Inputs} {largest : Lag} {seen answer : Sent} {a b c times peaks before middle after : List ℕ} {used : ℕ}
+    (is-arrived : (times peaks : List ℕ) → silent all (lists a b c times peaks) ≡ arrived i time lags s (lists (l .starts) (l .totals) (l .counts) times peaks))
+    (is-largest : largest ≡ largestOf lags)
+    (is-late : after-late ≡ lateEvent i (look .applied) largest all)
+    (is-seen : Did 6 (looked i look time after-late) seen before middle used)
+    (is-answer : (totals : List ℕ) → Effected 3 (autoDelayed i largest time (seen .inputs) (lists a totals c (l .times) (l .lags))) answer (lists a totals c times peaks) middle after (seen .used)) where
+  first-is : silent all (lists a b c (l .times) (l .lags)) ≡ arrived i time lags s l
+  first-is = is-arrived (l .times) (l .lags)
+
+  pub first-inputs : all ≡ arrived i time lags s l .inputs
+  first-inputs = ap (λ (x : Effect). x .inputs) first-is
+
+  pub first-lists : lists a b c (l .times) (l .lags) ≡ arrived i time lags s l .lists
+  first-lists = ap (λ (x : Effect). x .lists) first-is
+
+  heard-by : Effected 0 (heard i look lags time s l) (record { inputs = after-late; used = used }) (lists a b c (l .times) (l .lags)) before before used
+  unfolding heard
+  heard-by =
+      effected-then 0 0 (arrived i time lags s l) (λ z m. silent (lateEvent i (look .applied) (largestOf lags) z) m)
+      (subst (λ (x : Effect). Effected 0 x (record { inputs = all; used = used }) (lists a b c (l .times) (l .lags)) before before used) first-is (effected-silent refl refl))
+      (effected-silent (is-late ∙ ap (λ (x : Lag). lateEvent i (look .applied) x all) is-largest) refl)
+
+  seen-by : Effected 6 (beside (lists a b c (l .times) (l .lags)) (looked i look time after-late)) seen (lists a b c (l .times) (l .lags)) before middle used
+  seen-by = effected-done is-seen refl
+
+  pub ticked-by : Effected 9 (tickedInput i look lags time s l) answer (lists a b c times peaks) before after used
+  unfolding tickedInput
+  ticked-by =
+      effected-then 6 3 _ (autoDelayed i (largestOf lags) time)
+      (effected-then 0 6 (heard i look lags time s l) (λ z m. beside m (looked i look time z)) heard-by seen-by)
+      (subst (λ (x : Lag). Effected 3 (autoDelayed i x time (seen .inputs) (lists a b c (l .times) (l .lags))) answer (lists a b c times peaks) middle after (seen .used)) is-largest (is-answer b))

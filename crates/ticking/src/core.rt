@@ -1,0 +1,185 @@
+// A tick over the whole record and the lists of all inputs, for the crate above, which has checked what is asked here.
+ghost use mathlib.Core.Path.{_≡_};
+ghost use mathlib.Core.List.{List};
+ghost use Prim.Native.Nat.{ℕ, _+_, _*_, _<_, _≤_, _^_};
+ghost use lib.ListN.{length};
+ghost use Rattle.base.specs.Limits.{timeLimit};
+ghost use Rattle.slots.specs.Inputs.{slotAt};
+ghost use Rattle.slots.proofs.Sized.{Sized};
+ghost use Rattle.commands.specs.Commands.{Did};
+ghost use Rattle.record.specs.Lent.{lists};
+ghost use Rattle.record.specs.Effects.{Effected};
+ghost use Rattle.ticking.specs.Tick.{looked, tickedInput, tickedBelow, saved, ticked, unsavedAt};
+ghost use Rattle.ticking.specs.Answer.{told, carried};
+ghost use Rattle.ticking.specs.Asked.{InputAsked, InputsAsked};
+use crate::Look;
+use crate::TickAnswer;
+use commands::Sent;
+use instances::Extra;
+use slots::Inputs;
+
+// The number of a waiting input's state, and of a running one's; those above it watch too.
+const WAITING: u32 = 1;
+
+const RUNNING: u32 = 2;
+
+// A waiting input opens, a running or stalled one watches.
+fn look_at(
+    inputs: Inputs,
+    i: usize,
+    look: Look,
+    time: u64,
+    commands: &mut [u32],
+    used: usize,
+) -> Sent
+    requires { ⌜ (used + 6 ≤ length (now commands)) × (i < 16) × (slotAt inputs i .reopens < 2 ^ 63) ⌝ }
+    ensures { λ r. ⌜ Did 6 (looked i look time inputs) r (now (commands .entry)) (now (commands .exit)) used ⌝ }
+{
+    let slot = slots::slot_at(inputs, i);
+    let state = slot.state;
+    let code = slots::code(state);
+    let world = look.world;
+    if code == WAITING {
+        return opening::core::try_open(inputs, i, time, world, commands, used);
+    }
+    if code < RUNNING {
+        return Sent { inputs, used };
+    }
+    let seen = look.seen;
+    watching::core::watch(inputs, i, time, seen, world, commands, used)
+}
+
+// Input i: its lags arrive, a late event counts, it opens or watches, and its automatic delay decides.
+fn tick_input(
+    inputs: Inputs,
+    i: usize,
+    look: Look,
+    lags: &[u32],
+    time: u64,
+    starts: &mut [u64],
+    totals: &mut [u64],
+    counts: &mut [u32],
+    times: &mut [u64],
+    peaks: &mut [u32],
+    commands: &mut [u32],
+    used: usize,
+) -> Sent
+    requires { ⌜ Sized inputs × (time ≤ timeLimit) ⌝ }
+    requires { ⌜ InputAsked inputs (lists (now starts) (now totals) (now counts) (now times) (now peaks)) i look (length (now lags)) time ⌝ }
+    requires { ⌜ used + 9 ≤ length (now commands) ⌝ }
+    ensures { λ r. ⌜ Effected 9 (tickedInput i look (now (lags .entry)) time inputs (lists (now (starts .entry)) (now (totals .entry)) (now (counts .entry)) (now (times .entry)) (now (peaks .entry)))) r (lists (now (starts .exit)) (now (totals .exit)) (now (counts .exit)) (now (times .exit)) (now (peaks .exit))) (now (commands .entry)) (now (commands .exit)) used ⌝ }
+{
+    let arrived = auto_delay::core::arrive(inputs, i, lags, time, starts, totals, counts);
+    let largest = auto_delay::core::largest(lags);
+    let heard = auto_delay::core::late_event(arrived, i, look.applied, largest);
+    let seen = look_at(heard, i, look, time, commands, used);
+    let all = seen.inputs;
+    auto_delay::core::auto_delay(
+        all,
+        i,
+        largest,
+        time,
+        starts,
+        counts,
+        times,
+        peaks,
+        commands,
+        seen.used,
+    )
+}
+
+// All inputs in order.
+fn tick_inputs(
+    inputs: Inputs,
+    looks: [Look; 16],
+    lags: &[u32],
+    time: u64,
+    starts: &mut [u64],
+    totals: &mut [u64],
+    counts: &mut [u32],
+    times: &mut [u64],
+    peaks: &mut [u32],
+    commands: &mut [u32],
+) -> Sent
+    requires { ⌜ InputsAsked inputs (lists (now starts) (now totals) (now counts) (now times) (now peaks)) looks (now lags) time ⌝ }
+    requires { ⌜ inputs .count * 9 ≤ length (now commands) ⌝ }
+    ensures { λ r. ⌜ Effected (inputs .count * 9) (tickedBelow (inputs .count) looks (now (lags .entry)) time inputs (lists (now (starts .entry)) (now (totals .entry)) (now (counts .entry)) (now (times .entry)) (now (peaks .entry)))) r (lists (now (starts .exit)) (now (totals .exit)) (now (counts .exit)) (now (times .exit)) (now (peaks .exit))) (now (commands .entry)) (now (commands .exit)) 0 ⌝ }
+{
+    let mut all = inputs;
+    let mut used: usize = 0;
+    let mut from: usize = 0;
+    let mut i: usize = 0;
+    while i < inputs.count {
+        let look = looks[i];
+        let to = from + look.lags;
+        let sent = tick_input(
+            all,
+            i,
+            look,
+            &lags[from..to],
+            time,
+            starts,
+            totals,
+            counts,
+            times,
+            peaks,
+            commands,
+            used,
+        );
+        let after = sent.inputs;
+        all = after;
+        used = sent.used;
+        from = to;
+        i += 1;
+    }
+    Sent { inputs: all, used }
+}
+
+// The table of remembered delays counts as saved.
+fn saved(inputs: Inputs) -> Inputs
+    ensures { λ r. ⌜ r ≡ saved inputs ⌝ }
+{
+    let mut all = inputs;
+    all.unsaved = false;
+    all
+}
+
+// A whole tick: all inputs, and then the instances that no input reads go, and the unsaved mark is reported and cleared.
+pub fn tick_all(
+    inputs: Inputs,
+    looks: [Look; 16],
+    lags: &[u32],
+    time: u64,
+    starts: &mut [u64],
+    totals: &mut [u64],
+    counts: &mut [u32],
+    times: &mut [u64],
+    peaks: &mut [u32],
+    commands: &mut [u32],
+) -> TickAnswer
+    requires { ⌜ InputsAsked inputs (lists (now starts) (now totals) (now counts) (now times) (now peaks)) looks (now lags) time ⌝ }
+    requires { ⌜ inputs .count * 9 ≤ length (now commands) ⌝ }
+    ensures { λ r. ⌜ told r (lists (now (starts .exit)) (now (totals .exit)) (now (counts .exit)) (now (times .exit)) (now (peaks .exit))) (now (commands .exit)) ≡ carried (now (commands .entry)) (ticked looks (now (lags .entry)) time inputs (lists (now (starts .entry)) (now (totals .entry)) (now (counts .entry)) (now (times .entry)) (now (peaks .entry)))) (unsavedAt looks (now (lags .entry)) time inputs (lists (now (starts .entry)) (now (totals .entry)) (now (counts .entry)) (now (times .entry)) (now (peaks .entry)))) ⌝ }
+{
+    base::zero_u32(commands);
+    let sent = tick_inputs(
+        inputs,
+        looks,
+        lags,
+        time,
+        starts,
+        totals,
+        counts,
+        times,
+        peaks,
+        commands,
+    );
+    let all = sent.inputs;
+    let kept = instances::prune(all, Extra::Nothing);
+    let done = saved(kept);
+    TickAnswer {
+        number: 0,
+        inputs: done,
+        unsaved: all.unsaved,
+    }
+}
