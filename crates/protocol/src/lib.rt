@@ -5,6 +5,7 @@ pub mod bytes;
 pub mod fields;
 pub mod print;
 pub mod scan;
+pub mod words;
 
 // The place after what was looked for, or that it is not there.
 pub enum Step {

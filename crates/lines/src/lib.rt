@@ -1,0 +1,174 @@
+// Lines from standard input, and answers to standard output, each through a buffer of the caller's.
+use libc::STDIN_FILENO;
+use libc::STDOUT_FILENO;
+use protocol::Step;
+use protocol::bytes::part;
+use protocol::bytes::shift_u8;
+use protocol::scan::first;
+
+// The longest line, without its newline. The input buffer is longer.
+pub const LONGEST: usize = 1_048_576;
+
+// What is kept free of the output buffer, so that the next few words fit.
+const SPARE: usize = 1_024;
+
+// Where reading stands in the input buffer.
+pub struct Cursor {
+    // The next line begins here, no newline stands before `seen`, and what was read ends at `to`.
+    pub from: usize,
+    pub seen: usize,
+    pub to: usize,
+    // Nothing more can be read.
+    pub ended: bool,
+    // A line was found: it ends at `end`, and the next begins at `next`.
+    pub found: bool,
+    pub end: usize,
+    pub next: usize,
+    // The line is too long, and what was read of it was dropped.
+    pub dropped: bool,
+}
+
+pub fn begin() -> Cursor {
+    Cursor {
+        from: 0,
+        seen: 0,
+        to: 0,
+        ended: false,
+        found: false,
+        end: 0,
+        next: 0,
+        dropped: false,
+    }
+}
+
+// a less b, at least 0.
+pub fn less(a: usize, b: usize) -> usize {
+    if b < a {
+        return a - b;
+    }
+    0
+}
+
+// a and b, at most the largest number.
+pub fn sum(a: usize, b: usize) -> usize {
+    if a <= usize::MAX - b {
+        return a + b;
+    }
+    usize::MAX
+}
+
+fn found(c: Cursor, end: usize, next: usize) -> Cursor {
+    Cursor {
+        found: true,
+        end,
+        next,
+        ..c
+    }
+}
+
+// What is left at the end of the input is a line without a newline.
+fn last(c: Cursor) -> Cursor {
+    if c.from < c.to {
+        return found(c, c.to, c.to);
+    }
+    if c.dropped {
+        return found(c, c.to, c.to);
+    }
+    c
+}
+
+// No newline yet: what was read of a line that is too long is dropped.
+fn unfinished(c: Cursor) -> Cursor {
+    if LONGEST < less(c.to, c.from) {
+        return Cursor {
+            from: c.to,
+            seen: c.to,
+            dropped: true,
+            ..c
+        };
+    }
+    Cursor { seen: c.to, ..c }
+}
+
+// Looks for the end of the next line in what was read.
+pub fn look(input: &[u8], c: Cursor) -> Cursor {
+    let newline = first(input, c.seen, c.to, b'\n');
+    if let Step::At(end) = newline {
+        return found(c, end, sum(end, 1));
+    }
+    if c.ended {
+        return last(c);
+    }
+    unfinished(c)
+}
+
+// The line that was found. One that is too long is empty, and an empty line cannot be read.
+pub fn line(input: &[u8], c: Cursor) -> &[u8] {
+    if c.dropped {
+        return part(input, 0, 0);
+    }
+    if LONGEST < less(c.end, c.from) {
+        return part(input, 0, 0);
+    }
+    part(input, c.from, c.end)
+}
+
+// The line is answered.
+pub fn passed(c: Cursor) -> Cursor {
+    Cursor {
+        from: c.next,
+        seen: c.next,
+        found: false,
+        dropped: false,
+        ..c
+    }
+}
+
+// Reads once, to the end of the buffer: how many bytes came.
+fn read_after(input: &mut [u8], to: usize) -> usize {
+    if input.len() < to {
+        return 0;
+    }
+    let room = &mut input[to..];
+    let got = libc::read(STDIN_FILENO, room);
+    io::count(got, room)
+}
+
+// Where the buffer is used up, the lines that were answered make room.
+fn moved(input: &mut [u8], c: Cursor) -> Cursor {
+    if c.to < input.len() {
+        return c;
+    }
+    shift_u8(input, c.from);
+    Cursor {
+        from: 0,
+        seen: less(c.seen, c.from),
+        to: less(c.to, c.from),
+        ..c
+    }
+}
+
+// Reads more of the input.
+pub fn more(input: &mut [u8], c: Cursor) -> Cursor {
+    let m = moved(input, c);
+    let got = read_after(input, m.to);
+    Cursor {
+        to: sum(m.to, got),
+        ended: got == 0,
+        ..m
+    }
+}
+
+// Writes the answers so far: whether that could be done.
+pub fn write(out: &[u8], place: usize) -> bool {
+    io::write_all(STDOUT_FILENO, part(out, 0, place))
+}
+
+// The place for the next words: where few places are left, the answers so far are written and the buffer begins anew.
+pub fn room(out: &[u8], place: usize) -> usize {
+    if SPARE <= less(out.len(), place) {
+        return place;
+    }
+    write(out, place);
+    0
+}

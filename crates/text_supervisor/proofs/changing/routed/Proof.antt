@@ -1,0 +1,39 @@
+-- `text_supervisor::changing::routed` is safe. Assumes nothing.
+use mathlib.Core.Path.{sym}
+use borrow.Author.Needs.{needs}
+use lib.Seq.{length-take-le}
+use Rattle.text_supervisor.proofs.changing.routed.Statement.{statement}
+use Rattle.text_supervisor.proofs.changing.routed.Tie as tie
+
+pub routed-spec : {M : Type 1} → statement M
+routed-spec =
+    tie.close
+    (tie.spec
+    (λ c κs. search needs)  -- buckets-in-requires
+    (λ c κs. search needs)  -- lengths-requires
+    (λ c κs. search needs)  -- fit-requires
+    (λ c κs. search needs)  -- fit-requires-2
+    (λ c κs. search needs)  -- fit-requires-3
+    (λ c κs. search needs)  -- fit-requires-4
+    (λ c κs. search needs)  -- fit-requires-5
+    (λ c κs. search needs)  -- fit-requires-6
+    (λ c. search needs)  -- slice-relend-prefix-route
+    (λ c. sym (length-take-le _ _ (c .before .before .before .before .before .before .before .fit .ensures .1)))  -- slice-aggregate-route
+    (λ c. search needs)  -- slice-relend-prefix-route-2
+    (λ c. sym (length-take-le _ _ (c .before .before .before .before .before .before .before .fit2 .ensures .1)))  -- slice-aggregate-route-2
+    (λ c. search needs)  -- slice-relend-prefix-route-3
+    (λ c. sym (length-take-le _ _ (c .before .before .before .before .before .before .before .fit3 .ensures .1)))  -- slice-aggregate-route-3
+    (λ c. search needs)  -- slice-relend-prefix-route-4
+    (λ c. sym (length-take-le _ _ (c .before .before .before .before .before .before .before .fit4 .ensures .1)))  -- slice-aggregate-route-4
+    (λ c. search needs)  -- slice-relend-prefix-route-5
+    (λ c. sym (length-take-le _ _ (c .before .before .before .before .before .before .before .fit5 .ensures .1)))  -- slice-aggregate-route-5
+    (λ c. search needs)  -- slice-relend-prefix-route-6
+    (λ c. sym (length-take-le _ _ (c .before .before .before .before .before .before .before .fit6 .ensures .1)))  -- slice-aggregate-route-6
+    (λ c κs. search needs)  -- route-requires
+    (λ c. search needs)  -- same-length
+    (λ c. search needs)  -- same-length-2
+    (λ c. search needs)  -- same-length-3
+    (λ c. search needs)  -- same-length-4
+    (λ c. search needs)  -- same-length-5
+    (λ c. search needs)  -- same-length-6
+    (λ c. search needs))  -- returns
