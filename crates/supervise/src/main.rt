@@ -1,13 +1,16 @@
 // The library behind the text protocol of compare/README.md: reads calls from standard input, one a line, and writes one answer line each.
 use alone::Alone;
 use lines::Cursor;
+use names::Call;
 use protocol::print::put_text;
 use protocol::scan::ends;
 use protocol::words::LOST;
 use protocol::words::text_end;
 use protocol::words::word_end;
+use text_supervisor::Supervisor;
 
 mod alone;
+mod calls;
 mod names;
 
 // All that is kept from line to line, but for the lists.
@@ -18,6 +21,7 @@ pub struct State {
     // The place in the output buffer.
     pub place: usize,
     pub alone: Alone,
+    pub supervisor: Supervisor,
 }
 
 // Where a call's name begins, and whether its lists are short.
@@ -29,11 +33,13 @@ pub struct Begins {
 fn begin() -> State {
     let cursor = lines::begin();
     let alone = alone::begin();
+    let supervisor = text_supervisor::begin();
     State {
         more: true,
         cursor,
         place: 0,
         alone,
+        supervisor,
     }
 }
 
@@ -54,24 +60,24 @@ fn is_flush(s: &[u8]) -> bool {
 
 fn flush(state: State, out: &mut [u8]) -> State {
     let place = put_text(out, lines::room(out, state.place), b"flushed\n");
-    State {
-        more: lines::write(out, place),
-        place: 0,
-        ..state
-    }
+    let mut changed = state;
+    changed.more = lines::write(out, place);
+    changed.place = 0;
+    changed
 }
 
 fn unknown(state: State, out: &mut [u8]) -> State {
-    State {
-        place: text_alone::bad_line(out, state.place),
-        ..state
-    }
+    let mut changed = state;
+    changed.place = text_alone::bad_line(out, state.place);
+    changed
 }
 
-// Answers a line.
-fn answer(
+// A call that needs no supervisor, and whose name begins at `at`.
+fn lone(
     state: State,
+    short: bool,
     s: &[u8],
+    at: usize,
     out: &mut [u8],
     starts: &mut [u64],
     totals: &mut [u64],
@@ -79,22 +85,18 @@ fn answer(
     times: &mut [u64],
     lags: &mut [u32],
 ) -> State {
-    if is_flush(s) {
-        return flush(state, out);
-    }
-    let p = prefix(s);
-    let lone = names::lone_at(s, p.at);
-    if lone.next == LOST {
+    let named = names::lone_at(s, at);
+    if named.next == LOST {
         return unknown(state, out);
     }
-    let call = lone.call;
+    let call = named.call;
     let kept = state.alone;
     let done = alone::answer(
         call,
         kept,
-        p.short,
+        short,
         s,
-        lone.next,
+        named.next,
         out,
         state.place,
         starts,
@@ -108,6 +110,102 @@ fn answer(
     changed.alone = left;
     changed.place = done.place;
     changed
+}
+
+// A call on a supervisor, after its name.
+fn supervised(
+    state: State,
+    call: Call,
+    short: bool,
+    s: &[u8],
+    at: usize,
+    out: &mut [u8],
+    starts: &mut [u64],
+    totals: &mut [u64],
+    counts: &mut [u32],
+    times: &mut [u64],
+    lags: &mut [u32],
+    commands: &mut [u32],
+    heard: &mut [u32; 524_288],
+    loaded: &mut [u8; 262_144],
+) -> State {
+    let alone = state.alone;
+    let kept = state.supervisor;
+    let done = calls::answer(
+        call,
+        kept,
+        alone.full,
+        short,
+        s,
+        at,
+        out,
+        state.place,
+        starts,
+        totals,
+        counts,
+        times,
+        lags,
+        commands,
+        heard,
+        loaded,
+    );
+    let left = done.supervisor;
+    let mut changed = state;
+    changed.supervisor = left;
+    changed.place = done.place;
+    changed
+}
+
+// Answers a line.
+fn answer(
+    state: State,
+    s: &[u8],
+    out: &mut [u8],
+    starts: &mut [u64],
+    totals: &mut [u64],
+    counts: &mut [u32],
+    times: &mut [u64],
+    lags: &mut [u32],
+    commands: &mut [u32],
+    heard: &mut [u32; 524_288],
+    loaded: &mut [u8; 262_144],
+) -> State {
+    if is_flush(s) {
+        return flush(state, out);
+    }
+    let p = prefix(s);
+    let named = names::call_at(s, p.at);
+    if named.next == LOST {
+        return lone(
+            state,
+            p.short,
+            s,
+            p.at,
+            out,
+            starts,
+            totals,
+            counts,
+            times,
+            lags,
+        );
+    }
+    let call = named.call;
+    supervised(
+        state,
+        call,
+        p.short,
+        s,
+        named.next,
+        out,
+        starts,
+        totals,
+        counts,
+        times,
+        lags,
+        commands,
+        heard,
+        loaded,
+    )
 }
 
 // Nothing more to answer in what was read: what was answered is written, and more is read.
@@ -138,6 +236,9 @@ fn step(
     counts: &mut [u32; 765_952],
     times: &mut [u64; 10_200],
     lags: &mut [u32; 10_200],
+    commands: &mut [u32; 192],
+    heard: &mut [u32; 524_288],
+    loaded: &mut [u8; 262_144],
 ) -> State {
     let before = state.cursor;
     let c = lines::look(input, before);
@@ -146,7 +247,19 @@ fn step(
         let mut passing = state;
         let next = lines::passed(c);
         passing.cursor = next;
-        return answer(passing, s, out, starts, totals, counts, times, lags);
+        return answer(
+            passing,
+            s,
+            out,
+            starts,
+            totals,
+            counts,
+            times,
+            lags,
+            commands,
+            heard,
+            loaded,
+        );
     }
     if c.ended {
         return ended(state, out);
@@ -162,6 +275,9 @@ fn main() {
     let mut counts = [0u32; 765_952];
     let mut times = [0u64; 10_200];
     let mut lags = [0u32; 10_200];
+    let mut commands = [0u32; 192];
+    let mut heard = [0u32; 524_288];
+    let mut loaded = [0u8; 262_144];
     let mut state = begin();
     let mut turns = u64::MAX;
     while turns > 0 && state.more {
@@ -174,6 +290,9 @@ fn main() {
             &mut counts,
             &mut times,
             &mut lags,
+            &mut commands,
+            &mut heard,
+            &mut loaded,
         );
         turns -= 1;
     }

@@ -5,10 +5,10 @@ use Rattle.supervise.proofs.main.Statement.{statement}
 use Rattle.supervise.proofs.main.Tie as tie
 
 abbrev Inv-loop : tie.InvT-loop
-Inv-loop input₀ out₀ starts₀ totals₀ counts₀ times₀ lags₀ state₀ turns₀ input out starts totals counts times lags state turns = Unit {0}
+Inv-loop input₀ out₀ starts₀ totals₀ counts₀ times₀ lags₀ commands₀ heard₀ loaded₀ state₀ turns₀ input out starts totals counts times lags commands heard loaded state turns = Unit {0}
 
 abbrev μ-loop : tie.MeasureT-loop
-μ-loop input₀ out₀ starts₀ totals₀ counts₀ times₀ lags₀ state₀ turns₀ input out starts totals counts times lags state turns = turns
+μ-loop input₀ out₀ starts₀ totals₀ counts₀ times₀ lags₀ commands₀ heard₀ loaded₀ state₀ turns₀ input out starts totals counts times lags commands heard loaded state turns = turns
 
 pub main-spec : {M : Type 1} → statement M
 main-spec =
