@@ -199,88 +199,19 @@ pub fn with_config(slot: Slot, config: InputConfig) -> Slot
 pub fn with_state(slot: Slot, state: State) -> Slot
     ensures { λ r. ⌜ r ≡ withState slot state ⌝ }
 {
-    let config = slot.config;
-    let route = slot.route;
-    let inode = slot.inode;
-    let proposed = slot.proposed;
-    let hold = slot.hold;
-    let last_set = slot.last_set;
-    Slot {
-        config,
-        state,
-        route,
-        inode,
-        last_head: slot.last_head,
-        head_changed: slot.head_changed,
-        reopens: slot.reopens,
-        lag_seconds: slot.lag_seconds,
-        last_lag: slot.last_lag,
-        delay: slot.delay,
-        proposed,
-        hold,
-        delay_changes: slot.delay_changes,
-        late_events: slot.late_events,
-        late_before: slot.late_before,
-        last_set,
-    }
+    Slot { state, ..slot }
 }
 
 pub fn with_route(slot: Slot, route: Routed) -> Slot
     ensures { λ r. ⌜ r ≡ withRoute slot route ⌝ }
 {
-    let config = slot.config;
-    let state = slot.state;
-    let inode = slot.inode;
-    let proposed = slot.proposed;
-    let hold = slot.hold;
-    let last_set = slot.last_set;
-    Slot {
-        config,
-        state,
-        route,
-        inode,
-        last_head: slot.last_head,
-        head_changed: slot.head_changed,
-        reopens: slot.reopens,
-        lag_seconds: slot.lag_seconds,
-        last_lag: slot.last_lag,
-        delay: slot.delay,
-        proposed,
-        hold,
-        delay_changes: slot.delay_changes,
-        late_events: slot.late_events,
-        late_before: slot.late_before,
-        last_set,
-    }
+    Slot { route, ..slot }
 }
 
 pub fn with_inode(slot: Slot, inode: Inode) -> Slot
     ensures { λ r. ⌜ r ≡ withInode slot inode ⌝ }
 {
-    let config = slot.config;
-    let state = slot.state;
-    let route = slot.route;
-    let proposed = slot.proposed;
-    let hold = slot.hold;
-    let last_set = slot.last_set;
-    Slot {
-        config,
-        state,
-        route,
-        inode,
-        last_head: slot.last_head,
-        head_changed: slot.head_changed,
-        reopens: slot.reopens,
-        lag_seconds: slot.lag_seconds,
-        last_lag: slot.last_lag,
-        delay: slot.delay,
-        proposed,
-        hold,
-        delay_changes: slot.delay_changes,
-        late_events: slot.late_events,
-        late_before: slot.late_before,
-        last_set,
-    }
+    Slot { inode, ..slot }
 }
 
 pub fn with_head(slot: Slot, head: u64, time: u64) -> Slot
@@ -321,59 +252,17 @@ pub fn with_delay(slot: Slot, delay: u32, time: u64) -> Slot
     ensures { λ r. ⌜ r ≡ withDelay slot delay time ⌝ }
 {
     let last_set = Moment::At(time);
-    let config = slot.config;
-    let state = slot.state;
-    let route = slot.route;
-    let inode = slot.inode;
-    let proposed = slot.proposed;
-    let hold = slot.hold;
     Slot {
-        config,
-        state,
-        route,
-        inode,
-        last_head: slot.last_head,
-        head_changed: slot.head_changed,
-        reopens: slot.reopens,
-        lag_seconds: slot.lag_seconds,
-        last_lag: slot.last_lag,
         delay,
-        proposed,
-        hold,
-        delay_changes: slot.delay_changes,
-        late_events: slot.late_events,
-        late_before: slot.late_before,
         last_set,
+        ..slot
     }
 }
 
 pub fn with_proposed(slot: Slot, proposed: Proposal) -> Slot
     ensures { λ r. ⌜ r ≡ withProposed slot proposed ⌝ }
 {
-    let config = slot.config;
-    let state = slot.state;
-    let route = slot.route;
-    let inode = slot.inode;
-    let hold = slot.hold;
-    let last_set = slot.last_set;
-    Slot {
-        config,
-        state,
-        route,
-        inode,
-        last_head: slot.last_head,
-        head_changed: slot.head_changed,
-        reopens: slot.reopens,
-        lag_seconds: slot.lag_seconds,
-        last_lag: slot.last_lag,
-        delay: slot.delay,
-        proposed,
-        hold,
-        delay_changes: slot.delay_changes,
-        late_events: slot.late_events,
-        late_before: slot.late_before,
-        last_set,
-    }
+    Slot { proposed, ..slot }
 }
 
 pub fn with_hold(slot: Slot, hold: DelayHold) -> Slot
