@@ -1,6 +1,6 @@
 // What every crate shares: differences that stop at 0, the smaller and the larger, and work on lent lists of numbers.
 ghost use mathlib.Core.Path.{_≡_};
-ghost use Prim.Native.Nat.{_-_, min, max};
+ghost use Prim.Native.Nat.{_+_, _-_, _*_, _^_, min, max};
 ghost use lib.ListN.{length, getD, replicate};
 ghost use Rattle.base.specs.Lists.{shifted, blankFrom};
 
@@ -49,6 +49,43 @@ pub fn least_u64(a: u64, b: u64) -> u64
     ensures { λ r. ⌜ r ≡ min a b ⌝ }
 {
     if a < b { a } else { b }
+}
+
+pub fn least_usize(a: usize, b: usize) -> usize
+    ensures { λ r. ⌜ r ≡ min a b ⌝ }
+{
+    if a < b { a } else { b }
+}
+
+// a − b, or 0, of places and lengths.
+pub fn less_usize(a: usize, b: usize) -> usize
+    ensures { λ r. ⌜ r ≡ a - b ⌝ }
+{
+    if b <= a { a - b } else { 0 }
+}
+
+// a + b, at most the largest place.
+pub fn sum_usize(a: usize, b: usize) -> usize
+    ensures { λ r. ⌜ r ≡ min (a + b) (2 ^ 64 - 1) ⌝ }
+{
+    if a <= usize::MAX - b {
+        a + b
+    } else {
+        usize::MAX
+    }
+}
+
+// a times b, at most the largest place.
+pub fn product_usize(a: usize, b: usize) -> usize
+    ensures { λ r. ⌜ r ≡ min (a * b) (2 ^ 64 - 1) ⌝ }
+{
+    if b == 0 {
+        return 0;
+    }
+    if a <= usize::MAX / b {
+        return a * b;
+    }
+    usize::MAX
 }
 
 // The number at place i, 0 past the end.

@@ -1,4 +1,6 @@
 // Lines from standard input, and answers to standard output, each through a buffer of the caller's.
+use base::less_usize;
+use base::sum_usize;
 use libc::STDIN_FILENO;
 use libc::STDOUT_FILENO;
 use protocol::Step;
@@ -41,22 +43,6 @@ pub fn begin() -> Cursor {
     }
 }
 
-// a less b, at least 0.
-pub fn less(a: usize, b: usize) -> usize {
-    if b < a {
-        return a - b;
-    }
-    0
-}
-
-// a and b, at most the largest number.
-pub fn sum(a: usize, b: usize) -> usize {
-    if a <= usize::MAX - b {
-        return a + b;
-    }
-    usize::MAX
-}
-
 fn found(c: Cursor, end: usize, next: usize) -> Cursor {
     Cursor {
         found: true,
@@ -79,7 +65,7 @@ fn last(c: Cursor) -> Cursor {
 
 // No newline yet: what was read of a line that is too long is dropped.
 fn unfinished(c: Cursor) -> Cursor {
-    if LONGEST < less(c.to, c.from) {
+    if LONGEST < less_usize(c.to, c.from) {
         return Cursor {
             from: c.to,
             seen: c.to,
@@ -94,7 +80,7 @@ fn unfinished(c: Cursor) -> Cursor {
 pub fn look(input: &[u8], c: Cursor) -> Cursor {
     let newline = first(input, c.seen, c.to, b'\n');
     if let Step::At(end) = newline {
-        return found(c, end, sum(end, 1));
+        return found(c, end, sum_usize(end, 1));
     }
     if c.ended {
         return last(c);
@@ -107,7 +93,7 @@ pub fn line(input: &[u8], c: Cursor) -> &[u8] {
     if c.dropped {
         return part(input, 0, 0);
     }
-    if LONGEST < less(c.end, c.from) {
+    if LONGEST < less_usize(c.end, c.from) {
         return part(input, 0, 0);
     }
     part(input, c.from, c.end)
@@ -142,8 +128,8 @@ fn moved(input: &mut [u8], c: Cursor) -> Cursor {
     shift_u8(input, c.from);
     Cursor {
         from: 0,
-        seen: less(c.seen, c.from),
-        to: less(c.to, c.from),
+        seen: less_usize(c.seen, c.from),
+        to: less_usize(c.to, c.from),
         ..c
     }
 }
@@ -153,7 +139,7 @@ pub fn more(input: &mut [u8], c: Cursor) -> Cursor {
     let m = moved(input, c);
     let got = read_after(input, m.to);
     Cursor {
-        to: sum(m.to, got),
+        to: sum_usize(m.to, got),
         ended: got == 0,
         ..m
     }
@@ -166,7 +152,7 @@ pub fn write(out: &[u8], place: usize) -> bool {
 
 // The place for the next words: where few places are left, the answers so far are written and the buffer begins anew.
 pub fn room(out: &[u8], place: usize) -> usize {
-    if SPARE <= less(out.len(), place) {
+    if SPARE <= less_usize(out.len(), place) {
         return place;
     }
     write(out, place);

@@ -1,21 +1,16 @@
 // Work on a lent buffer of bytes that base has for numbers of 32 and 64 bits.
 ghost use mathlib.Core.Path.{_≡_};
-ghost use Prim.Native.Nat.{_-_, min};
+ghost use Prim.Native.Nat.{_-_};
 ghost use lib.ListN.{take, drop};
 ghost use Rattle.base.specs.Lists.{shifted};
-
-fn least(a: usize, b: usize) -> usize
-    ensures { λ r. ⌜ r ≡ min a b ⌝ }
-{
-    if a < b { a } else { b }
-}
+use base::least_usize;
 
 // The bytes from `from` up to `to`, as far as there are any.
 pub fn part(s: &[u8], from: usize, to: usize) -> &[u8]
     ensures { λ r. ⌜ now r ≡ take (to - from) (drop from (now (s .entry))) ⌝ }
 {
-    let end = least(to, s.len());
-    let start = least(from, end);
+    let end = least_usize(to, s.len());
+    let start = least_usize(from, end);
     &s[start..end]
 }
 

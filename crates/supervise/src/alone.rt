@@ -1,5 +1,6 @@
 // The calls that need no supervisor. The window and the hold alone have the lists' last places.
 use crate::names::Lone;
+use base::product_usize;
 use delay_hold::DelayHold;
 use lag_window::LagWindow;
 use lending::LONE_COUNTS;
@@ -20,7 +21,6 @@ use text_alone::numbers;
 use text_alone::windows;
 use text_alone::windows::Asked;
 use text_alone::windows::WindowDone;
-use text_parts::lists::product;
 
 // What the calls alone keep.
 pub struct Alone {
@@ -204,7 +204,7 @@ fn on_window(
     totals: &mut [u64],
     counts: &mut [u32],
 ) -> WindowDone {
-    let n = cut(product(LagWindow::SECONDS, kept.buckets), short);
+    let n = cut(product_usize(LagWindow::SECONDS, kept.buckets), short);
     let c = places(LONE_COUNTS, n, counts.len());
     let c0 = c.from;
     let c1 = c.to;
@@ -264,7 +264,7 @@ fn new_window(
     counts: &mut [u32],
 ) -> WindowDone {
     let asked = windows::read_new(s, at);
-    let n = cut(product(LagWindow::SECONDS, asked.buckets), short);
+    let n = cut(product_usize(LagWindow::SECONDS, asked.buckets), short);
     let c = places(LONE_COUNTS, n, counts.len());
     let c0 = c.from;
     let c1 = c.to;

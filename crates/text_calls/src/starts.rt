@@ -1,7 +1,8 @@
 // The words of `new`: settings, a kind for each input, and the loaded delays.
 use crate::kind_of;
+use base::product_usize;
+use base::sum_usize;
 use inputs_new::Settings;
-use lines::sum;
 use protocol::bits::double;
 use protocol::words::LOST;
 use protocol::words::bit_word;
@@ -12,7 +13,6 @@ use protocol::words::u32_word;
 use protocol::words::u64_word;
 use slots::AutoTag;
 use slots::ExtraDelay;
-use text_parts::lists::product;
 use text_parts::lists::put_u8;
 use text_parts::lists::put_u32;
 
@@ -101,7 +101,7 @@ fn put_word(bytes: &mut [u8], at: usize, value: u64) {
     let mut rest = value;
     let mut i: usize = 0;
     while i < 8 {
-        put_u8(bytes, sum(at, 7 - i), (rest % 256) as u8);
+        put_u8(bytes, sum_usize(at, 7 - i), (rest % 256) as u8);
         rest = rest / 256;
         i += 1;
     }
@@ -109,7 +109,7 @@ fn put_word(bytes: &mut [u8], at: usize, value: u64) {
 
 fn put_flow(bytes: &mut [u8], at: usize, high: u64, low: u64) {
     put_word(bytes, at, high);
-    put_word(bytes, sum(at, 8), low);
+    put_word(bytes, sum_usize(at, 8), low);
 }
 
 // n loaded delays. What the lists have no room for is left out.
@@ -122,7 +122,7 @@ fn read_loaded(s: &[u8], at: usize, n: usize, flows: &mut [u8], delays: &mut [u3
         }
         let flow = flow_word(s, next, b' ');
         let delay = u32_word(s, flow.next, b'=');
-        put_flow(flows, product(i, FLOW_BYTES), flow.high, flow.low);
+        put_flow(flows, product_usize(i, FLOW_BYTES), flow.high, flow.low);
         put_u32(delays, i, delay.value);
         next = delay.next;
         i += 1;

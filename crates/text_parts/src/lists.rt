@@ -1,19 +1,4 @@
 // Parts of lists, and stores, at any place: what does not exist is left out.
-pub fn least(a: usize, b: usize) -> usize {
-    if a < b { a } else { b }
-}
-
-// a times b, at most the largest number.
-pub fn product(a: usize, b: usize) -> usize {
-    if b == 0 {
-        return 0;
-    }
-    if a <= usize::MAX / b {
-        return a * b;
-    }
-    usize::MAX
-}
-
 // The elements from `from` up to `to`, as far as there are any.
 pub fn part_u64(s: &[u64], from: usize, to: usize) -> &[u64] {
     if s.len() < to {

@@ -3,9 +3,9 @@ use crate::lists::put_u32;
 use crate::lists::put_u64;
 use base::place_u32;
 use base::place_u64;
+use base::sum_usize;
 use lag_window::LagWindow;
 use lines::room;
-use lines::sum;
 use protocol::print::put_decimal;
 use protocol::print::put_decimal_after;
 use protocol::print::put_none_after;
@@ -114,7 +114,7 @@ fn store_cells(s: &[u8], at: usize, counts: &mut [u32], first: usize) -> usize {
             return next;
         }
         let c = read_cell(s, next);
-        put_u32(counts, sum(first, c.bucket), c.count);
+        put_u32(counts, sum_usize(first, c.bucket), c.count);
         next = c.next;
         i += 1;
     }
@@ -140,7 +140,7 @@ fn store_rows(
         put_u64(starts, i, r.start);
         put_u64(totals, i, r.total);
         next = store_cells(s, r.next, counts, first);
-        first = sum(first, buckets);
+        first = sum_usize(first, buckets);
         i += 1;
     }
 }
@@ -196,7 +196,7 @@ fn show_cells(out: &mut [u8], place: usize, buckets: usize, counts: &[u32], firs
     let mut next = place;
     let mut i: usize = 0;
     while i < buckets {
-        next = show_cell(out, next, i, place_u32(counts, sum(first, i)));
+        next = show_cell(out, next, i, place_u32(counts, sum_usize(first, i)));
         i += 1;
     }
     next
@@ -218,7 +218,7 @@ fn show_rows(
     while i < n {
         next = show_second(out, next, starts, totals, i);
         next = show_cells(out, next, buckets, counts, first);
-        first = sum(first, buckets);
+        first = sum_usize(first, buckets);
         i += 1;
     }
     next
@@ -228,7 +228,7 @@ fn total(seconds: usize, totals: &[u64]) -> u64 {
     let mut all: usize = 0;
     let mut i: usize = 0;
     while i < seconds {
-        all = sum(all, place_u64(totals, i) as usize);
+        all = sum_usize(all, place_u64(totals, i) as usize);
         i += 1;
     }
     all as u64

@@ -1,9 +1,10 @@
 // The record of a supervisor in the text protocol (compare/README.md): what the calls on a whole supervisor answer.
 use base::place_u32;
+use base::product_usize;
+use base::sum_usize;
 use delay_hold::DelayHold;
 use lag_window::LagWindow;
 use lines::room;
-use lines::sum;
 use protocol::print::put_bit_after;
 use protocol::print::put_decimal;
 use protocol::print::put_decimal_after;
@@ -19,7 +20,6 @@ use slots::Routed;
 use slots::Slot;
 use text_parts::lists::part_u32;
 use text_parts::lists::part_u64;
-use text_parts::lists::product;
 
 pub mod status;
 mod tables;
@@ -38,13 +38,13 @@ fn show_commands(out: &mut [u8], place: usize, commands: &[u32]) -> usize {
     let mut next = place;
     let mut i: usize = 0;
     while i < n {
-        let at = product(i, 3);
+        let at = product_usize(i, 3);
         let kind = place_u32(commands, at);
         if kind == 0 {
             return next;
         }
-        let input = place_u32(commands, sum(at, 1));
-        let word = place_u32(commands, sum(at, 2));
+        let input = place_u32(commands, sum_usize(at, 1));
+        let word = place_u32(commands, sum_usize(at, 2));
         next = show_command(out, next, kind, input, word);
         i += 1;
     }
@@ -141,8 +141,8 @@ fn show_hold(
     times: &[u64],
     lags: &[u32],
 ) -> usize {
-    let at = product(i, DelayHold::PLACES);
-    let to = sum(at, DelayHold::PLACES);
+    let at = product_usize(i, DelayHold::PLACES);
+    let to = sum_usize(at, DelayHold::PLACES);
     let own_times = part_u64(times, at, to);
     let own_lags = part_u32(lags, at, to);
     text_parts::holds::show(out, place, full, hold, own_times, own_lags)
@@ -159,12 +159,12 @@ fn show_window(
     totals: &[u64],
     counts: &[u32],
 ) -> usize {
-    let at = product(i, LagWindow::SECONDS);
-    let to = sum(at, LagWindow::SECONDS);
+    let at = product_usize(i, LagWindow::SECONDS);
+    let to = sum_usize(at, LagWindow::SECONDS);
     let own_starts = part_u64(starts, at, to);
     let own_totals = part_u64(totals, at, to);
-    let from = product(at, window.buckets);
-    let until = product(to, window.buckets);
+    let from = product_usize(at, window.buckets);
+    let until = product_usize(to, window.buckets);
     let own_counts = part_u32(counts, from, until);
     text_parts::windows::show(out, place, full, window, own_starts, own_totals, own_counts)
 }

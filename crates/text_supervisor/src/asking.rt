@@ -1,9 +1,9 @@
 // The calls that change nothing: `status`, `has`, `settled`, `dump`.
 use crate::buckets_in;
 use crate::show_record;
+use base::least_usize;
 use inputs_status::Answer;
 use inputs_status::InputStatus;
-use lending::fit;
 use lending::lengths;
 use protocol::scan::ends;
 use protocol::words::LOST;

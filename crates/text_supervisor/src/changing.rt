@@ -4,7 +4,7 @@ use crate::Supervisor;
 use crate::answered;
 use crate::buckets_in;
 use crate::unread;
-use lending::fit;
+use base::least_usize;
 use lending::lengths;
 use protocol::scan::ends;
 use record::InputsAnswer;
@@ -28,12 +28,12 @@ fn routed(
     commands: &mut [u32],
 ) -> InputsAnswer {
     let z = lengths(inputs.count, buckets_in(inputs), short);
-    let a = fit(z.seconds, starts.len());
-    let b = fit(z.seconds, totals.len());
-    let c = fit(z.counts, counts.len());
-    let d = fit(z.peaks, times.len());
-    let e = fit(z.peaks, lags.len());
-    let f = fit(z.words, commands.len());
+    let a = least_usize(z.seconds, starts.len());
+    let b = least_usize(z.seconds, totals.len());
+    let c = least_usize(z.counts, counts.len());
+    let d = least_usize(z.peaks, times.len());
+    let e = least_usize(z.peaks, lags.len());
+    let f = least_usize(z.words, commands.len());
     let wanted = asked.wanted;
     let world = asked.world;
     inputs_route::route(
@@ -141,12 +141,12 @@ fn updated(
     commands: &mut [u32],
 ) -> InputsAnswer {
     let z = lengths(inputs.count, buckets_in(inputs), short);
-    let a = fit(z.seconds, starts.len());
-    let b = fit(z.seconds, totals.len());
-    let c = fit(z.counts, counts.len());
-    let d = fit(z.peaks, times.len());
-    let e = fit(z.peaks, lags.len());
-    let f = fit(z.words, commands.len());
+    let a = least_usize(z.seconds, starts.len());
+    let b = least_usize(z.seconds, totals.len());
+    let c = least_usize(z.counts, counts.len());
+    let d = least_usize(z.peaks, times.len());
+    let e = least_usize(z.peaks, lags.len());
+    let f = least_usize(z.words, commands.len());
     let kind = asked.kind;
     inputs_update::update(
         inputs,
@@ -253,12 +253,12 @@ fn confirmed(
     commands: &mut [u32],
 ) -> InputsAnswer {
     let z = lengths(inputs.count, buckets_in(inputs), short);
-    let a = fit(z.seconds, starts.len());
-    let b = fit(z.seconds, totals.len());
-    let c = fit(z.counts, counts.len());
-    let d = fit(z.peaks, times.len());
-    let e = fit(z.peaks, lags.len());
-    let f = fit(z.words, commands.len());
+    let a = least_usize(z.seconds, starts.len());
+    let b = least_usize(z.seconds, totals.len());
+    let c = least_usize(z.counts, counts.len());
+    let d = least_usize(z.peaks, times.len());
+    let e = least_usize(z.peaks, lags.len());
+    let f = least_usize(z.words, commands.len());
     inputs_update::confirm_delay(
         inputs,
         input,

@@ -3,6 +3,7 @@ use crate::Done;
 use crate::Supervisor;
 use crate::buckets_in;
 use crate::unread;
+use base::product_usize;
 use delay_hold::DelayHold;
 use lag_window::LagWindow;
 use lending::places;
@@ -17,7 +18,6 @@ use text_alone::done;
 use text_calls::read_counters;
 use text_calls::read_delays;
 use text_parts::holds;
-use text_parts::lists::product;
 use text_parts::windows;
 
 // Input i with another slot.
@@ -79,7 +79,7 @@ fn hold_set(
     times: &mut [u64],
     lags: &mut [u32],
 ) -> holds::Crafted {
-    let first = product(i, DelayHold::PLACES);
+    let first = product_usize(i, DelayHold::PLACES);
     let a = places(first, DelayHold::PLACES, times.len());
     let b = places(first, DelayHold::PLACES, lags.len());
     let a0 = a.from;
@@ -119,7 +119,7 @@ fn seconds_set(
     totals: &mut [u64],
     counts: &mut [u32],
 ) -> windows::Crafted {
-    let first = product(i, LagWindow::SECONDS);
+    let first = product_usize(i, LagWindow::SECONDS);
     let a = places(first, LagWindow::SECONDS, starts.len());
     let b = places(first, LagWindow::SECONDS, totals.len());
     let a0 = a.from;
@@ -146,8 +146,8 @@ fn window_set(
     totals: &mut [u64],
     counts: &mut [u32],
 ) -> windows::Crafted {
-    let n = product(LagWindow::SECONDS, window.buckets);
-    let c = places(product(i, n), n, counts.len());
+    let n = product_usize(LagWindow::SECONDS, window.buckets);
+    let c = places(product_usize(i, n), n, counts.len());
     let c0 = c.from;
     let c1 = c.to;
     seconds_set(window, i, s, at, starts, totals, &mut counts[c0..c1])

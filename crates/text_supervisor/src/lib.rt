@@ -1,5 +1,6 @@
 // The calls on a supervisor (compare/README.md): each reads its words, is made on the part of the lists that it asks for, and its answer is
 // written. The lists have room for 16 inputs; `at` is the place after the call's name.
+use base::product_usize;
 use inputs_route::Wanted;
 use opening::World;
 use policy::DelayPolicy;
@@ -17,7 +18,6 @@ use text_alone::end;
 use text_alone::refused;
 use text_alone::windows::buckets;
 use text_parts::lists::part_u32;
-use text_parts::lists::product;
 
 pub mod asking;
 pub mod changing;
@@ -184,7 +184,7 @@ pub(crate) fn answered(
     }
     let inputs = answer.inputs;
     let a = accepted(out, place);
-    let words = part_u32(commands, 0, product(inputs.count, 12));
+    let words = part_u32(commands, 0, product_usize(inputs.count, 12));
     let b = show_record(
         out,
         a,

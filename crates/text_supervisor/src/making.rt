@@ -3,8 +3,9 @@ use crate::Done;
 use crate::Supervisor;
 use crate::answered;
 use crate::unread;
+use base::least_usize;
+use base::product_usize;
 use inputs_new::Settings;
-use lending::fit;
 use lending::lengths;
 use protocol::bytes::part;
 use protocol::scan::ends;
@@ -18,7 +19,6 @@ use text_calls::starts::read_delays;
 use text_calls::starts::read_kinds;
 use text_calls::starts::read_settings;
 use text_parts::lists::part_u32;
-use text_parts::lists::product;
 
 // The words of `new`: where the kinds begin, how many delays were loaded, and the place after all.
 pub struct NewWords {
@@ -46,12 +46,12 @@ fn made(
 ) -> InputsAnswer {
     let n = buckets(settings.read_offset, settings.delay_max, settings.width);
     let z = lengths(settings.count, n, short);
-    let a = fit(z.seconds, starts.len());
-    let b = fit(z.seconds, totals.len());
-    let c = fit(z.counts, counts.len());
-    let d = fit(z.peaks, times.len());
-    let e = fit(z.peaks, lags.len());
-    let f = fit(z.words, commands.len());
+    let a = least_usize(z.seconds, starts.len());
+    let b = least_usize(z.seconds, totals.len());
+    let c = least_usize(z.counts, counts.len());
+    let d = least_usize(z.peaks, times.len());
+    let e = least_usize(z.peaks, lags.len());
+    let f = least_usize(z.words, commands.len());
     inputs_new::new(
         settings,
         kinds,
@@ -153,7 +153,7 @@ pub fn new(
     }
     let settings = words.settings;
     let kinds = read_kinds(s, words.kinds, settings.count);
-    let flows = part(bytes, 0, product(words.loaded, FLOW_BYTES));
+    let flows = part(bytes, 0, product_usize(words.loaded, FLOW_BYTES));
     let delays = part_u32(loads, 0, words.loaded);
     new_loaded(
         supervisor,

@@ -4,7 +4,8 @@ use crate::Supervisor;
 use crate::buckets_in;
 use crate::show_record;
 use crate::unread;
-use lending::fit;
+use base::least_usize;
+use base::product_usize;
 use lending::lengths;
 use protocol::print::put_bit_after;
 use protocol::words::LOST;
@@ -15,7 +16,6 @@ use text_alone::refused;
 use text_calls::ticks::read_lags;
 use text_calls::ticks::read_looks;
 use text_parts::lists::part_u32;
-use text_parts::lists::product;
 use ticking::Look;
 use ticking::TickAnswer;
 
@@ -33,12 +33,12 @@ fn ticked(
     commands: &mut [u32],
 ) -> TickAnswer {
     let z = lengths(inputs.count, buckets_in(inputs), short);
-    let a = fit(z.seconds, starts.len());
-    let b = fit(z.seconds, totals.len());
-    let c = fit(z.counts, counts.len());
-    let d = fit(z.peaks, times.len());
-    let e = fit(z.peaks, peaks.len());
-    let f = fit(z.words, commands.len());
+    let a = least_usize(z.seconds, starts.len());
+    let b = least_usize(z.seconds, totals.len());
+    let c = least_usize(z.counts, counts.len());
+    let d = least_usize(z.peaks, times.len());
+    let e = least_usize(z.peaks, peaks.len());
+    let f = least_usize(z.words, commands.len());
     inputs_tick::tick(
         inputs,
         looks,
@@ -136,7 +136,7 @@ fn answered(
         };
     }
     let inputs = answer.inputs;
-    let words = part_u32(commands, 0, product(inputs.count, 12));
+    let words = part_u32(commands, 0, product_usize(inputs.count, 12));
     let left = Supervisor { made: true, inputs };
     Done {
         supervisor: left,

@@ -1,0 +1,2 @@
+-- The definitions that the contracts of `lending` cite.
+pub mod Lengths
