@@ -437,6 +437,8 @@ def bad_lines():
         "wquant 3ff0000000000000", "hnew 5", "!5", "!5 ", "!5 snore", "! ms 5", "ms\t5", "ms 5\t",
         "ms \u0663", "\u00fc", "dry", "dry ms 5", "flush", "full 0", "full 00",
     )
+    # A carriage return before the newline is no part of the line.
+    say("ms 5\r", "flush\r", "ms 5\r\r", "ms\r5", "\r")
 
 
 def calls():

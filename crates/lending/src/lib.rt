@@ -30,7 +30,7 @@ pub struct Span {
 }
 
 // One place less where lists are to be short.
-fn cut(length: usize, short: bool) -> usize
+pub fn cut(length: usize, short: bool) -> usize
     ensures { λ r. ⌜ r ≡ cutTo length short ⌝ }
 {
     if short {

@@ -88,6 +88,24 @@ pub fn look(input: &[u8], c: Cursor) -> Cursor {
     unfinished(c)
 }
 
+// Where the text of the line that was found ends: a carriage return before its newline is no part of it.
+fn text_end(input: &[u8], c: Cursor) -> usize {
+    let end = c.end;
+    if c.next <= end {
+        return end;
+    }
+    if end <= c.from {
+        return end;
+    }
+    if input.len() < end {
+        return end;
+    }
+    if input[end - 1] == b'\r' {
+        return end - 1;
+    }
+    end
+}
+
 // The line that was found. One that is too long is empty, and an empty line cannot be read.
 pub fn line(input: &[u8], c: Cursor) -> &[u8] {
     if c.dropped {
@@ -96,7 +114,7 @@ pub fn line(input: &[u8], c: Cursor) -> &[u8] {
     if LONGEST < less_usize(c.end, c.from) {
         return part(input, 0, 0);
     }
-    part(input, c.from, c.end)
+    part(input, c.from, text_end(input, c))
 }
 
 // The line is answered.
