@@ -8,7 +8,8 @@ use native.Mathlib.Numerals.{add-one}
 use native.Mathlib.Nat.{le-antisymm, not-suc-le-zero, le-of-suc-le-suc, eq-or-lt-of-le}
 use native.Mathlib.Omega.{arith}
 use borrow.Author.Tests.{eq-eqb, ne-eqb, le-leb, lt-leb, not-true, not-false}
-use lib.Dec.{leb, eqb}
+use lib.Dec.{leb, eqb, eqb·suc-zero}
+use lib.Bits.{bitOr, or-add-and, and-le-r}
 use lib.ListN.{length, getD, drop, drop-of-length-le}
 use lib.Seq.{drop-cons}
 use Rattle.base.specs.Choice.{pick, both}
@@ -66,19 +67,27 @@ module _ (a : ℕ) (xs : List ℕ) where
   unfolding sumFrom
   from-end n i s e h l = sum-end _ n i s e h l
 
--- ---- blankFrom
-module _ (xs : List ℕ) (k i : ℕ) (e : blankFrom k xs ≡ blankFrom i xs) where
-  pub blank-more : i < length xs → getD xs i 0 ≡ 0 → blankFrom k xs ≡ blankFrom (i + 1) xs
-  unfolding blankFrom
-  blank-more l z = rw (e, add-one, drop-cons xs i 0, z)
+-- ---- blankFrom, by the bits of the numbers passed
+le-or : (a b : ℕ) → a ≤ bitOr a b
+le-or a b = omega (arith, or-add-and a b, and-le-r a b)
 
-  pub blank-stop : i < length xs → (getD xs i 0 ≡ 0 → ⊥) → false ≡ blankFrom k xs
-  unfolding blankFrom
-  blank-stop l z = rw (e, drop-cons xs i 0, ne-eqb (getD xs i 0) 0)
+-- bits joined are 0 exactly where both numbers are
+or-blank : (a b : ℕ) (x : Bool) → pick (eqb a 0) (pick (eqb b 0) x false) false ≡ pick (eqb (bitOr a b) 0) x false
+or-blank zero b x = refl
+or-blank (suc a) b x = rw (eqb·suc-zero a, ne-eqb (bitOr (suc a) b) 0 (λ e. omega (arith, le-or (suc a) b, e)))
 
-  pub blank-end : length xs ≤ i → true ≡ blankFrom k xs
+module _ (xs : List ℕ) (k i bits : ℕ) (e : blankFrom k xs ≡ pick (eqb bits 0) (blankFrom i xs) false) where
+  pub blank-more : i < length xs → blankFrom k xs ≡ pick (eqb (bitOr bits (getD xs i 0)) 0) (blankFrom (i + 1) xs) false
   unfolding blankFrom
-  blank-end l = rw (e, drop-of-length-le xs l)
+  blank-more l = rw (e, add-one, drop-cons xs i 0) (or-blank bits (getD xs i 0) (allZero (drop (suc i) xs)))
+
+  pub blank-end : length xs ≤ i → eqb bits 0 ≡ blankFrom k xs
+  unfolding blankFrom
+  blank-end l = rw (e, drop-of-length-le xs l) (same (eqb bits 0))
+    where
+      same : (b : Bool) → b ≡ pick b true false
+      same true = refl
+      same false = refl
 
 -- ---- a row of tests, each told by a call or a comparison
 pub both-yes : (a b q : Bool) → a ≡ true → q ≡ b → q ≡ both a b

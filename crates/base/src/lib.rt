@@ -1,7 +1,8 @@
 // What every crate shares: differences that stop at 0, the smaller and the larger, and work on lent lists of numbers.
 ghost use mathlib.Core.Path.{_≡_};
+ghost use mathlib.Core.List.{_++_};
 ghost use Prim.Native.Nat.{_+_, _-_, _*_, _^_, min, max};
-ghost use lib.ListN.{length, getD, replicate};
+ghost use lib.ListN.{length, getD, take, replicate};
 ghost use Rattle.base.specs.Lists.{shifted, blankFrom};
 
 // Functions that ask something of their caller.
@@ -101,87 +102,99 @@ pub fn place_u32(s: &[u32], i: usize) -> u32
     if i < s.len() { s[i] } else { 0 }
 }
 
-// The first k numbers go, the others move down, and zeros come at the end.
+// Every place from k on becomes zero.
+fn zero_from_u64(s: &mut [u64], k: usize)
+    ensures { λ _. ⌜ now (s .exit) ≡ take k (now (s .entry)) ++ replicate (length (now (s .entry)) - k) 0 ⌝ }
+{
+    let n = s.len();
+    let mut i = k;
+    while i < n {
+        s[i] = 0;
+        i += 1;
+    }
+}
+
+fn zero_from_u32(s: &mut [u32], k: usize)
+    ensures { λ _. ⌜ now (s .exit) ≡ take k (now (s .entry)) ++ replicate (length (now (s .entry)) - k) 0 ⌝ }
+{
+    let n = s.len();
+    let mut i = k;
+    while i < n {
+        s[i] = 0;
+        i += 1;
+    }
+}
+
+// The first k numbers go, the others move down, and zeros come at the end. Moves and zeros have a loop each, without a test in it, so that
+// the compiler may take several places at once; where none goes, nothing is written.
 pub fn shift_u64(s: &mut [u64], k: usize)
     ensures { λ _. ⌜ now (s .exit) ≡ shifted k (now (s .entry)) ⌝ }
 {
-    let n = s.len();
-    let mut i = 0;
-    while i < n {
-        if k < n - i {
-            s[i] = s[i + k];
-            i += 1;
-        } else {
-            s[i] = 0;
-            i += 1;
-        }
+    if k == 0 {
+        return;
     }
+    let n = s.len();
+    let kept = if k < n { n - k } else { 0 };
+    let mut i = 0;
+    while i < kept {
+        s[i] = s[i + k];
+        i += 1;
+    }
+    zero_from_u64(s, kept);
 }
 
 pub fn shift_u32(s: &mut [u32], k: usize)
     ensures { λ _. ⌜ now (s .exit) ≡ shifted k (now (s .entry)) ⌝ }
 {
-    let n = s.len();
-    let mut i = 0;
-    while i < n {
-        if k < n - i {
-            s[i] = s[i + k];
-            i += 1;
-        } else {
-            s[i] = 0;
-            i += 1;
-        }
+    if k == 0 {
+        return;
     }
+    let n = s.len();
+    let kept = if k < n { n - k } else { 0 };
+    let mut i = 0;
+    while i < kept {
+        s[i] = s[i + k];
+        i += 1;
+    }
+    zero_from_u32(s, kept);
 }
 
 // Every place becomes zero.
 pub fn zero_u64(s: &mut [u64])
     ensures { λ _. ⌜ now (s .exit) ≡ replicate (length (now (s .entry))) 0 ⌝ }
 {
-    let n = s.len();
-    let mut i = 0;
-    while i < n {
-        s[i] = 0;
-        i += 1;
-    }
+    zero_from_u64(s, 0);
 }
 
 pub fn zero_u32(s: &mut [u32])
     ensures { λ _. ⌜ now (s .exit) ≡ replicate (length (now (s .entry))) 0 ⌝ }
 {
-    let n = s.len();
-    let mut i = 0;
-    while i < n {
-        s[i] = 0;
-        i += 1;
-    }
+    zero_from_u32(s, 0);
 }
 
-// Every place from k on is zero.
+// Every place from k on is zero. The loop joins the bits and has no exit on the way, so that the compiler may read several places at once.
 pub fn blank_u64(s: &[u64], k: usize) -> bool
     ensures { λ r. ⌜ r ≡ blankFrom k (now (s .entry)) ⌝ }
 {
     let n = s.len();
+    let mut bits: u64 = 0;
     let mut i = k;
     while i < n {
-        if s[i] != 0 {
-            return false;
-        }
+        bits = bits | s[i];
         i += 1;
     }
-    true
+    bits == 0
 }
 
 pub fn blank_u32(s: &[u32], k: usize) -> bool
     ensures { λ r. ⌜ r ≡ blankFrom k (now (s .entry)) ⌝ }
 {
     let n = s.len();
+    let mut bits: u32 = 0;
     let mut i = k;
     while i < n {
-        if s[i] != 0 {
-            return false;
-        }
+        bits = bits | s[i];
         i += 1;
     }
-    true
+    bits == 0
 }
