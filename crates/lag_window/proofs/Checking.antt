@@ -1,47 +1,36 @@
--- Row sums equal to totals, as the loop that checks them goes. Assumes nothing.
-use Prim.Native.Nat.{ℕ, zero, suc, _+_, _-_, _<_, _≤_}
+-- Row sums equal to totals, as the loop that checks them goes, and a row of zeros. Assumes nothing.
+use Prim.Native.Nat.{ℕ, _+_, _<_, _≤_}
 use mathlib.Core.Bool.{Bool, true, false, not}
-use mathlib.Core.Path.{_≡_, refl, sym, _∙_}
+use mathlib.Core.Path.{_≡_, sym, _∙_}
 use mathlib.Core.List.{List}
 use native.Mathlib.Omega.{arith}
 use borrow.Author.Tests.{eq-eqb, ne-eqb, le-leb, lt-leb}
 use lib.Dec.{eqb}
-use lib.ListN.{getD, drop, length-take}
-use lib.Seq.{getD-take, getD-drop}
+use lib.ListN.{getD, length-take}
 use Rattle.base.specs.Choice.{both}
 use Rattle.base.specs.Lists.{part, blankFrom, sumFrom, rowSum}
 use Rattle.base.proofs.All.{all-none, all-more, all-stop, all-end, told-yes, told-no}
 use Rattle.base.proofs.Choices.{by-bool, by-le}
+use Rattle.base.proofs.Patch.{part-at}
 use Rattle.base.proofs.Points.{blank-at, blank-intro, past-end, sum-zero, sum-at-le}
+use Rattle.base.proofs.Tests.{not-both}
 use Rattle.lag_window.specs.Whole.{summed}
 
--- numbers have the sum 0 where all of them are 0
+-- a part of a list has the sum 0 exactly where it is blank
 module _ (a n : ℕ) (xs : List ℕ) where
-  part-at : (i : ℕ) → i < n → getD (part a n xs) i 0 ≡ getD xs (a + i) 0
-  part-at i l = getD-take n (drop a xs) i 0 l ∙ getD-drop a xs i 0
-
-  zeros-sum : blankFrom 0 (part a n xs) ≡ true → sumFrom a n xs ≡ 0
+  blank-sum : blankFrom 0 (part a n xs) ≡ true → sumFrom a n xs ≡ 0
   unfolding sumFrom
-  zeros-sum h = sum-zero _ n (λ i l. sym (part-at i l) ∙ blank-at 0 (part a n xs) h i (omega arith))
+  blank-sum h = sum-zero _ n (λ i l. sym (part-at a n xs i l) ∙ blank-at 0 (part a n xs) h i (omega arith))
 
-  sum-zeros : sumFrom a n xs ≡ 0 → blankFrom 0 (part a n xs) ≡ true
+  sum-blank : sumFrom a n xs ≡ 0 → blankFrom 0 (part a n xs) ≡ true
   unfolding sumFrom
-  sum-zeros h = blank-intro 0 (part a n xs) (λ i z. by-le n i (beyond i) (λ l. part-at i l ∙ within i l))
+  sum-blank h = blank-intro 0 (part a n xs) (λ i z. by-le n i (λ l. past-end (part a n xs) i (simp length-take (omega arith))) (λ l. part-at a n xs i l ∙ inside i l))
     where
-      beyond : (i : ℕ) → n ≤ i → getD (part a n xs) i 0 ≡ 0
-      beyond i l = past-end (part a n xs) i (simp length-take (omega arith))
-
-      within : (i : ℕ) → i < n → getD xs (a + i) 0 ≡ 0
-      within i l = omega (arith, h, sum-at-le (λ b. getD xs (a + b) 0) n i l)
-
-  blank-is : blankFrom 0 (part a n xs) ≡ eqb (sumFrom a n xs) 0
-  blank-is = by-bool (blankFrom 0 (part a n xs)) (λ h. h ∙ sym (eq-eqb _ _ (zeros-sum h))) (λ h. h ∙ sym (ne-eqb _ _ (λ s. false-true (sym h ∙ sum-zeros s))))
-    where
-      false-true : false ≡ true → ⊥
-      false-true e = let z : _≡_ {A = ℕ} 0 1 = cc in omega arith
+      inside : (i : ℕ) → i < n → getD xs (a + i) 0 ≡ 0
+      inside i l = omega (arith, h, sum-at-le (λ b. getD xs (a + b) 0) n i l)
 
   pub blank-sums : (k total : ℕ) (r : Bool) → k ≡ n → total ≡ 0 → r ≡ blankFrom 0 (part a k xs) → r ≡ eqb (sumFrom a n xs) total
-  blank-sums k total r q z e = rw z ((rw q at e) ∙ blank-is)
+  blank-sums k total r q z e = rw z ((rw q at e) ∙ by-bool (blankFrom 0 (part a n xs)) (λ h. h ∙ sym (eq-eqb _ _ (blank-sum h))) (λ h. h ∙ sym (ne-eqb _ _ (λ s. not-both (sum-blank s) h))))
 
 module _ (B : ℕ) (ts cs : List ℕ) where
   pub summed-none : summed 0 B ts cs ≡ true

@@ -1,5 +1,5 @@
 -- A sum modulo 2^32 with all the bits of its numbers, as a loop goes, and where it is the sum itself. Assumes nothing.
-use Prim.Native.Nat.{ℕ, suc, _+_, _*_, _%_, _<_, _≤_}
+use Prim.Native.Nat.{ℕ, _+_, _*_, _%_, _<_, _≤_}
 use mathlib.Core.Path.{_≡_, refl}
 use mathlib.Core.List.{List}
 use native.Mathlib.Nat.{le-antisymm, mul-le-mul, mul-le-mul-left, suc-mul}
@@ -10,12 +10,12 @@ use lib.ListN.{getD}
 use Rattle.base.specs.Lists.{sumFrom}
 use Rattle.base.proofs.All.{from-none, from-more}
 
--- ---- all the bits of two numbers make a number that is at least either
-or-ge-l : (x y : ℕ) → x ≤ bitOr x y
-or-ge-l x y = omega (arith, or-add-and x y, and-le-r x y)
+-- two numbers are at most their bits joined
+le-or-l : (x y : ℕ) → x ≤ bitOr x y
+le-or-l x y = omega (arith, or-add-and x y, and-le-r x y)
 
-or-ge-r : (x y : ℕ) → y ≤ bitOr x y
-or-ge-r x y = omega (arith, or-add-and x y, and-le-l x y)
+le-or-r : (x y : ℕ) → y ≤ bitOr x y
+le-or-r x y = omega (arith, or-add-and x y, and-le-l x y)
 
 module _ (a : ℕ) (xs : List ℕ) where
   pub tally-none : 0 ≡ sumFrom a 0 xs % 4294967296
@@ -32,8 +32,8 @@ module _ (a : ℕ) (xs : List ℕ) where
       rw (add-one b) (omega (
         arith,
         rw (add-one b) at (from-more a xs b (sumFrom a b xs) v refl h),
-        mul-le-mul-left b (or-ge-l bits v),
-        or-ge-r bits v,
+        mul-le-mul-left b (le-or-l bits v),
+        le-or-r bits v,
         suc-mul b (bitOr bits v),
       ))
 
