@@ -16,7 +16,7 @@ use base::core::spaced;
 use base::core::span;
 use base::core::up_to_u64;
 
-// Whether the n counts from a on have this sum. A sum of 0 has zeros only, which needs no adding.
+// Whether the n counts from a on have the sum total. Where it is 0 all must be zero, as in each unused row, and nothing is added.
 fn row_sums(total: u64, counts: &[u32], a: usize, n: usize) -> bool
     requires { ⌜ (a + n ≤ length (now counts)) × (n ≤ 4096) ⌝ }
     ensures { λ r. ⌜ r ≡ eqb (sumFrom a n (now (counts .entry))) total ⌝ }

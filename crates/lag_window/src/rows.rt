@@ -16,13 +16,13 @@ fn wide(x: u32) -> u64
     x as u64
 }
 
-// The sum of some numbers modulo 2^32, and all the bits that they have.
+// The sum of some numbers modulo 2^32, and all their bits joined.
 struct Tally {
     sum: u32,
     bits: u32,
 }
 
-// The n numbers from a on. Sums of 32 bits, which wrap, cost half of what sums of 64 bits cost; the bits tell whether one wrapped.
+// The n numbers from a on. To add in 32 bits takes half the work of 64 bits, but may wrap: no number is larger than the bits, which bound the sum.
 fn tally_from(s: &[u32], a: usize, n: usize) -> Tally
     requires { ⌜ (a + n ≤ length (now s)) × (n ≤ 4096) ⌝ }
     ensures { λ r. ⌜ (r .sum ≡ sumFrom a n (now (s .entry)) % 4294967296) × (sumFrom a n (now (s .entry)) ≤ n * r .bits) ⌝ }
@@ -39,7 +39,7 @@ fn tally_from(s: &[u32], a: usize, n: usize) -> Tally
     Tally { sum, bits }
 }
 
-// The sum of n numbers from a on, of any size.
+// The sum of n numbers from a on, in 64 bits.
 fn long_sum(s: &[u32], a: usize, n: usize) -> u64
     requires { ⌜ (a + n ≤ length (now s)) × (n ≤ 4096) ⌝ }
     ensures { λ r. ⌜ (r ≡ sumFrom a n (now (s .entry))) × (r ≤ n * 4294967295) ⌝ }
@@ -53,7 +53,7 @@ fn long_sum(s: &[u32], a: usize, n: usize) -> u64
     total
 }
 
-// The sum of n numbers from a on. 4,096 numbers below 2^20 have a sum below 2^32.
+// The sum of n numbers from a on. 4,096 numbers below 2^20 have a sum below 2^32, so that the one of 32 bits has not wrapped.
 pub(crate) fn sum_from(s: &[u32], a: usize, n: usize) -> u64
     requires { ⌜ (a + n ≤ length (now s)) × (n ≤ 4096) ⌝ }
     ensures { λ r. ⌜ (r ≡ sumFrom a n (now (s .entry))) × (r ≤ n * 4294967295) ⌝ }
