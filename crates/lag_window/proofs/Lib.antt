@@ -7,6 +7,7 @@ pub mod Pushing
 pub mod Checking
 pub mod Wholes
 pub mod Sums
+pub mod Tallies
 pub mod Totals
 pub mod Reaching
 pub mod Numbers

@@ -1,7 +1,7 @@
 // The rows of counts, summed along memory, and the quantile of the lags that they count.
 ghost use mathlib.Core.Path.{_≡_};
 ghost use mathlib.Core.List.{[]};
-ghost use Prim.Native.Nat.{_+_, _*_, _/_, _≤_, _<_, min};
+ghost use Prim.Native.Nat.{_+_, _*_, _/_, _%_, _≤_, _<_, min};
 ghost use lib.ListN.{length};
 ghost use Rattle.base.specs.Lists.{sumFrom};
 ghost use Rattle.lag_window.specs.Window.{lent};
@@ -16,8 +16,31 @@ fn wide(x: u32) -> u64
     x as u64
 }
 
-// The sum of n numbers from a on.
-pub(crate) fn sum_from(s: &[u32], a: usize, n: usize) -> u64
+// The sum of some numbers modulo 2^32, and all their bits joined.
+struct Tally {
+    sum: u32,
+    bits: u32,
+}
+
+// The n numbers from a on. To add in 32 bits takes half the work of 64 bits, but may wrap: no number is larger than the bits, which bound the sum.
+fn tally_from(s: &[u32], a: usize, n: usize) -> Tally
+    requires { ⌜ (a + n ≤ length (now s)) × (n ≤ 4096) ⌝ }
+    ensures { λ r. ⌜ (r .sum ≡ sumFrom a n (now (s .entry)) % 4294967296) × (sumFrom a n (now (s .entry)) ≤ n * r .bits) ⌝ }
+{
+    let mut sum: u32 = 0;
+    let mut bits: u32 = 0;
+    let mut b = 0;
+    while b < n {
+        let x = s[a + b];
+        sum = std::num::wrapping_add_u32(sum, x);
+        bits = bits | x;
+        b += 1;
+    }
+    Tally { sum, bits }
+}
+
+// The sum of n numbers from a on, in 64 bits.
+fn long_sum(s: &[u32], a: usize, n: usize) -> u64
     requires { ⌜ (a + n ≤ length (now s)) × (n ≤ 4096) ⌝ }
     ensures { λ r. ⌜ (r ≡ sumFrom a n (now (s .entry))) × (r ≤ n * 4294967295) ⌝ }
 {
@@ -28,6 +51,18 @@ pub(crate) fn sum_from(s: &[u32], a: usize, n: usize) -> u64
         b += 1;
     }
     total
+}
+
+// The sum of n numbers from a on. 4,096 numbers below 2^20 have a sum below 2^32, so that the one of 32 bits has not wrapped.
+pub(crate) fn sum_from(s: &[u32], a: usize, n: usize) -> u64
+    requires { ⌜ (a + n ≤ length (now s)) × (n ≤ 4096) ⌝ }
+    ensures { λ r. ⌜ (r ≡ sumFrom a n (now (s .entry))) × (r ≤ n * 4294967295) ⌝ }
+{
+    let t = tally_from(s, a, n);
+    if t.bits < 1_048_576 {
+        return wide(t.sum);
+    }
+    long_sum(s, a, n)
 }
 
 // b times the width.

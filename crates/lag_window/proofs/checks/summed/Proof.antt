@@ -26,12 +26,12 @@ summed-spec =
     (λ c. search needs)  -- mul-if1
     (λ c. omega arith)  -- shared-slice-read-if1
     (λ c. search summed-stop-total)  -- returns
-    (λ c. search (row-fits, needs))  -- mul-sum-from
-    (λ c κs. (search (row-within, needs), omega arith))  -- sum-from-requires
-    (λ c. search needs)  -- mul-if2
-    (λ c. omega arith)  -- shared-slice-read-if2
-    (λ c. summed-stop-row _ _ _ _ _ _ (c .before .before .before .before .before .loop-test .taken) (c .before .before .before .if1 .left) (c .before .before .sum-from .ensures .0) (c .if2 .taken))  -- returns-2
+    (λ c. search needs)  -- mul-row-sums
+    (λ c. omega arith)  -- shared-slice-read-row-sums
+    (λ c. search (row-fits, needs))  -- mul-row-sums-2
+    (λ c κs. (search (row-within, needs), omega arith))  -- row-sums-requires
+    (λ c. search summed-stop-row)  -- returns-2
     (λ c. omega arith)  -- add-i
     (λ c. omega arith)  -- loop-less
-    (λ c. (omega arith, summed-more _ _ _ _ _ (c .before .before .before .before .before .before .loop .inv .1) (c .before .before .before .if1 .left) (c .before .before .sum-from .ensures .0) (c .if2 .left)))  -- loop-again
+    (λ c. (omega arith, summed-more _ _ _ _ _ (c .before .before .before .before .before .before .loop .inv .1) (c .before .before .before .if1 .left) (c .before .row-sums .ensures) (c .if2 .left)))  -- loop-again
     (λ c. search summed-end))  -- returns-3

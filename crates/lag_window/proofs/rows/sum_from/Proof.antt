@@ -1,32 +1,15 @@
 -- `lag_window::rows::sum_from` meets its contract. Assumes nothing.
-use Prim.Native.Nat.{_≤_, _-_, _*_}
-use native.Mathlib.Omega.{arith}
 use borrow.Author.Needs.{needs}
-use Rattle.base.proofs.All.{from-none, from-more, from-end}
-use Rattle.base.specs.Lists.{sumFrom}
-use mathlib.Core.Path.{_≡_}
+use Rattle.lag_window.proofs.Tallies.{tally-whole, tally-bound}
 use Rattle.lag_window.proofs.rows.sum_from.Statement.{statement}
 use Rattle.lag_window.proofs.rows.sum_from.Tie as tie
-
-abbrev Inv-loop : tie.InvT-loop
-Inv-loop s a n total₀ b₀ total b = (b ≤ n) × (total ≡ sumFrom a b s) × (total ≤ b * 4294967295)
-
-abbrev μ-loop : tie.MeasureT-loop
-μ-loop s a n total₀ b₀ total b = n - b
 
 pub sum-from-spec : {M : Type 1} → statement M
 sum-from-spec =
     tie.close
     (tie.spec
-    Inv-loop
-    μ-loop
-    (λ c. (omega arith, search from-none, omega arith))  -- loop-holds
-    (λ c. omega arith)  -- add-wide
-    (λ c. search needs)  -- mul-wide
-    (λ c. omega arith)  -- shared-slice-read-wide
-    (λ c κs. omega arith)  -- wide-requires
-    (λ c. omega arith)  -- add-total
-    (λ c. omega arith)  -- add-b
-    (λ c. omega arith)  -- loop-less
-    (λ c. (omega arith, search from-more, omega arith))  -- loop-again
-    (λ c. (search from-end, omega arith)))  -- returns
+    (λ c κs. search needs)  -- tally-from-requires
+    (λ c κs. search needs)  -- wide-requires
+    (λ c. (search tally-whole, search tally-bound))  -- returns
+    (λ c κs. search needs)  -- long-sum-requires
+    (λ c. search needs))  -- returns-2
