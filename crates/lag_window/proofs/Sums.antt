@@ -1,4 +1,4 @@
--- Sums over rows are sums over columns; a sum whose later terms are zero; bounds of sums. Of general use. Assumes nothing.
+-- Sums over rows are sums over columns; a sum in two parts; a sum whose later terms are zero; bounds of sums. Of general use. Assumes nothing.
 use Prim.Native.Nat.{ℕ, zero, suc, _+_, _*_, _-_, _<_, _≤_}
 use mathlib.Core.Path.{_≡_, refl, sym, ap, _∙_}
 use native.Mathlib.Nat.{not-suc-le-zero, suc-mul}
@@ -16,6 +16,11 @@ pub sum-swap : (f : ℕ → ℕ → ℕ) (m n : ℕ) → sum (λ r. sum (λ b. f
 unfolding sum
 sum-swap f m zero = sym (sum-zero (λ b. 0) m (λ i l. refl))
 sum-swap f m (suc n) = ap (λ (x : ℕ). x + sum (λ b. f n b) m) (sum-swap f m n) ∙ sym (sum-add (λ b. sum (λ r. f r b) n) (λ b. f n b) m)
+
+pub sum-split : (f : ℕ → ℕ) (m n : ℕ) → sum f (m + n) ≡ sum f m + sum (λ i. f (m + i)) n
+unfolding sum
+sum-split f m zero = let e : m + 0 ≡ m = omega arith in rw e (omega arith)
+sum-split f m (suc n) = let e : m + suc n ≡ suc (m + n) = omega arith in rw e (omega (arith, sum-split f m n))
 
 pub sum-past : (f : ℕ → ℕ) (m n : ℕ) → m ≤ n → ((i : ℕ) → m ≤ i → i < n → f i ≡ 0) → sum f n ≡ sum f m
 unfolding sum

@@ -1,10 +1,11 @@
 // The rows of counts, summed along memory, and the quantile of the lags that they count.
 ghost use mathlib.Core.Path.{_≡_};
 ghost use mathlib.Core.List.{[]};
-ghost use Prim.Native.Nat.{_+_, _*_, _/_, _≤_, _<_, min};
+ghost use Prim.Native.Nat.{_+_, _-_, _*_, _/_, _≤_, _<_, min};
 ghost use lib.ListN.{length};
 ghost use Rattle.base.specs.Lists.{sumFrom};
 ghost use Rattle.lag_window.specs.Window.{lent};
+ghost use Rattle.lag_window.specs.InPlace.{rowsFrom};
 ghost use Rattle.lag_window.specs.Quantile.{column, running, reach, quantileUpto, Placeable};
 use super::Found;
 use super::LagWindow;
@@ -62,6 +63,21 @@ fn shown(buckets: usize, width: u32, limit: u32) -> usize
     if m < buckets { m } else { buckets }
 }
 
+// The lags of k buckets from b on, in the n seconds.
+fn block(counts: &[u32], buckets: usize, b: usize, k: usize, n: usize) -> u64
+    requires { ⌜ (n ≤ 11) × (buckets ≤ 4096) × (b + k ≤ buckets) ⌝ }
+    requires { ⌜ length (now counts) ≡ 11 * buckets ⌝ }
+    ensures { λ r. ⌜ (r ≡ rowsFrom buckets b k n (now (counts .entry))) × (r ≤ 193514046443520) ⌝ }
+{
+    let mut total: u64 = 0;
+    let mut r = 0;
+    while r < n {
+        total += sum_from(counts, r * buckets + b, k);
+        r += 1;
+    }
+    total
+}
+
 // The lags in buckets that start at most at limit.
 fn total_upto(n: usize, buckets: usize, width: u32, limit: u32, counts: &[u32]) -> u64
     requires { ⌜ (n ≤ 11) × (buckets ≤ 4096) × (1 ≤ width) ⌝ }
@@ -69,24 +85,29 @@ fn total_upto(n: usize, buckets: usize, width: u32, limit: u32, counts: &[u32]) 
     ensures { λ r. ⌜ r ≡ running limit width buckets n (now (counts .entry)) buckets ⌝ }
 {
     let m = shown(buckets, width, limit);
-    let mut total: u64 = 0;
-    let mut r = 0;
-    while r < n {
-        total += sum_from(counts, r * buckets, m);
-        r += 1;
-    }
-    total
+    block(counts, buckets, 0, m, n)
 }
 
-// The first bucket where the running count reaches target.
-fn reached(n: usize, buckets: usize, width: u32, limit: u32, target: u64, counts: &[u32]) -> Found
+// The first bucket, of those from `from` on, where the running count reaches target; `before` is the running count up to there.
+fn reached_from(
+    n: usize,
+    buckets: usize,
+    width: u32,
+    limit: u32,
+    target: u64,
+    from: usize,
+    before: u64,
+    counts: &[u32],
+) -> Found
     requires { ⌜ (n ≤ 11) × (buckets ≤ 4096) × (1 ≤ width) ⌝ }
     requires { ⌜ length (now counts) ≡ 11 * buckets ⌝ }
-    ensures { λ r. ⌜ r ≡ reach target limit width buckets n (now (counts .entry)) buckets 0 ⌝ }
+    requires { ⌜ (from ≤ min buckets (limit / width + 1)) × (before ≤ from * 193514046443520) × (1 ≤ from → before < target) ⌝ }
+    requires { ⌜ before ≡ running limit width buckets n (now counts) from ⌝ }
+    ensures { λ r. ⌜ r ≡ reach target limit width buckets n (now (counts .entry)) (buckets - from) from ⌝ }
 {
     let m = shown(buckets, width, limit);
-    let mut seen: u64 = 0;
-    let mut b = 0;
+    let mut seen: u64 = before;
+    let mut b = from;
     while b < m {
         seen += column(counts, buckets, b, n);
         if target <= seen {
@@ -95,6 +116,27 @@ fn reached(n: usize, buckets: usize, width: u32, limit: u32, target: u64, counts
         b += 1;
     }
     Found::Nowhere
+}
+
+// The first bucket where the running count reaches target: blocks of 64 buckets are summed along memory,
+// and only the block that reaches it is walked bucket by bucket.
+fn reached(n: usize, buckets: usize, width: u32, limit: u32, target: u64, counts: &[u32]) -> Found
+    requires { ⌜ (n ≤ 11) × (buckets ≤ 4096) × (1 ≤ width) ⌝ }
+    requires { ⌜ length (now counts) ≡ 11 * buckets ⌝ }
+    ensures { λ r. ⌜ r ≡ reach target limit width buckets n (now (counts .entry)) buckets 0 ⌝ }
+{
+    let m = shown(buckets, width, limit);
+    let mut seen: u64 = 0;
+    let mut b = 0;
+    while b + 64 <= m {
+        let more = block(counts, buckets, b, 64, n);
+        if target <= seen + more {
+            return reached_from(n, buckets, width, limit, target, b, seen, counts);
+        }
+        seen += more;
+        b += 64;
+    }
+    reached_from(n, buckets, width, limit, target, b, seen, counts)
 }
 
 // The quantile q of the lags up to limit: one pass sums the rows, a second one finds the bucket.
