@@ -4,7 +4,7 @@ use mathlib.Core.Bool.{Bool, true, false}
 use mathlib.Core.Path.{_≡_, refl, sym, ap, _∙_}
 use mathlib.Core.List.{List}
 use native.Mathlib.Omega.{arith}
-use native.Mathlib.Nat.{zero-add, add-assoc, div-lt-iff-lt-mul, le-div-iff-mul-le}
+use native.Mathlib.Nat.{zero-add, div-lt-iff-lt-mul, le-div-iff-mul-le}
 use borrow.Author.Tests.{le-leb, lt-leb, eq-eqb, ne-eqb}
 use mir.Syntax.{w64}
 use mir.Val.{Fits}
@@ -22,9 +22,9 @@ use Rattle.lag_window.specs.declared.Quantile.{Quantile}
 use Rattle.lag_window.specs.declared.Quantile.the-variants.{End, None}
 use Rattle.lag_window.specs.declared.Found.{Found}
 use Rattle.lag_window.specs.declared.Found.the-variants.{At, Nowhere}
-use Rattle.lag_window.specs.Quantile.{column, within, running, reach, endOf, quantileIn}
+use Rattle.lag_window.specs.Quantile.{column, within, running, reach, endOf, quantileIn, ShortRows}
 use Rattle.lag_window.specs.InPlace.{rowsFrom}
-use Rattle.lag_window.proofs.Sums.{sum-swap, sum-split, sum-past}
+use Rattle.lag_window.proofs.Sums.{sum-swap, sum-split, sum-rises, sum-past, from-later, from-part}
 
 -- ---- the lags of one bucket
 module _ (B b : ℕ) (cs : List ℕ) where
@@ -55,18 +55,16 @@ module _ (B b k : ℕ) (cs : List ℕ) where
   rows-end n i s e h l = sum-end _ n i s e h l
 
   rows-columns : (n : ℕ) → rowsFrom B b k n cs ≡ sum (λ i. column B (b + i) n cs) k
-  unfolding rowsFrom sumFrom column
-  rows-columns n =
-      sum-swap (λ r i. getD cs (r * B + b + i) 0) k n
-      ∙ sum-cong _ _ k (λ i l. sum-cong _ _ n (λ r h. ap (λ (x : ℕ). getD cs x 0) (add-assoc (r * B) b i)))
+  unfolding rowsFrom column
+  rows-columns n = sum-cong _ _ n (λ r h. from-later (r * B) b k cs) ∙ sum-swap (λ r i. getD cs (r * B + (b + i)) 0) k n
 
 pub running-none : (limit W B n : ℕ) (cs : List ℕ) → 0 ≡ running limit W B n cs 0
 unfolding running
 running-none limit W B n cs = sum-none _
 
-running-rises : (limit W B n : ℕ) (cs : List ℕ) (b : ℕ) → running limit W B n cs b ≤ running limit W B n cs (b + 1)
+running-rises : (limit W B n : ℕ) (cs : List ℕ) (b c : ℕ) → b ≤ c → running limit W B n cs b ≤ running limit W B n cs c
 unfolding running
-running-rises limit W B n cs b = omega (arith, sum-more (within limit W B n cs) b _ _ refl refl)
+running-rises limit W B n cs b c h = sum-rises (within limit W B n cs) b c h
 
 -- ---- the buckets that start at most at the limit are the first min B (limit / W + 1)
 module _ (limit W B n : ℕ) (cs : List ℕ) (pos : 1 ≤ W) (m : ℕ) (em : m ≡ min B (limit / W + 1)) where
@@ -107,8 +105,7 @@ module _ (limit W B n : ℕ) (cs : List ℕ) (pos : 1 ≤ W) (m : ℕ) (em : m �
         let e : b + k + 1 ≡ b + suc k = omega arith in
         let q : B - (b + k) ≡ suc (B - (b + suc k)) = omega arith in
         let u : leb target (running limit W B n cs (b + suc k)) ≡ false = lt-leb target (running limit W B n cs (b + suc k)) t in
-        let rises : running limit W B n cs (b + k) ≤ running limit W B n cs (b + suc k) = rw e at (running-rises limit W B n cs (b + k)) in
-        below k (omega arith) (omega arith) ∙ rw (q, e, u)
+        below k (omega arith) (omega (arith, running-rises limit W B n cs (b + k) (b + suc k) (omega arith))) ∙ rw (q, e, u)
 
     pub reach-more : (s v : ℕ) → s ≡ running limit W B n cs b → v ≡ column B b n cs → b < m → s + v < target → whole ≡ reach target limit W B n cs (B - (b + 1)) (b + 1)
     reach-more s v e h l k = below 1 (omega arith) (rw (← running-more b s v e h l) k)
@@ -173,6 +170,10 @@ module _ (q : Float) (limit W B n : ℕ) (cs : List ℕ) (t : ℕ) (et : t ≡ r
 
     pub bucket-found : (b : ℕ) → found ≡ At b → b < B
     bucket-found b f = omega (arith, found-below target limit W B n cs B 0 b (sym ef ∙ f))
+
+-- a part of a short row fits 32 bits
+pub row-short : (r n B b k : ℕ) (cs : List ℕ) → ShortRows B n cs → r < n → b + k ≤ B → sumFrom (r * B + b) k cs ≤ 4294967295
+row-short r n B b k cs short h g = omega (arith, short r h, from-part (r * B) b k B cs g)
 
 -- k places of a row, from b on, stand in the list
 module _ (r n B L b k : ℕ) (h : r < n) (l : n ≤ 11) (e : L ≡ 11 * B) (g : b + k ≤ B) where

@@ -6,7 +6,7 @@ ghost use lib.ListN.{length};
 ghost use Rattle.base.specs.Lists.{sumFrom};
 ghost use Rattle.lag_window.specs.Window.{lent};
 ghost use Rattle.lag_window.specs.InPlace.{rowsFrom};
-ghost use Rattle.lag_window.specs.Quantile.{column, running, reach, quantileUpto, Placeable};
+ghost use Rattle.lag_window.specs.Quantile.{column, running, reach, quantileUpto, ShortRows, Placeable};
 use super::Found;
 use super::LagWindow;
 use super::Quantile;
@@ -29,6 +29,20 @@ pub(crate) fn sum_from(s: &[u32], a: usize, n: usize) -> u64
         b += 1;
     }
     total
+}
+
+// The sum of n numbers from a on, which fits 32 bits.
+fn short_sum(s: &[u32], a: usize, n: usize) -> u64
+    requires { ⌜ (a + n ≤ length (now s)) × (sumFrom a n (now s) ≤ 4294967295) ⌝ }
+    ensures { λ r. ⌜ (r ≡ sumFrom a n (now (s .entry))) × (r ≤ 4294967295) ⌝ }
+{
+    let mut total: u32 = 0;
+    let mut b = 0;
+    while b < n {
+        total += s[a + b];
+        b += 1;
+    }
+    wide(total)
 }
 
 // b times the width.
@@ -67,12 +81,13 @@ fn shown(buckets: usize, width: u32, limit: u32) -> usize
 fn block(counts: &[u32], buckets: usize, b: usize, k: usize, n: usize) -> u64
     requires { ⌜ (n ≤ 11) × (buckets ≤ 4096) × (b + k ≤ buckets) ⌝ }
     requires { ⌜ length (now counts) ≡ 11 * buckets ⌝ }
-    ensures { λ r. ⌜ (r ≡ rowsFrom buckets b k n (now (counts .entry))) × (r ≤ 193514046443520) ⌝ }
+    requires { ⌜ ShortRows buckets n (now counts) ⌝ }
+    ensures { λ r. ⌜ (r ≡ rowsFrom buckets b k n (now (counts .entry))) × (r ≤ 47244640245) ⌝ }
 {
     let mut total: u64 = 0;
     let mut r = 0;
     while r < n {
-        total += sum_from(counts, r * buckets + b, k);
+        total += short_sum(counts, r * buckets + b, k);
         r += 1;
     }
     total
@@ -82,6 +97,7 @@ fn block(counts: &[u32], buckets: usize, b: usize, k: usize, n: usize) -> u64
 fn total_upto(n: usize, buckets: usize, width: u32, limit: u32, counts: &[u32]) -> u64
     requires { ⌜ (n ≤ 11) × (buckets ≤ 4096) × (1 ≤ width) ⌝ }
     requires { ⌜ length (now counts) ≡ 11 * buckets ⌝ }
+    requires { ⌜ ShortRows buckets n (now counts) ⌝ }
     ensures { λ r. ⌜ r ≡ running limit width buckets n (now (counts .entry)) buckets ⌝ }
 {
     let m = shown(buckets, width, limit);
@@ -101,7 +117,7 @@ fn reached_from(
 ) -> Found
     requires { ⌜ (n ≤ 11) × (buckets ≤ 4096) × (1 ≤ width) ⌝ }
     requires { ⌜ length (now counts) ≡ 11 * buckets ⌝ }
-    requires { ⌜ (from ≤ min buckets (limit / width + 1)) × (before ≤ from * 193514046443520) × (1 ≤ from → before < target) ⌝ }
+    requires { ⌜ (from ≤ min buckets (limit / width + 1)) × (before ≤ from * 47244640245) × (1 ≤ from → before < target) ⌝ }
     requires { ⌜ before ≡ running limit width buckets n (now counts) from ⌝ }
     ensures { λ r. ⌜ r ≡ reach target limit width buckets n (now (counts .entry)) (buckets - from) from ⌝ }
 {
@@ -123,6 +139,7 @@ fn reached_from(
 fn reached(n: usize, buckets: usize, width: u32, limit: u32, target: u64, counts: &[u32]) -> Found
     requires { ⌜ (n ≤ 11) × (buckets ≤ 4096) × (1 ≤ width) ⌝ }
     requires { ⌜ length (now counts) ≡ 11 * buckets ⌝ }
+    requires { ⌜ ShortRows buckets n (now counts) ⌝ }
     ensures { λ r. ⌜ r ≡ reach target limit width buckets n (now (counts .entry)) buckets 0 ⌝ }
 {
     let m = shown(buckets, width, limit);

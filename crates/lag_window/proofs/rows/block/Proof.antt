@@ -1,7 +1,7 @@
 -- `lag_window::rows::block` meets its contract. Assumes nothing.
 use Prim.Native.Nat.{_≤_, _-_, _*_}
 use native.Mathlib.Omega.{arith}
-use Rattle.lag_window.proofs.Reaching.{row-part, part-fits}
+use Rattle.lag_window.proofs.Reaching.{row-part, row-short, part-fits}
 use Rattle.lag_window.proofs.Reaching.{rows-none, rows-more, rows-end}
 use Rattle.base.proofs.Flat.{row-fits}
 use Rattle.lag_window.specs.InPlace.{rowsFrom}
@@ -10,7 +10,7 @@ use Rattle.lag_window.proofs.rows.block.Statement.{statement}
 use Rattle.lag_window.proofs.rows.block.Tie as tie
 
 abbrev Inv-loop : tie.InvT-loop
-Inv-loop counts buckets b k n total₀ r₀ total r = (r ≤ n) × (total ≡ rowsFrom buckets b k r counts) × (total ≤ r * 17592186040320)
+Inv-loop counts buckets b k n total₀ r₀ total r = (r ≤ n) × (total ≡ rowsFrom buckets b k r counts) × (total ≤ r * 4294967295)
 
 abbrev μ-loop : tie.MeasureT-loop
 μ-loop counts buckets b k n total₀ r₀ total r = n - r
@@ -22,9 +22,9 @@ block-spec =
     Inv-loop
     μ-loop
     (λ c. (omega arith, search rows-none, omega arith))  -- loop-holds
-    (λ c. search row-fits)  -- mul-sum-from
-    (λ c. search part-fits)  -- add-sum-from
-    (λ c κs. (search row-part, omega arith))  -- sum-from-requires
+    (λ c. search row-fits)  -- mul-short-sum
+    (λ c. search part-fits)  -- add-short-sum
+    (λ c κs. (search row-part, search row-short))  -- short-sum-requires
     (λ c. omega arith)  -- add-total
     (λ c. omega arith)  -- add-r
     (λ c. omega arith)  -- loop-less

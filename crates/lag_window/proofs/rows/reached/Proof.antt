@@ -9,7 +9,7 @@ use Rattle.lag_window.proofs.rows.reached.Statement.{statement}
 use Rattle.lag_window.proofs.rows.reached.Tie as tie
 
 abbrev Inv-loop : tie.InvT-loop
-Inv-loop n buckets width limit target counts m seen₀ b₀ seen b = (b ≤ m) × (seen ≡ running limit width buckets n counts b) × (seen ≤ b * 193514046443520) × (1 ≤ b → seen < target) × (reach target limit width buckets n counts buckets 0 ≡ reach target limit width buckets n counts (buckets - b) b)
+Inv-loop n buckets width limit target counts m seen₀ b₀ seen b = (b ≤ m) × (seen ≡ running limit width buckets n counts b) × (seen ≤ b * 47244640245) × (1 ≤ b → seen < target) × (reach target limit width buckets n counts buckets 0 ≡ reach target limit width buckets n counts (buckets - b) b)
 
 abbrev μ-loop : tie.MeasureT-loop
 μ-loop n buckets width limit target counts m seen₀ b₀ seen b = m - b
@@ -23,7 +23,7 @@ reached-spec =
     (λ c κs. omega arith)  -- shown-requires
     (λ c. (omega arith, search running-none, omega arith, (λ h. absurd (omega arith)), rw sub-zero))  -- loop-holds
     (λ c. omega arith)  -- add-loop
-    (λ c κs. omega arith)  -- block-requires
+    (λ c κs. (omega arith, (omega arith, c .before .before .before .before .pre .1 .1)))  -- block-requires
     (λ c. omega arith)  -- add-if1
     (λ c κs. (omega arith, (omega arith, ((omega arith, omega arith, c .before .before .before .loop .inv .3), c .before .before .before .loop .inv .1))))  -- reached-from-requires
     (λ c. c .reached-from .ensures ∙ sym (c .before .before .before .before .loop .inv .4))  -- returns

@@ -8,7 +8,7 @@ use Rattle.lag_window.proofs.rows.reached_from.Statement.{statement}
 use Rattle.lag_window.proofs.rows.reached_from.Tie as tie
 
 abbrev Inv-loop : tie.InvT-loop
-Inv-loop n buckets width limit target from before counts m seen₀ b₀ seen b = (b ≤ m) × (seen ≡ running limit width buckets n counts b) × (seen ≤ b * 193514046443520) × (1 ≤ b → seen < target) × (reach target limit width buckets n counts (buckets - from) from ≡ reach target limit width buckets n counts (buckets - b) b)
+Inv-loop n buckets width limit target from before counts m seen₀ b₀ seen b = (b ≤ m) × (seen ≡ running limit width buckets n counts b) × (seen ≤ b * 47244640245) × (1 ≤ b → seen < target) × (reach target limit width buckets n counts (buckets - from) from ≡ reach target limit width buckets n counts (buckets - b) b)
 
 abbrev μ-loop : tie.MeasureT-loop
 μ-loop n buckets width limit target from before counts m seen₀ b₀ seen b = m - b

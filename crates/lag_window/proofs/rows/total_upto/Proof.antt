@@ -9,5 +9,5 @@ total-upto-spec =
     tie.close
     (tie.spec
     (λ c κs. omega arith)  -- shown-requires
-    (λ c κs. omega arith)  -- block-requires
+    (λ c κs. (omega arith, (omega arith, c .before .before .pre .1 .1)))  -- block-requires
     (λ c. search total-is))  -- returns
