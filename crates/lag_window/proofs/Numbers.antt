@@ -20,7 +20,7 @@ use Rattle.lag_window.specs.Whole.{wholeWindow, Shaped, Sound}
 use Rattle.lag_window.specs.Quantile.{quantileUpto, Placeable}
 use Rattle.lag_window.specs.Checks.{checked, newest, roomFor, fromZeroToOne, newNumber, pushNumber, quantileNumber, replied, nothing, newReply, pushReply, clearReply, spanReply, answered, quantileUptoReply}
 use Rattle.lag_window.proofs.WholeAt.{whole-of}
-use Rattle.lag_window.proofs.Totals.{total-few}
+use Rattle.lag_window.proofs.Totals.{total-few, rows-short}
 
 pub ruleset gate = (le-leb, lt-leb, eq-eqb, ne-eqb)
 
@@ -220,7 +220,7 @@ pub sound-placeable : (q : Float) (limit : ℕ) (w : Window) → Sound w → fro
 unfolding fromZeroToOne
 sound-placeable q limit w s h =
     let b = both-true _ _ h in
-    record { few = total-few limit w s; low = is (b .0); high = is (b .1) }
+    (record { few = total-few limit w s; low = is (b .0); high = is (b .1) }, rows-short w s)
   where
     is : {y : Bool} → y ≡ true → T y
     is e = rw e tt

@@ -1,4 +1,4 @@
--- Lists padded with zeros, shifted by nothing, and parts of lists. Of general use. Assumes nothing.
+-- Lists padded with zeros, and parts of lists. Of general use. Assumes nothing.
 use Prim.Native.Nat.{ℕ, _+_, _-_, _<_, _≤_, min}
 use mathlib.Core.Path.{_≡_, sym, ap, _∙_}
 use mathlib.Core.List.{List, _++_, append-nil, append-assoc}
@@ -29,10 +29,6 @@ padded-zeros n k xs h =
 
 pub padded-bumped : (n : ℕ) (xs : List ℕ) (i : ℕ) → i < length xs → bumped i (padded n xs) ≡ padded n (bumped i xs)
 padded-bumped n xs i h = ap (λ (v : ℕ). set (padded n xs) i (v + 1)) (getD-padded n xs i) ∙ padded-set n xs i (getD xs i 0 + 1) h
-
-pub shifted-none : (xs : List ℕ) → shifted 0 xs ≡ xs
-unfolding shifted
-shifted-none xs = let q : min 0 (length xs) ≡ 0 = omega arith in rw (q, append-nil)
 
 pub part-length : (a k : ℕ) (xs : List ℕ) → a + k ≤ length xs → length (part a k xs) ≡ k
 part-length a k xs h = simp (length-take, length-drop) (omega arith)

@@ -13,11 +13,11 @@ use lib.ListN.{length, getD, set}
 use Rattle.base.specs.Lists.{shifted}
 use Rattle.base.proofs.Choices.{by-le}
 use Rattle.base.proofs.Flat.{row-le, flat-lt}
+use Rattle.base.proofs.Toward.{shifted-zero}
 use Rattle.lag_window.specs.declared.LagWindow.{LagWindow}
 use Rattle.lag_window.specs.Window.{lent, stale, opens, bucketOf, counted}
 use Rattle.lag_window.specs.InPlace.{droppedInPlace, openedInPlace}
 use Rattle.lag_window.specs.Checks.{newestOf, roomOf}
-use Rattle.lag_window.proofs.Padding.{shifted-none}
 use Rattle.lag_window.proofs.Stales.{stale-le}
 
 -- ---- old seconds go: k of them
@@ -34,7 +34,7 @@ dropped-by w time k s s′ t t′ c c′ e es et ec = rw (← e, es, et, ec)
 
 pub dropped-none : (w : LagWindow) (time k : ℕ) (s t c : List ℕ) → k ≡ stale time (w .seconds) s → k ≡ 0 → lent w s t c ≡ droppedInPlace time (lent w s t c)
 unfolding droppedInPlace
-dropped-none w time k s t c e z = rw (← e, z, zero-mul, sub-zero, shifted-none, shifted-none, shifted-none)
+dropped-none w time k s t c e z = rw (← e, z, zero-mul, sub-zero, shifted-zero, shifted-zero, shifted-zero)
 
 -- ---- a second opens
 pub opens-some : (time n : ℕ) (xs : List ℕ) (a : ℕ) → (n ≡ 0 → ⊥) → a ≡ time - getD xs (n - 1) 0 → leb 1000000000 a ≡ opens time n xs

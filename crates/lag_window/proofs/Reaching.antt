@@ -1,11 +1,13 @@
 -- The sums and the search of a quantile, as the loops go: rows along memory, and only the buckets up to the limit. Assumes nothing.
-use Prim.Native.Nat.{ℕ, zero, suc, _+_, _-_, _*_, _/_, _<_, _≤_, min}
+use Prim.Native.Nat.{ℕ, zero, suc, _+_, _-_, _*_, _/_, _<_, _≤_, _^_, min}
 use mathlib.Core.Bool.{Bool, true, false}
 use mathlib.Core.Path.{_≡_, refl, sym, ap, _∙_}
 use mathlib.Core.List.{List}
 use native.Mathlib.Omega.{arith}
-use native.Mathlib.Nat.{div-lt-iff-lt-mul, le-div-iff-mul-le}
+use native.Mathlib.Nat.{zero-add, div-lt-iff-lt-mul, le-div-iff-mul-le}
 use borrow.Author.Tests.{le-leb, lt-leb, eq-eqb, ne-eqb}
+use mir.Syntax.{w64}
+use mir.Val.{Fits}
 use lib.Dec.{leb}
 use lib.Ieee.{Float}
 use lib.ListN.{getD}
@@ -20,9 +22,9 @@ use Rattle.lag_window.specs.declared.Quantile.{Quantile}
 use Rattle.lag_window.specs.declared.Quantile.the-variants.{End, None}
 use Rattle.lag_window.specs.declared.Found.{Found}
 use Rattle.lag_window.specs.declared.Found.the-variants.{At, Nowhere}
-use Rattle.lag_window.specs.Quantile.{column, within, running, reach, endOf, quantileIn}
-use Rattle.lag_window.specs.InPlace.{rowsUpto}
-use Rattle.lag_window.proofs.Sums.{sum-swap, sum-past}
+use Rattle.lag_window.specs.Quantile.{column, within, running, reach, endOf, quantileIn, ShortRows}
+use Rattle.lag_window.specs.InPlace.{rowsFrom}
+use Rattle.lag_window.proofs.Sums.{sum-swap, sum-split, sum-rises, sum-past, from-later, from-part}
 
 -- ---- the lags of one bucket
 module _ (B b : ℕ) (cs : List ℕ) where
@@ -38,23 +40,31 @@ module _ (B b : ℕ) (cs : List ℕ) where
   unfolding column
   column-end n i s e h l = sum-end _ n i s e h l
 
--- ---- the first m buckets of each row
-module _ (B m : ℕ) (cs : List ℕ) where
-  pub rows-none : 0 ≡ rowsUpto B m 0 cs
-  unfolding rowsUpto
+-- ---- k buckets of each row, from b on
+module _ (B b k : ℕ) (cs : List ℕ) where
+  pub rows-none : 0 ≡ rowsFrom B b k 0 cs
+  unfolding rowsFrom
   rows-none = sum-none _
 
-  pub rows-more : (i s v : ℕ) → s ≡ rowsUpto B m i cs → v ≡ sumFrom (i * B) m cs → s + v ≡ rowsUpto B m (i + 1) cs
-  unfolding rowsUpto
+  pub rows-more : (i s v : ℕ) → s ≡ rowsFrom B b k i cs → v ≡ sumFrom (i * B + b) k cs → s + v ≡ rowsFrom B b k (i + 1) cs
+  unfolding rowsFrom
   rows-more i s v e h = sum-more _ i s v e h
 
-  rows-end : (n i s : ℕ) → s ≡ rowsUpto B m i cs → i ≤ n → n ≤ i → s ≡ rowsUpto B m n cs
-  unfolding rowsUpto
+  pub rows-end : (n i s : ℕ) → s ≡ rowsFrom B b k i cs → i ≤ n → n ≤ i → s ≡ rowsFrom B b k n cs
+  unfolding rowsFrom
   rows-end n i s e h l = sum-end _ n i s e h l
 
-  rows-columns : (n : ℕ) → rowsUpto B m n cs ≡ sum (λ b. column B b n cs) m
-  unfolding rowsUpto sumFrom column
-  rows-columns n = sum-swap (λ r b. getD cs (r * B + b) 0) m n
+  rows-columns : (n : ℕ) → rowsFrom B b k n cs ≡ sum (λ i. column B (b + i) n cs) k
+  unfolding rowsFrom column
+  rows-columns n = sum-cong _ _ n (λ r h. from-later (r * B) b k cs) ∙ sum-swap (λ r i. getD cs (r * B + (b + i)) 0) k n
+
+pub running-none : (limit W B n : ℕ) (cs : List ℕ) → 0 ≡ running limit W B n cs 0
+unfolding running
+running-none limit W B n cs = sum-none _
+
+running-rises : (limit W B n : ℕ) (cs : List ℕ) (b c : ℕ) → b ≤ c → running limit W B n cs b ≤ running limit W B n cs c
+unfolding running
+running-rises limit W B n cs b c h = sum-rises (within limit W B n cs) b c h
 
 -- ---- the buckets that start at most at the limit are the first min B (limit / W + 1)
 module _ (limit W B n : ℕ) (cs : List ℕ) (pos : 1 ≤ W) (m : ℕ) (em : m ≡ min B (limit / W + 1)) where
@@ -71,24 +81,37 @@ module _ (limit W B n : ℕ) (cs : List ℕ) (pos : 1 ≤ W) (m : ℕ) (em : m �
   unfolding running
   running-past b l k = sum-past (within limit W B n cs) m b l (λ i g h. within-hidden i g (omega arith))
 
-  running-shown : running limit W B n cs m ≡ sum (λ b. column B b n cs) m
+  -- k buckets more, summed along memory
+  pub running-block : (b k s v : ℕ) → s ≡ running limit W B n cs b → v ≡ rowsFrom B b k n cs → b + k ≤ m → s + v ≡ running limit W B n cs (b + k)
   unfolding running
-  running-shown = sum-cong (within limit W B n cs) (λ b. column B b n cs) m within-shown
+  running-block b k s v e h l =
+      let split : sum (within limit W B n cs) (b + k) ≡ sum (within limit W B n cs) b + sum (λ i. within limit W B n cs (b + i)) k = sum-split (within limit W B n cs) b k in
+      let shown : sum (λ i. within limit W B n cs (b + i)) k ≡ sum (λ i. column B (b + i) n cs) k = sum-cong _ _ k (λ i g. within-shown (b + i) (omega arith)) in
+      omega (arith, split, shown, e, h, rows-columns B b k cs n)
 
-  pub total-end : (i s : ℕ) → s ≡ rowsUpto B m i cs → i ≤ n → n ≤ i → s ≡ running limit W B n cs B
-  total-end i s e h l = rows-end B m cs n i s e h l ∙ (rows-columns B m cs n ∙ (sym running-shown ∙ sym (running-past B (omega arith) (omega arith))))
+  pub total-is : (v : ℕ) → v ≡ rowsFrom B 0 m n cs → v ≡ running limit W B n cs B
+  total-is v e = simp zero-add at (running-block 0 m 0 v (running-none limit W B n cs) e (omega arith)) ∙ sym (running-past B (omega arith) (omega arith))
 
   pub running-more : (b s v : ℕ) → s ≡ running limit W B n cs b → v ≡ column B b n cs → b < m → s + v ≡ running limit W B n cs (b + 1)
   unfolding running
   running-more b s v e h l = sum-more (within limit W B n cs) b s v e (h ∙ sym (within-shown b l))
 
   module _ (target : ℕ) (whole : Found) (b : ℕ) (inv : whole ≡ reach target limit W B n cs (B - b) b) where
-    pub reach-more : (s v : ℕ) → s ≡ running limit W B n cs b → v ≡ column B b n cs → b < m → s + v < target → whole ≡ reach target limit W B n cs (B - (b + 1)) (b + 1)
+    -- a running count below the target: nothing is reached in the buckets that it counts
+    below : (k : ℕ) → b + k ≤ B → running limit W B n cs (b + k) < target → whole ≡ reach target limit W B n cs (B - (b + k)) (b + k)
     unfolding reach
-    reach-more s v e h l k =
-        let q : B - b ≡ suc (B - (b + 1)) = omega arith in
-        let u : leb target (running limit W B n cs (b + 1)) ≡ false = rw (← running-more b s v e h l) (lt-leb target (s + v) k) in
-        inv ∙ rw (q, u)
+    below zero l t = let e : b + 0 ≡ b = omega arith in rw e inv
+    below (suc k) l t =
+        let e : b + k + 1 ≡ b + suc k = omega arith in
+        let q : B - (b + k) ≡ suc (B - (b + suc k)) = omega arith in
+        let u : leb target (running limit W B n cs (b + suc k)) ≡ false = lt-leb target (running limit W B n cs (b + suc k)) t in
+        below k (omega arith) (omega (arith, running-rises limit W B n cs (b + k) (b + suc k) (omega arith))) ∙ rw (q, e, u)
+
+    pub reach-more : (s v : ℕ) → s ≡ running limit W B n cs b → v ≡ column B b n cs → b < m → s + v < target → whole ≡ reach target limit W B n cs (B - (b + 1)) (b + 1)
+    reach-more s v e h l k = below 1 (omega arith) (rw (← running-more b s v e h l) k)
+
+    pub reach-block : (d s v : ℕ) → s ≡ running limit W B n cs b → v ≡ rowsFrom B b d n cs → b + d ≤ m → s + v < target → whole ≡ reach target limit W B n cs (B - (b + d)) (b + d)
+    reach-block d s v e h l k = below d (omega arith) (rw (← running-block b d s v e h l) k)
 
     pub reach-stop : (s v : ℕ) → s ≡ running limit W B n cs b → v ≡ column B b n cs → b < m → target ≤ s + v → At b ≡ whole
     unfolding reach
@@ -114,10 +137,6 @@ module _ (limit W B n : ℕ) (cs : List ℕ) (pos : 1 ≤ W) (m : ℕ) (em : m �
 
         done : B ≤ b → Nowhere ≡ whole
         done g = let q : B - b ≡ 0 = omega arith in sym (inv ∙ rw q)
-
-pub running-none : (limit W B n : ℕ) (cs : List ℕ) → 0 ≡ running limit W B n cs 0
-unfolding running
-running-none limit W B n cs = sum-none _
 
 -- ---- the quantile
 -- a bucket that is found is one of the buckets
@@ -152,6 +171,14 @@ module _ (q : Float) (limit W B n : ℕ) (cs : List ℕ) (t : ℕ) (et : t ≡ r
     pub bucket-found : (b : ℕ) → found ≡ At b → b < B
     bucket-found b f = omega (arith, found-below target limit W B n cs B 0 b (sym ef ∙ f))
 
--- the first m places of a row stand in the list
-pub row-part : (r n B L m k : ℕ) → r < n → n ≤ 11 → L ≡ 11 * B → m ≡ min B k → r * B + m ≤ L
-row-part r n B L m k h l e em = omega (arith, row-within r n B L h l e)
+-- a part of a short row fits 32 bits
+pub row-short : (r n B b k : ℕ) (cs : List ℕ) → ShortRows B n cs → r < n → b + k ≤ B → sumFrom (r * B + b) k cs ≤ 4294967295
+row-short r n B b k cs short h g = omega (arith, short r h, from-part (r * B) b k B cs g)
+
+-- k places of a row, from b on, stand in the list
+module _ (r n B L b k : ℕ) (h : r < n) (l : n ≤ 11) (e : L ≡ 11 * B) (g : b + k ≤ B) where
+  pub row-part : r * B + b + k ≤ L
+  row-part = omega (arith, row-within r n B L h l e)
+
+  pub part-fits : L < 2 ^ 64 → Fits w64 (r * B + b)
+  part-fits f = omega (arith, row-within r n B L h l e)

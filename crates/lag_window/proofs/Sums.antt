@@ -1,11 +1,16 @@
--- Sums over rows are sums over columns; a sum whose later terms are zero; bounds of sums. Of general use. Assumes nothing.
+-- Sums over rows are sums over columns; a sum in two parts; a longer sum is no less; a sum whose later terms are zero; bounds of sums. Of general use. Assumes nothing.
 use Prim.Native.Nat.{ℕ, zero, suc, _+_, _*_, _-_, _<_, _≤_}
 use mathlib.Core.Path.{_≡_, refl, sym, ap, _∙_}
-use native.Mathlib.Nat.{not-suc-le-zero, suc-mul}
+use mathlib.Core.List.{List}
+use native.Mathlib.Nat.{add-assoc, not-suc-le-zero, suc-mul}
 use native.Mathlib.Omega.{arith}
-use Rattle.base.specs.Lists.{sum}
+use mir.Syntax.{w32}
+use mir.Val.{Fits}
+use lib.ListN.{getD}
+use Rattle.base.specs.Lists.{sum, sumFrom}
+use Rattle.base.proofs.All.{sum-more}
 use Rattle.base.proofs.Choices.{by-le}
-use Rattle.base.proofs.Points.{sum-zero}
+use Rattle.base.proofs.Points.{sum-cong, sum-zero}
 
 pub sum-add : (f g : ℕ → ℕ) (n : ℕ) → sum (λ i. f i + g i) n ≡ sum f n + sum g n
 unfolding sum
@@ -16,6 +21,17 @@ pub sum-swap : (f : ℕ → ℕ → ℕ) (m n : ℕ) → sum (λ r. sum (λ b. f
 unfolding sum
 sum-swap f m zero = sym (sum-zero (λ b. 0) m (λ i l. refl))
 sum-swap f m (suc n) = ap (λ (x : ℕ). x + sum (λ b. f n b) m) (sum-swap f m n) ∙ sym (sum-add (λ b. sum (λ r. f r b) n) (λ b. f n b) m)
+
+pub sum-split : (f : ℕ → ℕ) (m n : ℕ) → sum f (m + n) ≡ sum f m + sum (λ i. f (m + i)) n
+unfolding sum
+sum-split f m zero = let e : m + 0 ≡ m = omega arith in rw e (omega arith)
+sum-split f m (suc n) = let e : m + suc n ≡ suc (m + n) = omega arith in rw e (omega (arith, sum-split f m n))
+
+pub sum-rises : (f : ℕ → ℕ) (m n : ℕ) → m ≤ n → sum f m ≤ sum f n
+sum-rises f m n h =
+    let e : m + (n - m) ≡ n = omega arith in
+    let g : sum f m ≤ sum f (m + (n - m)) = omega (arith, sum-split f m (n - m)) in
+    rw e at g
 
 pub sum-past : (f : ℕ → ℕ) (m n : ℕ) → m ≤ n → ((i : ℕ) → m ≤ i → i < n → f i ≡ 0) → sum f n ≡ sum f m
 unfolding sum
@@ -34,3 +50,18 @@ pub sum-bound : (f : ℕ → ℕ) (most n : ℕ) → ((i : ℕ) → i < n → f 
 unfolding sum
 sum-bound f most zero h = omega arith
 sum-bound f most (suc n) h = omega (arith, sum-bound f most n (λ i l. h i (omega arith)), h n (omega arith), suc-mul n most)
+
+-- ---- the numbers of a list
+pub from-later : (a b k : ℕ) (xs : List ℕ) → sumFrom (a + b) k xs ≡ sum (λ i. getD xs (a + (b + i)) 0) k
+unfolding sumFrom
+from-later a b k xs = sum-cong _ _ k (λ i l. ap (λ (x : ℕ). getD xs x 0) (add-assoc a b i))
+
+-- a part sums to no more
+pub from-part : (a b k n : ℕ) (xs : List ℕ) → b + k ≤ n → sumFrom (a + b) k xs ≤ sumFrom a n xs
+unfolding sumFrom
+from-part a b k n xs g = omega (arith, from-later a b k xs, sum-split (λ i. getD xs (a + i) 0) b k, sum-rises (λ i. getD xs (a + i) 0) (b + k) n g)
+
+-- where all fit 32 bits, so do the first ones and the next
+pub from-fits : (a i n s : ℕ) (xs : List ℕ) → s ≡ sumFrom a i xs → i < n → sumFrom a n xs ≤ 4294967295 → Fits w32 (s + getD xs (a + i) 0)
+unfolding sumFrom
+from-fits a i n s xs e h m = omega (arith, sum-more (λ b. getD xs (a + b) 0) i s _ e refl, sum-rises (λ b. getD xs (a + b) 0) (i + 1) n (omega arith))

@@ -5,17 +5,10 @@ use mathlib.Core.List.{List}
 use native.Mathlib.Nat.{le-antisymm, mul-le-mul, mul-le-mul-left, suc-mul}
 use native.Mathlib.Numerals.{add-one}
 use native.Mathlib.Omega.{arith}
-use lib.Bits.{bitOr, or-add-and, and-le-l, and-le-r}
+use lib.Bits.{bitOr}
 use lib.ListN.{getD}
 use Rattle.base.specs.Lists.{sumFrom}
-use Rattle.base.proofs.All.{from-none, from-more}
-
--- two numbers are at most their bits joined
-le-or-l : (x y : ℕ) → x ≤ bitOr x y
-le-or-l x y = omega (arith, or-add-and x y, and-le-r x y)
-
-le-or-r : (x y : ℕ) → y ≤ bitOr x y
-le-or-r x y = omega (arith, or-add-and x y, and-le-l x y)
+use Rattle.base.proofs.All.{from-none, from-more, le-or, le-or-second}
 
 module _ (a : ℕ) (xs : List ℕ) where
   pub tally-none : 0 ≡ sumFrom a 0 xs % 4294967296
@@ -32,8 +25,8 @@ module _ (a : ℕ) (xs : List ℕ) where
       rw (add-one b) (omega (
         arith,
         rw (add-one b) at (from-more a xs b (sumFrom a b xs) v refl h),
-        mul-le-mul-left b (le-or-l bits v),
-        le-or-r bits v,
+        mul-le-mul-left b (le-or bits v),
+        le-or-second bits v,
         suc-mul b (bitOr bits v),
       ))
 

@@ -37,6 +37,6 @@ openedInPlace time w =
 unfoldable pub pushedInPlace : (lag time : ℕ) → Window → Window
 pushedInPlace lag time w = counted lag (openedInPlace time (droppedInPlace time w))
 
--- the lags of the first m buckets, summed row by row along memory
-unfoldable pub rowsUpto : (buckets m n : ℕ) → List ℕ → ℕ
-rowsUpto buckets m n counts = sum (λ r. sumFrom (r * buckets) m counts) n
+-- the lags of k buckets from b on, summed row by row along memory
+unfoldable pub rowsFrom : (buckets b k n : ℕ) → List ℕ → ℕ
+rowsFrom buckets b k n counts = sum (λ r. sumFrom (r * buckets + b) k counts) n

@@ -1,11 +1,11 @@
 -- Document 01, "LagWindow": the quantile of the counted lags up to a limit. Assumes nothing.
-use Prim.Native.Nat.{ℕ, zero, suc, _+_, _*_}
+use Prim.Native.Nat.{ℕ, zero, suc, _+_, _*_, _<_, _≤_}
 use mathlib.Core.List.{List}
 use lib.Dec.{leb, eqb}
 use lib.ListN.{getD}
 use lib.Ieee.{Float}
 use Rattle.base.specs.Choice.{pick}
-use Rattle.base.specs.Lists.{sum}
+use Rattle.base.specs.Lists.{sum, rowSum}
 use Rattle.doubles.specs.Quantile as places
 use Rattle.lag_window.specs.declared.Quantile.{Quantile}
 use Rattle.lag_window.specs.declared.Quantile.the-variants.{End, None}
@@ -57,6 +57,10 @@ lagsIn w b = column (w .buckets) b (w .seconds) (w .counts)
 abbrev pub totalUpto : ℕ → Window → ℕ
 totalUpto limit w = running limit (w .width) (w .buckets) (w .seconds) (w .counts) (w .buckets)
 
--- what the place of q among these lags is asked for: they are few enough, and q is from 0 to 1
+-- each of the n seconds counts at most 4,294,967,295 lags, so that any part of its row is summed in 32 bits
+abbrev pub ShortRows : (buckets n : ℕ) → List ℕ → Type 0
+ShortRows buckets n counts = (r : ℕ) → r < n → rowSum buckets counts r ≤ 4294967295
+
+-- what the place of q among these lags is asked for: they are few enough, in all and in each second, and q is from 0 to 1
 abbrev pub Placeable : Float → ℕ → Window → Type 0
-Placeable q limit w = places.Quantile (totalUpto limit w) q
+Placeable q limit w = places.Quantile (totalUpto limit w) q × ShortRows (w .buckets) (w .seconds) (w .counts)

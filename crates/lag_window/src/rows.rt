@@ -1,11 +1,12 @@
 // The rows of counts, summed along memory, and the quantile of the lags that they count.
 ghost use mathlib.Core.Path.{_≡_};
 ghost use mathlib.Core.List.{[]};
-ghost use Prim.Native.Nat.{_+_, _*_, _/_, _%_, _≤_, _<_, min};
+ghost use Prim.Native.Nat.{_+_, _-_, _*_, _/_, _%_, _≤_, _<_, min};
 ghost use lib.ListN.{length};
 ghost use Rattle.base.specs.Lists.{sumFrom};
 ghost use Rattle.lag_window.specs.Window.{lent};
-ghost use Rattle.lag_window.specs.Quantile.{column, running, reach, quantileUpto, Placeable};
+ghost use Rattle.lag_window.specs.InPlace.{rowsFrom};
+ghost use Rattle.lag_window.specs.Quantile.{column, running, reach, quantileUpto, ShortRows, Placeable};
 use super::Found;
 use super::LagWindow;
 use super::Quantile;
@@ -65,6 +66,20 @@ pub(crate) fn sum_from(s: &[u32], a: usize, n: usize) -> u64
     long_sum(s, a, n)
 }
 
+// The sum of n numbers from a on, which fits 32 bits.
+fn short_sum(s: &[u32], a: usize, n: usize) -> u64
+    requires { ⌜ (a + n ≤ length (now s)) × (sumFrom a n (now s) ≤ 4294967295) ⌝ }
+    ensures { λ r. ⌜ (r ≡ sumFrom a n (now (s .entry))) × (r ≤ 4294967295) ⌝ }
+{
+    let mut total: u32 = 0;
+    let mut b = 0;
+    while b < n {
+        total += s[a + b];
+        b += 1;
+    }
+    wide(total)
+}
+
 // b times the width.
 fn edge(b: usize, width: u32) -> u32
     requires { ⌜ (b ≤ 4096) × (width ≤ 4800) ⌝ }
@@ -97,31 +112,53 @@ fn shown(buckets: usize, width: u32, limit: u32) -> usize
     if m < buckets { m } else { buckets }
 }
 
-// The lags in buckets that start at most at limit.
-fn total_upto(n: usize, buckets: usize, width: u32, limit: u32, counts: &[u32]) -> u64
-    requires { ⌜ (n ≤ 11) × (buckets ≤ 4096) × (1 ≤ width) ⌝ }
+// The lags of k buckets from b on, in the n seconds.
+fn block(counts: &[u32], buckets: usize, b: usize, k: usize, n: usize) -> u64
+    requires { ⌜ (n ≤ 11) × (buckets ≤ 4096) × (b + k ≤ buckets) ⌝ }
     requires { ⌜ length (now counts) ≡ 11 * buckets ⌝ }
-    ensures { λ r. ⌜ r ≡ running limit width buckets n (now (counts .entry)) buckets ⌝ }
+    requires { ⌜ ShortRows buckets n (now counts) ⌝ }
+    ensures { λ r. ⌜ (r ≡ rowsFrom buckets b k n (now (counts .entry))) × (r ≤ 47244640245) ⌝ }
 {
-    let m = shown(buckets, width, limit);
     let mut total: u64 = 0;
     let mut r = 0;
     while r < n {
-        total += sum_from(counts, r * buckets, m);
+        total += short_sum(counts, r * buckets + b, k);
         r += 1;
     }
     total
 }
 
-// The first bucket where the running count reaches target.
-fn reached(n: usize, buckets: usize, width: u32, limit: u32, target: u64, counts: &[u32]) -> Found
+// The lags in buckets that start at most at limit.
+fn total_upto(n: usize, buckets: usize, width: u32, limit: u32, counts: &[u32]) -> u64
     requires { ⌜ (n ≤ 11) × (buckets ≤ 4096) × (1 ≤ width) ⌝ }
     requires { ⌜ length (now counts) ≡ 11 * buckets ⌝ }
-    ensures { λ r. ⌜ r ≡ reach target limit width buckets n (now (counts .entry)) buckets 0 ⌝ }
+    requires { ⌜ ShortRows buckets n (now counts) ⌝ }
+    ensures { λ r. ⌜ r ≡ running limit width buckets n (now (counts .entry)) buckets ⌝ }
 {
     let m = shown(buckets, width, limit);
-    let mut seen: u64 = 0;
-    let mut b = 0;
+    block(counts, buckets, 0, m, n)
+}
+
+// The first bucket, of those from `from` on, where the running count reaches target; `before` is the running count up to there.
+fn reached_from(
+    n: usize,
+    buckets: usize,
+    width: u32,
+    limit: u32,
+    target: u64,
+    from: usize,
+    before: u64,
+    counts: &[u32],
+) -> Found
+    requires { ⌜ (n ≤ 11) × (buckets ≤ 4096) × (1 ≤ width) ⌝ }
+    requires { ⌜ length (now counts) ≡ 11 * buckets ⌝ }
+    requires { ⌜ (from ≤ min buckets (limit / width + 1)) × (before ≤ from * 47244640245) × (1 ≤ from → before < target) ⌝ }
+    requires { ⌜ before ≡ running limit width buckets n (now counts) from ⌝ }
+    ensures { λ r. ⌜ r ≡ reach target limit width buckets n (now (counts .entry)) (buckets - from) from ⌝ }
+{
+    let m = shown(buckets, width, limit);
+    let mut seen: u64 = before;
+    let mut b = from;
     while b < m {
         seen += column(counts, buckets, b, n);
         if target <= seen {
@@ -130,6 +167,28 @@ fn reached(n: usize, buckets: usize, width: u32, limit: u32, target: u64, counts
         b += 1;
     }
     Found::Nowhere
+}
+
+// The first bucket where the running count reaches target: blocks of 64 buckets are summed along memory,
+// and only the block that reaches it is walked bucket by bucket.
+fn reached(n: usize, buckets: usize, width: u32, limit: u32, target: u64, counts: &[u32]) -> Found
+    requires { ⌜ (n ≤ 11) × (buckets ≤ 4096) × (1 ≤ width) ⌝ }
+    requires { ⌜ length (now counts) ≡ 11 * buckets ⌝ }
+    requires { ⌜ ShortRows buckets n (now counts) ⌝ }
+    ensures { λ r. ⌜ r ≡ reach target limit width buckets n (now (counts .entry)) buckets 0 ⌝ }
+{
+    let m = shown(buckets, width, limit);
+    let mut seen: u64 = 0;
+    let mut b = 0;
+    while b + 64 <= m {
+        let more = block(counts, buckets, b, 64, n);
+        if target <= seen + more {
+            return reached_from(n, buckets, width, limit, target, b, seen, counts);
+        }
+        seen += more;
+        b += 64;
+    }
+    reached_from(n, buckets, width, limit, target, b, seen, counts)
 }
 
 // The quantile q of the lags up to limit: one pass sums the rows, a second one finds the bucket.

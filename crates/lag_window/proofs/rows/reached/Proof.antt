@@ -1,10 +1,10 @@
 -- `lag_window::rows::reached` meets its contract. Assumes nothing.
 use Prim.Native.Nat.{_≤_, _<_, _-_, _*_}
 use native.Mathlib.Omega.{arith}
-use Rattle.lag_window.proofs.Reaching.{running-none, running-more, reach-more, reach-stop, reach-past}
+use Rattle.lag_window.proofs.Reaching.{running-none, running-block, reach-block}
 use Rattle.lag_window.specs.Quantile.{running, reach}
 use native.Mathlib.Nat.{sub-zero}
-use mathlib.Core.Path.{_≡_}
+use mathlib.Core.Path.{_≡_, sym, _∙_}
 use Rattle.lag_window.proofs.rows.reached.Statement.{statement}
 use Rattle.lag_window.proofs.rows.reached.Tie as tie
 
@@ -22,10 +22,14 @@ reached-spec =
     μ-loop
     (λ c κs. omega arith)  -- shown-requires
     (λ c. (omega arith, search running-none, omega arith, (λ h. absurd (omega arith)), rw sub-zero))  -- loop-holds
-    (λ c κs. omega arith)  -- column-requires
+    (λ c. omega arith)  -- add-loop
+    (λ c κs. (omega arith, (omega arith, c .before .before .before .before .pre .1 .1)))  -- block-requires
+    (λ c. omega arith)  -- add-if1
+    (λ c κs. (omega arith, (omega arith, ((omega arith, omega arith, c .before .before .before .loop .inv .3), c .before .before .before .loop .inv .1))))  -- reached-from-requires
+    (λ c. c .reached-from .ensures ∙ sym (c .before .before .before .before .loop .inv .4))  -- returns
     (λ c. omega arith)  -- add-seen
-    (λ c. reach-stop _ _ _ _ _ (c .before .before .before .before .before .before .pre .0 .2) _ (c .before .before .before .before .shown .ensures) _ _ _ (c .before .before .before .loop .inv .4) _ _ (c .before .before .before .loop .inv .1) (c .before .column .ensures .0) (c .before .before .loop-test .taken) (c .if1 .taken))  -- returns
     (λ c. omega arith)  -- add-b
     (λ c. omega arith)  -- loop-less
-    (λ c. (omega arith, running-more _ _ _ _ _ (c .before .before .before .before .before .before .pre .0 .2) _ (c .before .before .before .before .shown .ensures) _ _ _ (c .before .before .before .loop .inv .1) (c .before .column .ensures .0) (c .before .before .loop-test .taken), omega arith, (λ h. c .if1 .left), reach-more _ _ _ _ _ (c .before .before .before .before .before .before .pre .0 .2) _ (c .before .before .before .before .shown .ensures) _ _ _ (c .before .before .before .loop .inv .4) _ _ (c .before .before .before .loop .inv .1) (c .before .column .ensures .0) (c .before .before .loop-test .taken) (c .if1 .left)))  -- loop-again
-    (λ c. reach-past _ _ _ _ _ (c .before .before .before .before .pre .0 .2) _ (c .before .before .shown .ensures) _ _ _ (c .before .loop .inv .4) _ (c .before .loop .inv .1) (c .before .loop .inv .3) (c .before .loop .inv .0) (c .loop-test .left)))  -- returns-2
+    (λ c. (omega arith, running-block _ _ _ _ _ (c .before .before .before .before .before .before .pre .0 .2) _ (c .before .before .before .before .shown .ensures) _ 64 _ _ (c .before .before .before .loop .inv .1) (c .before .block .ensures .0) (c .before .before .loop-test .taken), omega arith, (λ h. omega arith), reach-block _ _ _ _ _ (c .before .before .before .before .before .before .pre .0 .2) _ (c .before .before .before .before .shown .ensures) _ _ _ (c .before .before .before .loop .inv .4) 64 _ _ (c .before .before .before .loop .inv .1) (c .before .block .ensures .0) (c .before .before .loop-test .taken) (c .if1 .left)))  -- loop-again
+    (λ c κs. (omega arith, (omega arith, ((omega arith, omega arith, c .before .loop .inv .3), c .before .loop .inv .1))))  -- reached-from-requires-2
+    (λ c. c .reached-from2 .ensures ∙ sym (c .before .before .loop .inv .4)))  -- returns-2
