@@ -15,6 +15,7 @@ use Rattle.base.specs.First.{first}
 use Rattle.base.specs.Any.{any}
 use Rattle.base.proofs.Choices.{by-bool, yes-pick, no-pick}
 use Rattle.base.proofs.First.{first-cong}
+use Rattle.base.proofs.Any.{any-cong}
 use Rattle.slots.specs.declared.Instance.{Instance}
 use Rattle.slots.specs.declared.Slot.{Slot}
 use Rattle.slots.specs.declared.Inputs.{Inputs}
@@ -75,11 +76,6 @@ collect-more {s} {read} {n} v l one h = record {
 
     other : (i : ℕ) (key : Instance) → i < n + 1 → (i ≡ n → ⊥) → isExtra (getD (set read n one) i Nothing) key ≡ usesKey (slotAt s i) key
     other i key m e = ap (λ (x : Extra). isExtra x key) (getD-set-other read n i one Nothing e) ∙ v .told i key (omega (arith, e))
-
-any-cong : (p q : ℕ → Bool) (n : ℕ) → ((i : ℕ) → i < n → p i ≡ q i) → any p n ≡ any q n
-unfolding any
-any-cong p q zero f = refl
-any-cong p q (suc n) f = rw (any-cong p q n (λ i l. f i (omega arith)), f n (omega arith))
 
 -- what the code asks of a key is whether it is wanted
 pub told-wanted : (s : Inputs) (extra : Extra) (key : Instance) (read : List Extra) {r : Bool} → ((i : ℕ) (key : Instance) → i < 16 → isExtra (getD read i Nothing) key ≡ usesKey (slotAt s i) key) → r ≡ pick (isExtra extra key) true (any (λ i. isExtra (getD read i Nothing) key) 16) → r ≡ wantedKey s extra key
