@@ -21,6 +21,7 @@ use Rattle.slots.specs.declared.Slot.{Slot}
 use Rattle.slots.specs.declared.Inputs.{Inputs}
 use Rattle.slots.specs.Slots.{emptySlot}
 use Rattle.slots.specs.Inputs.{slotAt, withInstances}
+use Rattle.slots.proofs.Frame.{slot-in}
 use Rattle.instances.specs.declared.Extra.{Extra}
 use Rattle.instances.specs.declared.Extra.the-variants.{Nothing}
 use Rattle.instances.specs.Instances.{sameKey, noKey, keyAt, held, keyBelow, newKeyAt, usesKey, anyUses, isExtra, wantedKey, keepOne, keptKeys, withKeys, pruned}
@@ -60,7 +61,6 @@ pub collect-start : (s : Inputs) → Collected s (replicate 16 Nothing) 0
 collect-start s = record { within = omega arith; sized = length-replicate 16 Nothing; told = λ i key l. absurd (not-suc-le-zero l) }
 
 pub collect-more : {s : Inputs} {read : List Extra} {n : ℕ} → Collected s read n → n < 16 → (one : Extra) → ((key : Instance) → isExtra one key ≡ usesKey (getD (s .slots) n emptySlot) key) → Collected s (set read n one) (n + 1)
-unfolding slotAt
 collect-more {s} {read} {n} v l one h = record {
   within = omega arith;
   sized = length-set read n one ∙ v .sized;
@@ -72,7 +72,7 @@ collect-more {s} {read} {n} v l one h = record {
         rw e
         (ap (λ (x : Extra). isExtra x key) (getD-set-same read n one Nothing (rw (v .sized) l))
         ∙ h key
-        ∙ ap (λ (x : Slot). usesKey x key) (sym (yes-pick (getD (s .slots) n emptySlot) emptySlot (lt-ltb _ _ l))))
+        ∙ ap (λ (x : Slot). usesKey x key) (slot-in s n l))
 
     other : (i : ℕ) (key : Instance) → i < n + 1 → (i ≡ n → ⊥) → isExtra (getD (set read n one) i Nothing) key ≡ usesKey (slotAt s i) key
     other i key m e = ap (λ (x : Extra). isExtra x key) (getD-set-other read n i one Nothing e) ∙ v .told i key (omega (arith, e))
