@@ -6,8 +6,11 @@ use native.Mathlib.Omega.{arith}
 use lib.ListN.{getD}
 use borrow.Author.Tests.{eq-eqb, ne-eqb, lt-ltb, le-ltb}
 use Rattle.base.specs.Choice.{pick}
+use Rattle.base.specs.First.{first}
+use Rattle.base.proofs.First.{first-cong}
 use Rattle.base.proofs.Choices.{yes-pick, no-pick}
 use Rattle.slots.specs.declared.Flow.{Flow}
+use Rattle.slots.specs.declared.FlowEntry.{FlowEntry}
 use Rattle.slots.specs.declared.Remembered.{Remembered}
 use Rattle.slots.specs.declared.Route.{Route}
 use Rattle.slots.specs.declared.Routed.{Routed}
@@ -15,7 +18,7 @@ use Rattle.slots.specs.declared.Routed.the-variants.{Nowhere, To}
 use Rattle.slots.specs.declared.Slot.{Slot}
 use Rattle.slots.specs.declared.Inputs.{Inputs}
 use Rattle.slots.specs.Slots.{isAuto}
-use Rattle.flows.specs.Flows.{emptyEntry, entryAt, sameFlow, flowAt, holdsFlow, known, placeBelow, placeOf, newAt, added, enrolledAt, enrolled, recalled, kept, differs, marked, remembered, rememberedBy, rememberedFor}
+use Rattle.flows.specs.Flows.{emptyEntry, entryAt, sameFlow, flowAt, known, placeBelow, placeOf, newAt, added, enrolledAt, enrolled, recalled, kept, differs, marked, remembered, rememberedBy, rememberedFor}
 
 module _ (s : Inputs) (place : ℕ) where
   pub entry-in : place < 64 → entryAt s place ≡ getD (s .flows) place emptyEntry
@@ -26,14 +29,20 @@ module _ (s : Inputs) (place : ℕ) where
   unfolding entryAt
   entry-past h = no-pick _ _ (le-ltb _ _ h)
 
--- what a test of the code told of a place
-module _ (s : Inputs) (flow : Flow) (place : ℕ) where
-  pub told-flow : {at : Flow} {r b : Bool} → at ≡ flowAt s place → r ≡ sameFlow at flow → r ≡ b → holdsFlow s flow place ≡ b
-  told-flow e h g = ap (λ (x : Flow). sameFlow x flow) (sym e) ∙ sym h ∙ g
+-- the loops read the table alone: of its places the first that holds the flow
+module _ (s : Inputs) where
+  pub table-flow : (place : ℕ) → place < 64 → getD (s .flows) place emptyEntry .flow ≡ flowAt s place
+  unfolding flowAt
+  table-flow place l = ap (λ (e : FlowEntry). e .flow) (sym (entry-in s place l))
 
-module _ (s : Inputs) (place : ℕ) {at : Flow} {r : ℕ} (e : at ≡ flowAt s place) (h : r ≡ placeBelow place s at) where
+  pub table-below : (flow : Flow) (n : ℕ) → n ≤ 64 → first (λ place. sameFlow (getD (s .flows) place emptyEntry .flow) flow) n ≡ placeBelow n s flow
+  unfolding placeBelow
+  table-below flow n h = first-cong _ _ n (λ k l. ap (λ (at : Flow). sameFlow at flow) (table-flow k (omega arith)))
+
+-- what a test of the code told of a place
+module _ (s : Inputs) (place : ℕ) (l : place < 64) {at : Flow} {r : ℕ} (e : at ≡ getD (s .flows) place emptyEntry .flow) (h : r ≡ first (λ j. sameFlow (getD (s .flows) j emptyEntry .flow) at) place) where
   here : r ≡ placeBelow place s (flowAt s place)
-  here = h ∙ ap (placeBelow place s) e
+  here = h ∙ table-below s at place (omega arith) ∙ ap (placeBelow place s) (e ∙ table-flow s place l)
 
   pub told-new : r ≡ place → newAt s place ≡ true
   told-new g = eq-eqb _ _ (sym here ∙ g)

@@ -1,7 +1,9 @@
 // The flow table: 64 places, each flow at one place for good, with the automatic delay that it had last.
 ghost use mathlib.Core.Path.{_≡_};
 ghost use Prim.Native.Nat.{_≤_};
-ghost use Rattle.flows.specs.Flows.{sameFlow, known, placeBelow, placeOf, distinctFlows, admits, flowAt, enrolled, recalled, kept, differs, remembered, rememberedFor};
+ghost use lib.ListN.{getD};
+ghost use Rattle.base.specs.First.{first};
+ghost use Rattle.flows.specs.Flows.{sameFlow, emptyEntry, known, placeOf, distinctFlows, admits, flowAt, enrolled, recalled, kept, differs, remembered, rememberedFor};
 use slots::Flow;
 use slots::FlowEntry;
 use slots::Inputs;
@@ -41,14 +43,15 @@ pub fn flow_at(inputs: Inputs, place: usize) -> Flow
     Flow { high: 0, low: 0 }
 }
 
-// The first of n places that holds the flow, or n.
-fn find_below(inputs: Inputs, flow: Flow, n: usize) -> usize
+// The first of n places that holds the flow, or n. It takes the table alone: a loop that hands on the record copies it at each turn.
+fn find_below(table: [FlowEntry; 64], flow: Flow, n: usize) -> usize
     requires { ⌜ n ≤ 64 ⌝ }
-    ensures { λ r. ⌜ r ≡ placeBelow n inputs flow ⌝ }
+    ensures { λ r. ⌜ r ≡ first (λ place. sameFlow (getD table place emptyEntry .flow) flow) n ⌝ }
 {
     let mut i: usize = 0;
     while i < n {
-        let at = flow_at(inputs, i);
+        let entry = table[i];
+        let at = entry.flow;
         if same(at, flow) {
             return i;
         }
@@ -62,7 +65,8 @@ pub fn find(inputs: Inputs, flow: Flow) -> usize
     ensures { λ r. ⌜ r ≡ placeOf inputs flow ⌝ }
 {
     let n = places(inputs);
-    find_below(inputs, flow, n)
+    let table = inputs.flows;
+    find_below(table, flow, n)
 }
 
 // Does the table hold no flow twice?
@@ -70,10 +74,12 @@ pub fn distinct(inputs: Inputs) -> bool
     ensures { λ r. ⌜ r ≡ distinctFlows inputs ⌝ }
 {
     let n = places(inputs);
+    let table = inputs.flows;
     let mut i: usize = 0;
     while i < n {
-        let flow = flow_at(inputs, i);
-        if find_below(inputs, flow, i) != i {
+        let entry = inputs.flows[i];
+        let flow = entry.flow;
+        if find_below(table, flow, i) != i {
             return false;
         }
         i += 1;

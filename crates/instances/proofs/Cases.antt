@@ -3,40 +3,84 @@ use Prim.Native.Nat.{ℕ, zero, suc, _+_, _-_, _<_, _≤_}
 use mathlib.Core.Bool.{Bool, true, false}
 use mathlib.Core.Path.{_≡_, refl, sym, ap, _∙_}
 use mathlib.Core.List.{List, [], _∷_, _++_, append-nil}
-use native.Mathlib.Nat.{add-zero, zero-add, add-suc, suc-add, sub-zero, zero-sub, suc-sub-suc}
+use native.Mathlib.Nat.{not-suc-le-zero, add-zero, zero-add, add-suc, suc-add, sub-zero, zero-sub, suc-sub-suc}
 use native.Mathlib.Numerals.{add-one}
 use native.Mathlib.Omega.{arith}
-use lib.ListN.{length, set, drop, replicate, length-append, length-replicate}
-use lib.Seq.{sets, sets-eq}
-use borrow.Author.Tests.{eq-eqb, ne-eqb}
-use Rattle.base.proofs.Choices.{yes-pick, no-pick}
+use lib.ListN.{length, getD, set, drop, replicate, length-append, length-replicate, length-set}
+use lib.Dec.{eqb}
+use lib.Seq.{sets, sets-eq, getD-set-same, getD-set-other}
+use borrow.Author.Tests.{eq-eqb, ne-eqb, eqb-true, eqb-false, lt-ltb}
+use Rattle.base.specs.Choice.{pick}
+use Rattle.base.specs.First.{first}
+use Rattle.base.specs.Any.{any}
+use Rattle.base.proofs.Choices.{by-bool, yes-pick, no-pick}
+use Rattle.base.proofs.First.{first-cong}
+use Rattle.base.proofs.Any.{any-cong}
 use Rattle.slots.specs.declared.Instance.{Instance}
 use Rattle.slots.specs.declared.Slot.{Slot}
 use Rattle.slots.specs.declared.Inputs.{Inputs}
+use Rattle.slots.specs.Slots.{emptySlot}
 use Rattle.slots.specs.Inputs.{slotAt, withInstances}
+use Rattle.slots.proofs.Frame.{slot-in}
 use Rattle.instances.specs.declared.Extra.{Extra}
-use Rattle.instances.specs.Instances.{sameKey, noKey, keyAt, held, holdsKey, keyBelow, newKeyAt, usesKey, wantedKey, keepOne, keptKeys, withKeys, pruned}
+use Rattle.instances.specs.declared.Extra.the-variants.{Nothing}
+use Rattle.instances.specs.Instances.{sameKey, noKey, keyAt, held, keyBelow, newKeyAt, usesKey, anyUses, isExtra, wantedKey, keepOne, keptKeys, withKeys, pruned}
 
 pub held-most : (s : Inputs) → held s ≤ 18
 unfolding held
 held-most s = omega arith
 
--- what a test of the code told of a place, or of an input
-pub told-key : (s : Inputs) (key : Instance) (place : ℕ) {at : Instance} {r b : Bool} → at ≡ keyAt s place → r ≡ sameKey at key → r ≡ b → holdsKey s key place ≡ b
-told-key s key place e h g = ap (λ (x : Instance). sameKey x key) (sym e) ∙ sym h ∙ g
+-- the loops read the table alone: of its places the first that holds the key
+module _ (s : Inputs) where
+  pub table-key : (place : ℕ) → place < 18 → getD (s .instances) place noKey ≡ keyAt s place
+  unfolding keyAt
+  table-key place l = sym (yes-pick _ _ (lt-ltb _ _ l))
 
-pub told-uses : (s : Inputs) (key : Instance) (i : ℕ) {slot : Slot} {r b : Bool} → slot ≡ slotAt s i → r ≡ usesKey slot key → r ≡ b → usesKey (slotAt s i) key ≡ b
-told-uses s key i e h g = ap (λ (x : Slot). usesKey x key) (sym e) ∙ sym h ∙ g
+  pub table-below : (key : Instance) (n : ℕ) → n ≤ 18 → first (λ place. sameKey (getD (s .instances) place noKey) key) n ≡ keyBelow n s key
+  unfolding keyBelow
+  table-below key n h = first-cong _ _ n (λ k l. ap (λ (at : Instance). sameKey at key) (table-key k (omega arith)))
 
-module _ (s : Inputs) (place : ℕ) {at : Instance} {r : ℕ} (e : at ≡ keyAt s place) (h : r ≡ keyBelow place s at) where
+-- what a test of the code told of a place
+module _ (s : Inputs) (place : ℕ) (l : place < 18) {at : Instance} {r : ℕ} (e : at ≡ getD (s .instances) place noKey) (h : r ≡ first (λ j. sameKey (getD (s .instances) j noKey) at) place) where
   here : r ≡ keyBelow place s (keyAt s place)
-  here = h ∙ ap (keyBelow place s) e
+  here = h ∙ table-below s at place (omega arith) ∙ ap (keyBelow place s) (e ∙ table-key s place l)
 
   pub told-new : r ≡ place → newKeyAt s place ≡ true
   told-new g = eq-eqb _ _ (sym here ∙ g)
 
   pub told-twice : (r ≡ place → ⊥) → newKeyAt s place ≡ false
   told-twice g = ne-eqb _ _ (λ w. g (here ∙ w))
+
+-- ---- what the inputs read, input by input
+pub record Collected (s : Inputs) (read : List Extra) (n : ℕ) : Type 0 where
+  pub within : n ≤ 16
+  pub sized : length read ≡ 16
+  pub told : (i : ℕ) (key : Instance) → i < n → isExtra (getD read i Nothing) key ≡ usesKey (slotAt s i) key
+
+pub collect-start : (s : Inputs) → Collected s (replicate 16 Nothing) 0
+collect-start s = record { within = omega arith; sized = length-replicate 16 Nothing; told = λ i key l. absurd (not-suc-le-zero l) }
+
+pub collect-more : {s : Inputs} {read : List Extra} {n : ℕ} → Collected s read n → n < 16 → (one : Extra) → ((key : Instance) → isExtra one key ≡ usesKey (getD (s .slots) n emptySlot) key) → Collected s (set read n one) (n + 1)
+collect-more {s} {read} {n} v l one h = record {
+  within = omega arith;
+  sized = length-set read n one ∙ v .sized;
+  told = λ i key m. by-bool (eqb i n) (λ e. same i key (eqb-true i n e)) (λ e. other i key m (eqb-false i n e));
+}
+  where
+    same : (i : ℕ) (key : Instance) → i ≡ n → isExtra (getD (set read n one) i Nothing) key ≡ usesKey (slotAt s i) key
+    same i key e =
+        rw e
+        (ap (λ (x : Extra). isExtra x key) (getD-set-same read n one Nothing (rw (v .sized) l))
+        ∙ h key
+        ∙ ap (λ (x : Slot). usesKey x key) (slot-in s n l))
+
+    other : (i : ℕ) (key : Instance) → i < n + 1 → (i ≡ n → ⊥) → isExtra (getD (set read n one) i Nothing) key ≡ usesKey (slotAt s i) key
+    other i key m e = ap (λ (x : Extra). isExtra x key) (getD-set-other read n i one Nothing e) ∙ v .told i key (omega (arith, e))
+
+-- what the code asks of a key is whether it is wanted
+pub told-wanted : (s : Inputs) (extra : Extra) (key : Instance) (read : List Extra) {r : Bool} → ((i : ℕ) (key : Instance) → i < 16 → isExtra (getD read i Nothing) key ≡ usesKey (slotAt s i) key) → r ≡ pick (isExtra extra key) true (any (λ i. isExtra (getD read i Nothing) key) 16) → r ≡ wantedKey s extra key
+unfolding wantedKey anyUses
+told-wanted s extra key read f h = h ∙ ap (pick (isExtra extra key) true) (any-cong _ _ 16 (λ i l. f i key l))
 
 -- ---- pruning, place by place
 

@@ -1,7 +1,15 @@
 // The instance table: 18 places, one for each generation of a flow (flow and inode) that was opened and not pruned yet.
 ghost use mathlib.Core.Path.{_≡_};
-ghost use Prim.Native.Nat.{_≤_};
-ghost use Rattle.instances.specs.Instances.{sameKey, held, keyAt, keyBelow, foundKey, distinctKeys, made, usesKey, anyUses, isExtra, wantedKey, pruned};
+ghost use mathlib.Core.Bool.{true};
+ghost use Prim.Native.Nat.{ℕ, _<_, _≤_};
+ghost use lib.ListN.{getD};
+ghost use Rattle.base.specs.Choice.{pick};
+ghost use Rattle.base.specs.First.{first};
+ghost use Rattle.base.specs.Any.{any};
+ghost use Rattle.slots.specs.Inputs.{slotAt};
+ghost use Rattle.slots.specs.declared.Instance.{Instance};
+ghost use Rattle.instances.specs.declared.Extra.the-variants.{Nothing};
+ghost use Rattle.instances.specs.Instances.{sameKey, noKey, held, foundKey, distinctKeys, made, usesKey, isExtra, pruned};
 use slots::Inode;
 use slots::Inputs;
 use slots::Instance;
@@ -33,24 +41,14 @@ fn places(inputs: Inputs) -> usize
     18
 }
 
-// The key at a place.
-fn key_at(inputs: Inputs, place: usize) -> Instance
-    ensures { λ r. ⌜ r ≡ keyAt inputs place ⌝ }
-{
-    if place < 18 {
-        return inputs.instances[place];
-    }
-    Instance { flow: 0, inode: 0 }
-}
-
-// The first of n places that holds the key, or n.
-fn find_below(inputs: Inputs, key: Instance, n: usize) -> usize
+// The first of n places that holds the key, or n. It takes the table alone: a loop that hands on the record copies it at each turn.
+fn find_below(table: [Instance; 18], key: Instance, n: usize) -> usize
     requires { ⌜ n ≤ 18 ⌝ }
-    ensures { λ r. ⌜ r ≡ keyBelow n inputs key ⌝ }
+    ensures { λ r. ⌜ r ≡ first (λ place. sameKey (getD table place noKey) key) n ⌝ }
 {
     let mut i: usize = 0;
     while i < n {
-        let at = key_at(inputs, i);
+        let at = table[i];
         if same(at, key) {
             return i;
         }
@@ -64,7 +62,8 @@ pub fn found(inputs: Inputs, key: Instance) -> bool
     ensures { λ r. ⌜ r ≡ foundKey inputs key ⌝ }
 {
     let n = places(inputs);
-    find_below(inputs, key, n) < n
+    let table = inputs.instances;
+    find_below(table, key, n) < n
 }
 
 // Does the table hold no key twice?
@@ -72,10 +71,11 @@ pub fn distinct(inputs: Inputs) -> bool
     ensures { λ r. ⌜ r ≡ distinctKeys inputs ⌝ }
 {
     let n = places(inputs);
+    let table = inputs.instances;
     let mut i: usize = 0;
     while i < n {
-        let key = key_at(inputs, i);
-        if find_below(inputs, key, i) != i {
+        let key = inputs.instances[i];
+        if find_below(table, key, i) != i {
             return false;
         }
         i += 1;
@@ -97,39 +97,39 @@ pub fn make(inputs: Inputs, key: Instance) -> Inputs
     inputs
 }
 
-// Does the input read this generation of this flow?
-fn uses(slot: Slot, key: Instance) -> bool
-    ensures { λ r. ⌜ r ≡ usesKey slot key ⌝ }
+// The generation of a flow that a Running or Stalled input reads.
+fn read_by(slot: Slot) -> Extra
+    ensures { λ r. ⌜ ((key : Instance) → isExtra r key ≡ usesKey slot key) ⌝ }
 {
     let state = slot.state;
     if slots::code(state) < 2 {
-        return false;
+        return Extra::Nothing;
     }
     let to = slot.route;
     let Routed::To(route) = to else {
-        return false;
+        return Extra::Nothing;
     };
     let seen = slot.inode;
     let Inode::Of(inode) = seen else {
-        return false;
+        return Extra::Nothing;
     };
     let flow = route.flow;
-    let mine = Instance { flow, inode };
-    same(mine, key)
+    Extra::Key(Instance { flow, inode })
 }
 
-fn any_uses(inputs: Inputs, key: Instance) -> bool
-    ensures { λ r. ⌜ r ≡ anyUses inputs key ⌝ }
+// The same of each input, read once for all keys.
+fn all_read(inputs: Inputs) -> [Extra; 16]
+    ensures { λ r. ⌜ ((i : ℕ) (key : Instance) → i < 16 → isExtra (getD r i Nothing) key ≡ usesKey (slotAt inputs i) key) ⌝ }
 {
-    let mut i: usize = 0;
-    while i < 16 {
-        let slot = slots::slot_at(inputs, i);
-        if uses(slot, key) {
-            return true;
-        }
-        i += 1;
+    let none = Extra::Nothing;
+    let mut read = [none; 16];
+    let mut input: usize = 0;
+    while input < 16 {
+        let slot = inputs.slots[input];
+        read[input] = read_by(slot);
+        input += 1;
     }
-    false
+    read
 }
 
 fn is_extra(extra: Extra, key: Instance) -> bool
@@ -141,14 +141,29 @@ fn is_extra(extra: Extra, key: Instance) -> bool
     same(one, key)
 }
 
+// Is the key among those that the inputs read?
+fn any_reads(read: [Extra; 16], key: Instance) -> bool
+    ensures { λ r. ⌜ r ≡ any (λ i. isExtra (getD read i Nothing) key) 16 ⌝ }
+{
+    let mut i: usize = 0;
+    while i < 16 {
+        let one = read[i];
+        if is_extra(one, key) {
+            return true;
+        }
+        i += 1;
+    }
+    false
+}
+
 // Is it the extra one, or does an input read it?
-fn wanted(inputs: Inputs, extra: Extra, key: Instance) -> bool
-    ensures { λ r. ⌜ r ≡ wantedKey inputs extra key ⌝ }
+fn wanted(read: [Extra; 16], extra: Extra, key: Instance) -> bool
+    ensures { λ r. ⌜ r ≡ pick (isExtra extra key) true (any (λ i. isExtra (getD read i Nothing) key) 16) ⌝ }
 {
     if is_extra(extra, key) {
         return true;
     }
-    any_uses(inputs, key)
+    any_reads(read, key)
 }
 
 // The keys that are wanted, in their order.
@@ -159,10 +174,11 @@ pub fn prune(inputs: Inputs, extra: Extra) -> Inputs
     let mut kept = [none; 18];
     let mut count: usize = 0;
     let n = places(inputs);
+    let read = all_read(inputs);
     let mut i: usize = 0;
     while i < n {
-        let key = key_at(inputs, i);
-        if wanted(inputs, extra, key) {
+        let key = inputs.instances[i];
+        if wanted(read, extra, key) {
             kept[count] = key;
             count += 1;
         }

@@ -1,5 +1,5 @@
 -- The definitions of check 6 as the code comes to them. Assumes nothing.
-use Prim.Native.Nat.{ℕ, _*_, _<_, _≤_}
+use Prim.Native.Nat.{ℕ, _+_, _*_, _<_, _≤_}
 use mathlib.Core.Bool.{Bool, true, false}
 use mathlib.Core.Path.{_≡_, sym, ap, _∙_}
 use mathlib.Core.List.{List}
@@ -8,24 +8,25 @@ use native.Mathlib.Omega.{arith}
 use mir.Syntax.{w64}
 use mir.Val.{Fits}
 use lib.Dec.{eqb, leb, ltb}
-use lib.ListN.{getD, take, drop}
-use borrow.Author.Tests.{eq-eqb, ne-eqb, leb-true, lt-ltb, le-ltb}
+use lib.ListN.{length, getD, take, drop}
+use borrow.Author.Tests.{leb-true, lt-ltb, le-ltb}
+use Rattle.base.specs.Choice.{pick}
 use Rattle.base.proofs.All.{both-yes, both-no}
 use Rattle.base.proofs.Choices.{yes-pick, no-pick}
 use Rattle.base.proofs.Points.{both-true}
+use Rattle.base.proofs.Blocks.{block-within}
 use Rattle.policy.specs.declared.DelayPolicy.{DelayPolicy}
-use Rattle.policy.specs.Settings.{reachesAllowed}
-use Rattle.lag_window.specs.Window.{lent, bucketsOf}
+use Rattle.policy.specs.Settings.{reachesAllowed, Sound}
+use Rattle.lag_window.specs.Window.{Window, lent, bucketsOf}
 use Rattle.lag_window.specs.Whole.{wholeWindow}
 use Rattle.lag_window.specs.Parts.{partOf, Held}
 use Rattle.delay_hold.specs.declared.Moment.{Moment}
 use Rattle.delay_hold.specs.declared.Moment.the-variants.{Never, At}
 use Rattle.delay_hold.specs.Next.{held}
 use Rattle.delay_hold.specs.Whole.{momentTimely, wholeHold}
-use Rattle.slots.specs.declared.Flow.{Flow}
+use Rattle.slots.specs.declared.FlowEntry.{FlowEntry}
 use Rattle.slots.specs.declared.Proposal.{Proposal}
 use Rattle.slots.specs.declared.Proposal.the-variants.{Nothing, Pending}
-use Rattle.slots.specs.declared.Remembered.{Remembered}
 use Rattle.slots.specs.declared.Route.{Route}
 use Rattle.slots.specs.declared.Routed.{Routed}
 use Rattle.slots.specs.declared.Routed.the-variants.{Nowhere, To}
@@ -33,14 +34,15 @@ use Rattle.slots.specs.declared.State.{State}
 use Rattle.slots.specs.declared.Slot.{Slot}
 use Rattle.slots.specs.declared.Instance.{Instance}
 use Rattle.slots.specs.declared.Inputs.{Inputs}
-use Rattle.slots.specs.Slots.{stateNumber}
+use Rattle.slots.specs.Slots.{stateNumber, emptySlot}
 use Rattle.slots.specs.Inputs.{slotAt}
-use Rattle.flows.specs.Flows.{entryAt, flowAt, recalled}
+use Rattle.slots.proofs.Frame.{slot-in}
+use Rattle.flows.specs.Flows.{emptyEntry, entryAt}
 use Rattle.instances.specs.Instances.{noKey, keyAt}
 use Rattle.record.specs.declared.Commands.{Commands}
 use Rattle.record.specs.declared.Commands.the-variants.{Absent, Words}
 use Rattle.record.specs.Lent.{Lists, lists, bucketsIn, windowOf, heldOf}
-use Rattle.record.specs.Places.{proposalFits, routeFits, noDelay, unusedEntry, entryFits, unusedKey, keyFits, unusedSlot}
+use Rattle.record.specs.Places.{proposalFits, routeFits, wholeSlot, unusedEntry, entryFits, unusedKey, keyFits, unusedSlot}
 use Rattle.record.specs.Record.{wholeInput, inputFits}
 use Rattle.record.specs.Checks.{inputsAllowed, bucketsAllowed, listsFit, commandsFit, Fitting}
 use Rattle.record.proofs.Shapes.{window-held}
@@ -77,47 +79,15 @@ pub route-unknown : (to : Routed) (state : State) (n : ℕ) {route : Route} → 
 unfolding routeFits
 route-unknown to state n f h = both-no _ _ (le-ltb _ _ h) ∙ sym (ap (λ (x : Routed). routeFits x state n) f)
 
--- ---- a place of the flow table
+-- ---- a place of the flow table, and one of the instance table
 module _ (s : Inputs) (place : ℕ) where
-  pub entry-in-use : place < s .«flow_count» → true ≡ entryFits s place
-  entry-in-use h = sym (yes-pick _ _ (lt-ltb _ _ h))
+  pub told-entry : {r : Bool} → place < 64 → r ≡ pick (ltb place (s .«flow_count»)) true (unusedEntry (getD (s .flows) place emptyEntry)) → r ≡ entryFits s place
+  unfolding entryAt
+  told-entry l g = g ∙ ap (λ (x : FlowEntry). pick (ltb place (s .«flow_count»)) true (unusedEntry x)) (sym (yes-pick _ _ (lt-ltb _ _ l)))
 
-  module _ (h : s .«flow_count» ≤ place) {flow : Flow} (e : flow ≡ flowAt s place) where
-    past : unusedEntry (entryAt s place) ≡ entryFits s place
-    past = sym (no-pick _ _ (le-ltb _ _ h))
-
-    high : flow .high ≡ entryAt s place .flow .high
-    unfolding flowAt
-    high = ap (λ (x : Flow). x .high) e
-
-    low : flow .low ≡ entryAt s place .flow .low
-    unfolding flowAt
-    low = ap (λ (x : Flow). x .low) e
-
-    pub entry-high : (flow .high ≡ 0 → ⊥) → false ≡ entryFits s place
-    unfolding unusedEntry
-    entry-high none = both-no _ _ (ne-eqb _ _ (λ z. none (high ∙ z))) ∙ past
-
-    module _ (first : flow .high ≡ 0) where
-      pub entry-low : (flow .low ≡ 0 → ⊥) → false ≡ entryFits s place
-      unfolding unusedEntry
-      entry-low none = both-yes _ _ _ (eq-eqb _ _ (sym high ∙ first)) (both-no _ _ (ne-eqb _ _ (λ z. none (low ∙ z)))) ∙ past
-
-      pub entry-last : flow .low ≡ 0 → {last : Remembered} {r : Bool} → last ≡ recalled s place → r ≡ noDelay last → r ≡ entryFits s place
-      unfolding unusedEntry recalled
-      entry-last second f g = both-yes _ _ _ (eq-eqb _ _ (sym high ∙ first)) (both-yes _ _ _ (eq-eqb _ _ (sym low ∙ second)) (g ∙ ap noDelay f)) ∙ past
-
-  -- ---- a place of the instance table
-  module _ (within : place < 18) {key : Instance} (e : key ≡ getD (s .instances) place (record { flow = 0; inode = 0 })) where
-    key-is : key ≡ keyAt s place
-    unfolding keyAt noKey
-    key-is = e ∙ sym (yes-pick _ _ (lt-ltb _ _ within))
-
-    pub key-in-use : place < s .«instance_count» → ltb (key .flow) (s .«flow_count») ≡ keyFits s place
-    key-in-use h = ap (λ (x : Instance). ltb (x .flow) (s .«flow_count»)) key-is ∙ sym (yes-pick _ _ (lt-ltb _ _ h))
-
-    pub key-unused : s .«instance_count» ≤ place → unusedKey key ≡ keyFits s place
-    key-unused h = ap unusedKey key-is ∙ sym (no-pick _ _ (le-ltb _ _ h))
+  pub told-key : {r : Bool} → place < 18 → r ≡ pick (ltb place (s .«instance_count»)) (ltb (getD (s .instances) place noKey .flow) (s .«flow_count»)) (unusedKey (getD (s .instances) place noKey)) → r ≡ keyFits s place
+  unfolding keyAt
+  told-key l g = g ∙ ap (λ (x : Instance). pick (ltb place (s .«instance_count»)) (ltb (x .flow) (s .«flow_count»)) (unusedKey x)) (sym (yes-pick _ _ (lt-ltb _ _ l)))
 
 -- ---- checks 2 and 5
 pub reaches-ask : (policy : DelayPolicy) (width : ℕ) → reachesAllowed policy ≡ true → 1 ≤ width → (policy .«read_offset» ≤ 96000) × (policy .«delay_max» ≤ 96000) × (1 ≤ width)
@@ -144,27 +114,47 @@ unfolding bucketsIn
 told-lists s l e g = g ∙ ap (λ (b : ℕ). listsFit (s .count) b l) e
 
 -- ---- input i
-module _ (s : Inputs) (i : ℕ) (starts totals counts times lags : List ℕ) where
+module _ (i : ℕ) (starts totals counts times lags : List ℕ) where
   abbrev given : Lists
   given = lists starts totals counts times lags
 
-  module _ (f : Fitting s given) (h : i < s .count) where
-    -- what `lag_window::core::whole` asks
-    pub window-asks : (slot : Slot) {buckets : ℕ} → buckets ≡ bucketsOf (s .policy .«read_offset») (s .policy .«delay_max») (s .width) → Held i (lent (record { seconds = slot .«lag_seconds»; buckets = buckets; width = s .width }) starts totals counts)
+  -- the lists with the window of this slot
+  abbrev lentFor : (width : ℕ) → Slot → (buckets : ℕ) → Window
+  lentFor width slot buckets = lent (record { seconds = slot .«lag_seconds»; buckets = buckets; width = width }) starts totals counts
+
+  -- what `lag_window::core::whole` asks
+  pub window-asks : (policy : DelayPolicy) (width : ℕ) (slot : Slot) {buckets : ℕ} → buckets ≡ bucketsOf (policy .«read_offset») (policy .«delay_max») width → Held i (lentFor width slot (bucketsOf (policy .«read_offset») (policy .«delay_max») width)) → Held i (lentFor width slot buckets)
+  window-asks policy width slot e h = rw e h
+
+  -- what the calls told of a slot and settings is so of the record that has them
+  module _ (s : Inputs) {policy : DelayPolicy} {width : ℕ} {slot : Slot} (p : policy ≡ s .policy) (w : width ≡ s .width) (e : slot ≡ slotAt s i) where
+    pub told-window : {buckets : ℕ} {r : Bool} → buckets ≡ bucketsOf (policy .«read_offset») (policy .«delay_max») width → r ≡ wholeWindow (partOf i (lentFor width slot buckets)) → r ≡ wholeWindow (windowOf s given i)
     unfolding bucketsIn
-    window-asks slot e = rw e (window-held s given f i slot h)
+    told-window b g =
+        g
+        ∙ ap (λ (n : ℕ). wholeWindow (partOf i (lentFor width slot n))) b
+        ∙ (λ t. wholeWindow (partOf i (lentFor (w t) (e t) (bucketsOf (p t .«read_offset») (p t .«delay_max») (w t)))))
 
-  module _ {slot : Slot} (e : slot ≡ slotAt s i) where
-    -- what the calls told, of the input's window and hold
-    pub told-window : {buckets : ℕ} {r : Bool} → buckets ≡ bucketsOf (s .policy .«read_offset») (s .policy .«delay_max») (s .width) → r ≡ wholeWindow (partOf i (lent (record { seconds = slot .«lag_seconds»; buckets = buckets; width = s .width }) starts totals counts)) → r ≡ wholeWindow (windowOf s given i)
+    pub told-hold : {k : ℕ} {r : Bool} → k ≡ 600 → r ≡ wholeHold policy width (held (slot .hold) (take k (drop (i * 600) times)) (take k (drop (i * 600) lags))) → r ≡ wholeHold (s .policy) (s .width) (heldOf s given i)
+    told-hold k g = g ∙ (λ t. wholeHold (p t) (w t) (held (e t .hold) (take (k t) (drop (i * 600) times)) (take (k t) (drop (i * 600) lags))))
+
+    pub told-slot : {flows : ℕ} {r : Bool} → flows ≡ s .«flow_count» → r ≡ wholeSlot (policy .«delay_max») flows slot → r ≡ wholeSlot (s .policy .«delay_max») (s .«flow_count») (slotAt s i)
+    told-slot f g = g ∙ (λ t. wholeSlot (p t .«delay_max») (f t) (e t))
+
+  module _ (s : Inputs) where
+    -- what `whole_input` asks
+    pub input-asks : Fitting s given → i < s .count → Sound (s .policy) × (Held i (lentFor (s .width) (getD (s .slots) i emptySlot) (bucketsOf (s .policy .«read_offset») (s .policy .«delay_max») (s .width))) × ((i * 600 + 600 ≤ length times) × (i * 600 + 600 ≤ length lags)))
     unfolding bucketsIn
-    told-window b g = g ∙ (λ t. wholeWindow (partOf i (lent (record { seconds = e t .«lag_seconds»; buckets = b t; width = s .width }) starts totals counts)))
+    input-asks f h = (
+      f .allowed .sound,
+      (
+        window-held s given f i (getD (s .slots) i emptySlot) h,
+        (omega (arith, block-within i (s .count) 600 h, f .long .times), omega (arith, block-within i (s .count) 600 h, f .long .lags)),
+      ),
+    )
 
-    pub told-hold : {k : ℕ} {r : Bool} → k ≡ 600 → r ≡ wholeHold (s .policy) (s .width) (held (slot .hold) (take k (drop (i * 600) times)) (take k (drop (i * 600) lags))) → r ≡ wholeHold (s .policy) (s .width) (heldOf s given i)
-    told-hold k g = g ∙ (λ t. wholeHold (s .policy) (s .width) (held (e t .hold) (take (k t) (drop (i * 600) times)) (take (k t) (drop (i * 600) lags))))
+    pub told-input : {r : Bool} → i < s .count → r ≡ wholeInput s given i → r ≡ inputFits s given i
+    told-input h g = g ∙ sym (yes-pick _ _ (lt-ltb _ _ h))
 
-    pub told-unused : {r : Bool} → s .count ≤ i → r ≡ unusedSlot slot → r ≡ inputFits s given i
-    told-unused h g = g ∙ ap unusedSlot e ∙ sym (no-pick _ _ (le-ltb _ _ h))
-
-  pub told-input : {r : Bool} → i < s .count → r ≡ wholeInput s given i → r ≡ inputFits s given i
-  told-input h g = g ∙ sym (yes-pick _ _ (lt-ltb _ _ h))
+    pub told-unused : {r : Bool} → s .count ≤ i → i < 16 → r ≡ unusedSlot (getD (s .slots) i emptySlot) → r ≡ inputFits s given i
+    told-unused h l g = g ∙ ap unusedSlot (slot-in s i l) ∙ sym (no-pick _ _ (le-ltb _ _ h))

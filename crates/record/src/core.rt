@@ -1,13 +1,21 @@
 // Check 6 of a whole supervisor, for a record and lists that checks 1 to 5 let through.
 ghost use mathlib.Core.Path.{_≡_};
-ghost use Prim.Native.Nat.{_<_, _≤_};
+ghost use Prim.Native.Nat.{_+_, _*_, _≤_};
+ghost use lib.ListN.{length};
+ghost use Rattle.policy.specs.Settings.{Sound};
+ghost use Rattle.lag_window.specs.Window.{lent, bucketsOf};
+ghost use Rattle.lag_window.specs.Parts.{Held};
+ghost use Rattle.slots.specs.declared.Inputs.{Inputs};
+ghost use Rattle.slots.specs.Inputs.{slotAt};
 ghost use Rattle.record.specs.Lent.{lists};
-ghost use Rattle.record.specs.Record.{wholeInput, inputFits, wholeInputs, wholeRecord};
+ghost use Rattle.record.specs.Record.{wholeInput, wholeInputs, wholeRecord};
 ghost use Rattle.record.specs.Checks.{listsFit, commandsFit, Fitting};
 use super::Commands;
 use super::places;
 use lag_window::LagWindow;
+use policy::DelayPolicy;
 use slots::Inputs;
+use slots::Slot;
 
 // The peaks that are kept of an input.
 const PEAKS: usize = 600;
@@ -51,26 +59,29 @@ pub fn commands_fit(n: usize, commands: Commands) -> bool
     words == n * 12
 }
 
-// Input i: its seconds, its peaks with seed and timer, and the rest of its slot. Each count is read once.
+// Input i: its seconds, its peaks with seed and timer, and the rest of its slot. Each count is read once. Only what is read is handed on:
+// the record would be copied for each input.
 fn whole_input(
-    inputs: Inputs,
+    policy: DelayPolicy,
+    width: u32,
+    flows: usize,
     i: usize,
+    slot: Slot,
     starts: &[u64],
     totals: &[u64],
     counts: &[u32],
     times: &[u64],
     lags: &[u32],
 ) -> bool
-    requires { ⌜ Fitting inputs (lists (now starts) (now totals) (now counts) (now times) (now lags)) ⌝ }
-    requires { ⌜ i < inputs .count ⌝ }
-    ensures { λ r. ⌜ r ≡ wholeInput inputs (lists (now (starts .entry)) (now (totals .entry)) (now (counts .entry)) (now (times .entry)) (now (lags .entry))) i ⌝ }
+    requires { ⌜ Sound policy ⌝ }
+    requires { ⌜ Held i (lent (record { seconds = slot .«lag_seconds»; buckets = bucketsOf (policy .«read_offset») (policy .«delay_max») width; width = width }) (now starts) (now totals) (now counts)) ⌝ }
+    requires { ⌜ (i * 600 + 600 ≤ length (now times)) × (i * 600 + 600 ≤ length (now lags)) ⌝ }
+    ensures { λ r. ⌜ ((s : Inputs) → (policy ≡ s .policy) → (width ≡ s .width) → (flows ≡ s .«flow_count») → (slot ≡ slotAt s i) → r ≡ wholeInput s (lists (now (starts .entry)) (now (totals .entry)) (now (counts .entry)) (now (times .entry)) (now (lags .entry))) i) ⌝ }
 {
-    let slot = slots::slot_at(inputs, i);
-    let policy = inputs.policy;
     let window = LagWindow {
         seconds: slot.lag_seconds,
-        buckets: lag_window::core::buckets_of(policy.read_offset, policy.delay_max, inputs.width),
-        width: inputs.width,
+        buckets: lag_window::core::buckets_of(policy.read_offset, policy.delay_max, width),
+        width,
     };
     if !lag_window::core::whole(window, i, starts, totals, counts) {
         return false;
@@ -78,31 +89,13 @@ fn whole_input(
     let hold = slot.hold;
     let a = i * PEAKS;
     let e = a + PEAKS;
-    if !delay_hold::core::whole(hold, policy, inputs.width, &times[a..e], &lags[a..e]) {
+    if !delay_hold::core::whole(hold, policy, width, &times[a..e], &lags[a..e]) {
         return false;
     }
-    places::whole_slot(policy.delay_max, inputs.flow_count, slot)
+    places::whole_slot(policy.delay_max, flows, slot)
 }
 
 // An input is whole, and a slot after the inputs is not in use.
-fn input_fits(
-    inputs: Inputs,
-    i: usize,
-    starts: &[u64],
-    totals: &[u64],
-    counts: &[u32],
-    times: &[u64],
-    lags: &[u32],
-) -> bool
-    requires { ⌜ Fitting inputs (lists (now starts) (now totals) (now counts) (now times) (now lags)) ⌝ }
-    ensures { λ r. ⌜ r ≡ inputFits inputs (lists (now (starts .entry)) (now (totals .entry)) (now (counts .entry)) (now (times .entry)) (now (lags .entry))) i ⌝ }
-{
-    if i < inputs.count {
-        return whole_input(inputs, i, starts, totals, counts, times, lags);
-    }
-    places::unused_slot(slots::slot_at(inputs, i))
-}
-
 fn whole_inputs(
     inputs: Inputs,
     starts: &[u64],
@@ -114,9 +107,29 @@ fn whole_inputs(
     requires { ⌜ Fitting inputs (lists (now starts) (now totals) (now counts) (now times) (now lags)) ⌝ }
     ensures { λ r. ⌜ r ≡ wholeInputs inputs (lists (now (starts .entry)) (now (totals .entry)) (now (counts .entry)) (now (times .entry)) (now (lags .entry))) ⌝ }
 {
+    let policy = inputs.policy;
     let mut i: usize = 0;
+    while i < inputs.count {
+        let slot = inputs.slots[i];
+        if !whole_input(
+            policy,
+            inputs.width,
+            inputs.flow_count,
+            i,
+            slot,
+            starts,
+            totals,
+            counts,
+            times,
+            lags,
+        ) {
+            return false;
+        }
+        i += 1;
+    }
     while i < 16 {
-        if !input_fits(inputs, i, starts, totals, counts, times, lags) {
+        let slot = inputs.slots[i];
+        if !places::unused_slot(slot) {
             return false;
         }
         i += 1;

@@ -1,14 +1,18 @@
 // Check 6 of what stands in the record itself: an input's slot, a place that is not in use, the two tables.
 ghost use mathlib.Core.Path.{_≡_};
-ghost use Prim.Native.Nat.{_<_};
+ghost use mathlib.Core.Bool.{true};
+ghost use lib.Dec.{ltb};
+ghost use Rattle.base.specs.Choice.{pick};
 ghost use Rattle.delay_hold.specs.Whole.{momentTimely};
-ghost use Rattle.record.specs.Places.{proposalFits, routeFits, wholeSlot, neverYet, noSeed, noRoute, noInode, noProposal, noDelay, unusedTimer, unusedHold, unusedParts, unusedNumbers, unusedSlot, entryFits, entriesFit, wholeFlows, keyFits, keysFit, wholeInstances};
+ghost use Rattle.record.specs.Places.{proposalFits, routeFits, wholeSlot, neverYet, noSeed, noRoute, noInode, noProposal, noDelay, unusedTimer, unusedHold, unusedParts, unusedNumbers, unusedSlot, unusedEntry, entriesFit, wholeFlows, unusedKey, keysFit, wholeInstances};
 use delay_hold::DelayHold;
 use delay_hold::LowerTimer;
 use delay_hold::Moment;
 use delay_hold::Seed;
+use slots::FlowEntry;
 use slots::Inode;
 use slots::Inputs;
+use slots::Instance;
 use slots::Proposal;
 use slots::Remembered;
 use slots::Routed;
@@ -246,29 +250,32 @@ pub(crate) fn unused_slot(slot: Slot) -> bool
     unused_numbers(slot)
 }
 
-// A place of the flow table is in use, or empty.
-fn entry_fits(inputs: Inputs, place: usize) -> bool
-    ensures { λ r. ⌜ r ≡ entryFits inputs place ⌝ }
+// A place of the flow table, of which n are in use, is one of them, or empty.
+fn entry_fits(n: usize, place: usize, entry: FlowEntry) -> bool
+    ensures { λ r. ⌜ r ≡ pick (ltb place n) true (unusedEntry entry) ⌝ }
 {
-    if place < inputs.flow_count {
+    if place < n {
         return true;
     }
-    let flow = flows::flow_at(inputs, place);
+    let flow = entry.flow;
     if flow.high != 0 {
         return false;
     }
     if flow.low != 0 {
         return false;
     }
-    no_delay(flows::recall(inputs, place))
+    let last = entry.remembered;
+    no_delay(last)
 }
 
+// The loop reads each entry here: handed on, the record would be copied for each place.
 fn entries_fit(inputs: Inputs) -> bool
     ensures { λ r. ⌜ r ≡ entriesFit inputs ⌝ }
 {
     let mut place: usize = 0;
     while place < 64 {
-        if !entry_fits(inputs, place) {
+        let entry = inputs.flows[place];
+        if !entry_fits(inputs.flow_count, place, entry) {
             return false;
         }
         place += 1;
@@ -288,14 +295,12 @@ pub(crate) fn whole_flows(inputs: Inputs) -> bool
     entries_fit(inputs)
 }
 
-// A place of the instance table holds a known flow's instance, or is empty.
-fn key_fits(inputs: Inputs, place: usize) -> bool
-    requires { ⌜ place < 18 ⌝ }
-    ensures { λ r. ⌜ r ≡ keyFits inputs place ⌝ }
+// A place of the instance table, of which n are in use, holds an instance of one of the known flows, or is empty.
+fn key_fits(n: usize, known: usize, place: usize, key: Instance) -> bool
+    ensures { λ r. ⌜ r ≡ pick (ltb place n) (ltb (key .flow) known) (unusedKey key) ⌝ }
 {
-    let key = inputs.instances[place];
-    if place < inputs.instance_count {
-        return key.flow < inputs.flow_count;
+    if place < n {
+        return key.flow < known;
     }
     if key.flow != 0 {
         return false;
@@ -308,7 +313,8 @@ fn keys_fit(inputs: Inputs) -> bool
 {
     let mut place: usize = 0;
     while place < 18 {
-        if !key_fits(inputs, place) {
+        let key = inputs.instances[place];
+        if !key_fits(inputs.instance_count, inputs.flow_count, place, key) {
             return false;
         }
         place += 1;

@@ -19,6 +19,11 @@ getD-set-rule P a none [] i new old = old
 getD-set-rule P a none (x ∷ l) zero new old = new
 getD-set-rule P a none (x ∷ l) (suc i) new old = getD-set-rule P a none l i new old
 
+-- a slot as a loop over the record reads it
+pub slot-in : (s : Inputs) (i : ℕ) → i < 16 → getD (s .slots) i emptySlot ≡ slotAt s i
+unfolding slotAt
+slot-in s i h = rw (lt-ltb i 16 h)
+
 module _ (s : Inputs) (i : ℕ) (slot : Slot) where
   -- the slot that was written is read again
   pub slot-same : i < 16 → length (s .slots) ≡ 16 → slotAt (putSlot s i slot) i ≡ slot

@@ -1,6 +1,7 @@
 -- `flows::find` meets its contract. Assumes nothing.
+use mathlib.Core.Path.{_∙_}
 use borrow.Author.Needs.{needs}
-use Rattle.flows.proofs.Cases.{known-most}
+use Rattle.flows.proofs.Cases.{known-most, table-below}
 use Rattle.flows.specs.Flows.{placeOf}
 use Rattle.flows.proofs.find.Statement.{statement}
 use Rattle.flows.proofs.find.Tie as tie
@@ -9,11 +10,11 @@ places-requires : tie.Need-places-requires
 places-requires c κs = search needs
 
 find-below-requires : tie.Need-find-below-requires
-find-below-requires c κs = rw (c .places .ensures) (known-most _)
+find-below-requires c κs = rw (c .before .places .ensures) (known-most _)
 
 returns : tie.Need-returns
 unfolding placeOf
-returns c = rw (c .find-below .ensures, c .before .places .ensures)
+returns c = c .find-below .ensures ∙ rw (c .before .before .places .ensures) (table-below _ _ _ (known-most _))
 
 pub find-spec : {M : Type 1} → statement M
 find-spec = tie.close (tie.spec places-requires find-below-requires returns)

@@ -1,31 +1,26 @@
 -- `record::core::whole_input` meets its contract. Assumes nothing.
 use Prim.Native.Nat.{_*_}
-use mathlib.Core.Path.{_∙_, ap}
 use native.Mathlib.Nat.{add-sub-cancel-left}
 use borrow.Author.Needs.{needs}
 use Rattle.base.proofs.All.{both-no, both-yes, told-no, told-yes}
-use Rattle.record.specs.Places.{wholeSlot}
 use Rattle.record.specs.Record.{wholeInput}
-use Rattle.record.proofs.Cases.{told-hold, told-window, window-asks}
+use Rattle.record.proofs.Cases.{told-hold, told-slot, told-window, window-asks}
 use Rattle.record.proofs.core.whole_input.Statement.{statement}
 use Rattle.record.proofs.core.whole_input.Tie as tie
-
-slot-at-requires : tie.Need-slot-at-requires
-slot-at-requires c κs = search needs
 
 buckets-of-requires : tie.Need-buckets-of-requires
 buckets-of-requires c κs = search needs
 
 whole-requires : tie.Need-whole-requires
 whole-requires c κs =
-    let args = c .before .before .before .before .before .before .before .before .args in
-    window-asks (args .inputs) (args .i) (args .starts .now) (args .totals .now) (args .counts .now) (args .times .now) (args .lags .now) (c .before .before .before .before .before .before .before .before .pre .0) (c .before .before .before .before .before .before .before .before .pre .1) (c .before .before .slot-at .result) (c .buckets-of .ensures)
+    let args = c .before .before .before .before .before .before .args in
+    window-asks (args .i) (args .starts .now) (args .totals .now) (args .counts .now) (args .times .now) (args .lags .now) (args .policy) (args .width) (args .slot) (c .buckets-of .ensures) (c .before .before .before .before .before .before .pre .1 .0)
 
 returns : tie.Need-returns
 unfolding wholeInput
-returns c =
-    let args = c .before .before .before .before .before .before .before .before .before .before .args in
-    both-no _ _ (told-no _ _ (told-window (args .inputs) (args .i) (args .starts .now) (args .totals .now) (args .counts .now) (args .times .now) (args .lags .now) (c .before .before .before .before .slot-at .ensures) (c .before .before .buckets-of .ensures) (c .before .whole .ensures)) (c .if1 .taken))
+returns c s p w f e =
+    let args = c .before .before .before .before .before .before .before .before .args in
+    both-no _ _ (told-no _ _ (told-window (args .i) (args .starts .now) (args .totals .now) (args .counts .now) (args .times .now) (args .lags .now) s p w e (c .before .before .buckets-of .ensures) (c .before .whole .ensures)) (c .if1 .taken))
 
 mul-a : tie.Need-mul-a
 mul-a c = search needs
@@ -62,24 +57,26 @@ whole-requires-2 c κs = search needs
 
 returns-2 : tie.Need-returns-2
 unfolding wholeInput
-returns-2 c =
-    let args = c .before .before .before .before .before .before .before .before .before .before .before .before .before .before .before .args in
-    both-yes _ _ _ (told-yes _ _ (told-window (args .inputs) (args .i) (args .starts .now) (args .totals .now) (args .counts .now) (args .times .now) (args .lags .now) (c .before .before .before .before .before .before .before .before .before .slot-at .ensures) (c .before .before .before .before .before .before .before .buckets-of .ensures) (c .before .before .before .before .before .before .whole .ensures)) (c .before .before .before .before .before .if1 .left)) (both-no _ _ (told-no _ _ (told-hold (args .inputs) (args .i) (args .starts .now) (args .totals .now) (args .counts .now) (args .times .now) (args .lags .now) (c .before .before .before .before .before .before .before .before .before .slot-at .ensures) (add-sub-cancel-left (args .i * 600) 600) (c .before .whole2 .ensures)) (c .if2 .taken)))
+returns-2 c s p w f e =
+    let args = c .before .before .before .before .before .before .before .before .before .before .before .before .before .args in
+    both-yes _ _ _ (told-yes _ _ (told-window (args .i) (args .starts .now) (args .totals .now) (args .counts .now) (args .times .now) (args .lags .now) s p w e (c .before .before .before .before .before .before .before .buckets-of .ensures) (c .before .before .before .before .before .before .whole .ensures)) (c .before .before .before .before .before .if1 .left))
+    (both-no _ _ (told-no _ _ (told-hold (args .i) (args .starts .now) (args .totals .now) (args .counts .now) (args .times .now) (args .lags .now) s p w e (add-sub-cancel-left (args .i * 600) 600) (c .before .whole2 .ensures)) (c .if2 .taken)))
 
 whole-slot-requires : tie.Need-whole-slot-requires
 whole-slot-requires c κs = search needs
 
 returns-3 : tie.Need-returns-3
 unfolding wholeInput
-returns-3 c =
-    let args = c .before .before .before .before .before .before .before .before .before .before .before .before .before .before .before .before .args in
-    both-yes _ _ _ (told-yes _ _ (told-window (args .inputs) (args .i) (args .starts .now) (args .totals .now) (args .counts .now) (args .times .now) (args .lags .now) (c .before .before .before .before .before .before .before .before .before .before .slot-at .ensures) (c .before .before .before .before .before .before .before .before .buckets-of .ensures) (c .before .before .before .before .before .before .before .whole .ensures)) (c .before .before .before .before .before .before .if1 .left)) (both-yes _ _ _ (told-yes _ _ (told-hold (args .inputs) (args .i) (args .starts .now) (args .totals .now) (args .counts .now) (args .times .now) (args .lags .now) (c .before .before .before .before .before .before .before .before .before .before .slot-at .ensures) (add-sub-cancel-left (args .i * 600) 600) (c .before .before .whole2 .ensures)) (c .before .if2 .left)) (c .whole-slot .ensures ∙ ap (wholeSlot (args .inputs .policy .«delay_max») (args .inputs .«flow_count»)) (c .before .before .before .before .before .before .before .before .before .before .slot-at .ensures)))
+returns-3 c s p w f e =
+    let args = c .before .before .before .before .before .before .before .before .before .before .before .before .before .before .args in
+    both-yes _ _ _ (told-yes _ _ (told-window (args .i) (args .starts .now) (args .totals .now) (args .counts .now) (args .times .now) (args .lags .now) s p w e (c .before .before .before .before .before .before .before .before .buckets-of .ensures) (c .before .before .before .before .before .before .before .whole .ensures)) (c .before .before .before .before .before .before .if1 .left))
+    (both-yes _ _ _ (told-yes _ _ (told-hold (args .i) (args .starts .now) (args .totals .now) (args .counts .now) (args .times .now) (args .lags .now) s p w e (add-sub-cancel-left (args .i * 600) 600) (c .before .before .whole2 .ensures)) (c .before .if2 .left))
+    (told-slot (args .i) (args .starts .now) (args .totals .now) (args .counts .now) (args .times .now) (args .lags .now) s p w e f (c .whole-slot .ensures)))
 
 pub whole-input-spec : {M : Type 1} → statement M
 whole-input-spec =
     tie.close
     (tie.spec
-    slot-at-requires
     buckets-of-requires
     whole-requires
     returns

@@ -1,46 +1,30 @@
 -- `record::places::entry_fits` meets its contract. Assumes nothing.
+use mathlib.Core.Path.{sym, _∙_}
+use borrow.Author.Tests.{eq-eqb, ne-eqb, lt-ltb, le-ltb}
 use borrow.Author.Needs.{needs}
-use Rattle.record.proofs.Cases.{entry-high, entry-in-use, entry-last, entry-low}
+use Rattle.base.proofs.All.{both-no, both-yes}
+use Rattle.base.proofs.Choices.{yes-pick, no-pick}
+use Rattle.record.specs.Places.{unusedEntry}
 use Rattle.record.proofs.places.entry_fits.Statement.{statement}
 use Rattle.record.proofs.places.entry_fits.Tie as tie
 
 returns : tie.Need-returns
-returns c =
-    let args = c .before .before .args in
-    entry-in-use (args .inputs) (args .place) (c .if1 .taken)
-
-flow-at-requires : tie.Need-flow-at-requires
-flow-at-requires c κs = search needs
+returns c = sym (yes-pick _ _ (lt-ltb _ _ (c .if1 .taken)))
 
 returns-2 : tie.Need-returns-2
-returns-2 c =
-    let args = c .before .before .before .before .before .args in
-    entry-high (args .inputs) (args .place) (c .before .before .before .if1 .left) (c .before .before .flow-at .ensures) (c .if2 .taken)
+unfolding unusedEntry
+returns-2 c = both-no _ _ (ne-eqb _ _ (c .if2 .taken)) ∙ sym (no-pick _ _ (le-ltb _ _ (c .before .before .before .if1 .left)))
 
 returns-3 : tie.Need-returns-3
-returns-3 c =
-    let args = c .before .before .before .before .before .before .before .args in
-    entry-low (args .inputs) (args .place) (c .before .before .before .before .before .if1 .left) (c .before .before .before .before .flow-at .ensures) (c .before .before .if2 .left) (c .if3 .taken)
-
-recall-requires : tie.Need-recall-requires
-recall-requires c κs = search needs
+unfolding unusedEntry
+returns-3 c = both-yes _ _ _ (eq-eqb _ _ (c .before .before .if2 .left)) (both-no _ _ (ne-eqb _ _ (c .if3 .taken))) ∙ sym (no-pick _ _ (le-ltb _ _ (c .before .before .before .before .before .if1 .left)))
 
 no-delay-requires : tie.Need-no-delay-requires
 no-delay-requires c κs = search needs
 
 returns-4 : tie.Need-returns-4
-returns-4 c =
-    let args = c .before .before .before .before .before .before .before .before .before .args in
-    entry-last (args .inputs) (args .place) (c .before .before .before .before .before .before .before .if1 .left) (c .before .before .before .before .before .before .flow-at .ensures) (c .before .before .before .before .if2 .left) (c .before .before .if3 .left) (c .before .recall .ensures) (c .no-delay .ensures)
+unfolding unusedEntry
+returns-4 c = both-yes _ _ _ (eq-eqb _ _ (c .before .before .before .if2 .left)) (both-yes _ _ _ (eq-eqb _ _ (c .before .if3 .left)) (c .no-delay .ensures)) ∙ sym (no-pick _ _ (le-ltb _ _ (c .before .before .before .before .before .before .if1 .left)))
 
 pub entry-fits-spec : {M : Type 1} → statement M
-entry-fits-spec =
-    tie.close
-    (tie.spec
-    returns
-    flow-at-requires
-    returns-2
-    returns-3
-    recall-requires
-    no-delay-requires
-    returns-4)
+entry-fits-spec = tie.close (tie.spec returns returns-2 returns-3 no-delay-requires returns-4)
