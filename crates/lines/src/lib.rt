@@ -1,4 +1,7 @@
 // Lines from standard input, and answers to standard output, each through a buffer of the caller's.
+ghost use mathlib.Core.Path.{_≡_};
+ghost use lib.ListN.{length};
+ghost use Rattle.lines.specs.Lines.{atBegin, foundAt, lastOf, unfinishedOf, lookOf, textEnd, lineOf, passedBy, roomAt};
 use base::less_usize;
 use base::sum_usize;
 use libc::STDIN_FILENO;
@@ -30,7 +33,9 @@ pub struct Cursor {
     pub dropped: bool,
 }
 
-pub fn begin() -> Cursor {
+pub fn begin() -> Cursor
+    ensures { λ r. ⌜ r ≡ atBegin ⌝ }
+{
     Cursor {
         from: 0,
         seen: 0,
@@ -43,7 +48,9 @@ pub fn begin() -> Cursor {
     }
 }
 
-fn found(c: Cursor, end: usize, next: usize) -> Cursor {
+fn found(c: Cursor, end: usize, next: usize) -> Cursor
+    ensures { λ r. ⌜ r ≡ foundAt c end next ⌝ }
+{
     Cursor {
         found: true,
         end,
@@ -53,7 +60,9 @@ fn found(c: Cursor, end: usize, next: usize) -> Cursor {
 }
 
 // What is left at the end of the input is a line without a newline.
-fn last(c: Cursor) -> Cursor {
+fn last(c: Cursor) -> Cursor
+    ensures { λ r. ⌜ r ≡ lastOf c ⌝ }
+{
     if c.from < c.to {
         return found(c, c.to, c.to);
     }
@@ -64,7 +73,9 @@ fn last(c: Cursor) -> Cursor {
 }
 
 // No newline yet: what was read of a line that is too long is dropped.
-fn unfinished(c: Cursor) -> Cursor {
+fn unfinished(c: Cursor) -> Cursor
+    ensures { λ r. ⌜ r ≡ unfinishedOf c ⌝ }
+{
     if LONGEST < less_usize(c.to, c.from) {
         return Cursor {
             from: c.to,
@@ -77,7 +88,9 @@ fn unfinished(c: Cursor) -> Cursor {
 }
 
 // Looks for the end of the next line in what was read.
-pub fn look(input: &[u8], c: Cursor) -> Cursor {
+pub fn look(input: &[u8], c: Cursor) -> Cursor
+    ensures { λ r. ⌜ r ≡ lookOf (now (input .entry)) c ⌝ }
+{
     let newline = first(input, c.seen, c.to, b'\n');
     if let Step::At(end) = newline {
         return found(c, end, sum_usize(end, 1));
@@ -89,7 +102,9 @@ pub fn look(input: &[u8], c: Cursor) -> Cursor {
 }
 
 // Where the text of the line that was found ends: a carriage return before its newline is no part of it.
-fn text_end(input: &[u8], c: Cursor) -> usize {
+fn text_end(input: &[u8], c: Cursor) -> usize
+    ensures { λ r. ⌜ r ≡ textEnd (now (input .entry)) c ⌝ }
+{
     let end = c.end;
     if c.next <= end {
         return end;
@@ -107,7 +122,9 @@ fn text_end(input: &[u8], c: Cursor) -> usize {
 }
 
 // The line that was found. One that is too long is empty, and an empty line cannot be read.
-pub fn line(input: &[u8], c: Cursor) -> &[u8] {
+pub fn line(input: &[u8], c: Cursor) -> &[u8]
+    ensures { λ r. ⌜ now r ≡ lineOf (now (input .entry)) c ⌝ }
+{
     if c.dropped {
         return part(input, 0, 0);
     }
@@ -118,7 +135,9 @@ pub fn line(input: &[u8], c: Cursor) -> &[u8] {
 }
 
 // The line is answered.
-pub fn passed(c: Cursor) -> Cursor {
+pub fn passed(c: Cursor) -> Cursor
+    ensures { λ r. ⌜ r ≡ passedBy c ⌝ }
+{
     Cursor {
         from: c.next,
         seen: c.next,
@@ -169,7 +188,9 @@ pub fn write(out: &[u8], place: usize) -> bool {
 }
 
 // The place for the next words: where few places are left, the answers so far are written and the buffer begins anew.
-pub fn room(out: &[u8], place: usize) -> usize {
+pub fn room(out: &[u8], place: usize) -> usize
+    ensures { λ r. ⌜ r ≡ roomAt (length (now (out .entry))) place ⌝ }
+{
     if SPARE <= less_usize(out.len(), place) {
         return place;
     }

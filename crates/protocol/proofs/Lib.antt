@@ -6,3 +6,4 @@ pub mod Printing
 pub mod Reading
 pub mod RoundTrip
 pub mod Scanning
+pub mod Wording

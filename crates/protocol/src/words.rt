@@ -1,6 +1,10 @@
 // The words of a line, read one after the other. Each function reads what stands after a separating byte and answers its value with the
 // place after it. Where nothing of that form stands, the value is zero and the place is LOST, at which nothing stands either: so the words of
 // a call are read without a test between them, and one test at the end tells whether all were there.
+ghost use mathlib.Core.Path.{_≡_};
+ghost use Rattle.protocol.specs.Scan.{afterText, afterWord};
+ghost use Rattle.protocol.specs.Fields.{numberAfter, smallAfter, flagAfter, maybeAfter, maybeSmallAfter, flowAfter, kindAfter};
+ghost use Rattle.protocol.specs.Words.{wordOf, smallWordOf, byteWordOf, bitWordOf, maybeWordOf, maybeSmallWordOf, pairOf, flowWordOf, kindWordOf, placeOf};
 use crate::Flag;
 use crate::FlowText;
 use crate::KindText;
@@ -78,7 +82,9 @@ pub struct KindWord {
     pub next: usize,
 }
 
-fn numeral(n: Number) -> Word {
+fn numeral(n: Number) -> Word
+    ensures { λ r. ⌜ r ≡ wordOf n ⌝ }
+{
     let Number::Of(value, next) = n else {
         return Word {
             value: 0,
@@ -88,15 +94,21 @@ fn numeral(n: Number) -> Word {
     Word { value, next }
 }
 
-pub fn u64_word(s: &[u8], at: usize, sep: u8) -> Word {
+pub fn u64_word(s: &[u8], at: usize, sep: u8) -> Word
+    ensures { λ r. ⌜ r ≡ wordOf (numberAfter (now (s .entry)) at sep 10 18446744073709551615) ⌝ }
+{
     numeral(u64_after(s, at, sep))
 }
 
-pub fn hex_word(s: &[u8], at: usize, sep: u8) -> Word {
+pub fn hex_word(s: &[u8], at: usize, sep: u8) -> Word
+    ensures { λ r. ⌜ r ≡ wordOf (numberAfter (now (s .entry)) at sep 16 18446744073709551615) ⌝ }
+{
     numeral(hex_after(s, at, sep))
 }
 
-pub fn u32_word(s: &[u8], at: usize, sep: u8) -> SmallWord {
+pub fn u32_word(s: &[u8], at: usize, sep: u8) -> SmallWord
+    ensures { λ r. ⌜ r ≡ smallWordOf (smallAfter (now (s .entry)) at sep) ⌝ }
+{
     let Small::Of(value, next) = u32_after(s, at, sep) else {
         return SmallWord {
             value: 0,
@@ -106,7 +118,9 @@ pub fn u32_word(s: &[u8], at: usize, sep: u8) -> SmallWord {
     SmallWord { value, next }
 }
 
-pub fn u8_word(s: &[u8], at: usize, sep: u8) -> ByteWord {
+pub fn u8_word(s: &[u8], at: usize, sep: u8) -> ByteWord
+    ensures { λ r. ⌜ r ≡ byteWordOf (numberAfter (now (s .entry)) at sep 10 255) ⌝ }
+{
     let w = numeral(number_after(s, at, sep, 255));
     if w.value <= 255 {
         return ByteWord {
@@ -120,7 +134,9 @@ pub fn u8_word(s: &[u8], at: usize, sep: u8) -> ByteWord {
     }
 }
 
-pub fn bit_word(s: &[u8], at: usize, sep: u8) -> BitWord {
+pub fn bit_word(s: &[u8], at: usize, sep: u8) -> BitWord
+    ensures { λ r. ⌜ r ≡ bitWordOf (flagAfter (now (s .entry)) at sep) ⌝ }
+{
     let Flag::Of(value, next) = bit_after(s, at, sep) else {
         return BitWord {
             value: false,
@@ -130,7 +146,9 @@ pub fn bit_word(s: &[u8], at: usize, sep: u8) -> BitWord {
     BitWord { value, next }
 }
 
-pub fn maybe_u64_word(s: &[u8], at: usize, sep: u8) -> MaybeWord {
+pub fn maybe_u64_word(s: &[u8], at: usize, sep: u8) -> MaybeWord
+    ensures { λ r. ⌜ r ≡ maybeWordOf (maybeAfter (now (s .entry)) at sep 18446744073709551615) ⌝ }
+{
     let m = maybe_u64_after(s, at, sep);
     match m {
         Maybe::Of(value, next) => MaybeWord {
@@ -151,7 +169,9 @@ pub fn maybe_u64_word(s: &[u8], at: usize, sep: u8) -> MaybeWord {
     }
 }
 
-pub fn maybe_u32_word(s: &[u8], at: usize, sep: u8) -> MaybeSmallWord {
+pub fn maybe_u32_word(s: &[u8], at: usize, sep: u8) -> MaybeSmallWord
+    ensures { λ r. ⌜ r ≡ maybeSmallWordOf (maybeSmallAfter (now (s .entry)) at sep) ⌝ }
+{
     let m = maybe_u32_after(s, at, sep);
     match m {
         MaybeSmall::Of(value, next) => MaybeSmallWord {
@@ -173,7 +193,9 @@ pub fn maybe_u32_word(s: &[u8], at: usize, sep: u8) -> MaybeSmallWord {
 }
 
 // Two numbers with a colon between them, or none; the second is at most `most`.
-pub fn maybe_pair_word(s: &[u8], at: usize, sep: u8, most: u64) -> MaybePair {
+pub fn maybe_pair_word(s: &[u8], at: usize, sep: u8, most: u64) -> MaybePair
+    ensures { λ r. ⌜ r ≡ pairOf (now (s .entry)) most (maybeAfter (now (s .entry)) at sep 18446744073709551615) ⌝ }
+{
     let first = maybe_u64_word(s, at, sep);
     if first.some {
         let second = numeral(number_after(s, first.next, b':', most));
@@ -192,7 +214,9 @@ pub fn maybe_pair_word(s: &[u8], at: usize, sep: u8, most: u64) -> MaybePair {
     }
 }
 
-pub fn flow_word(s: &[u8], at: usize, sep: u8) -> FlowWord {
+pub fn flow_word(s: &[u8], at: usize, sep: u8) -> FlowWord
+    ensures { λ r. ⌜ r ≡ flowWordOf (flowAfter (now (s .entry)) at sep) ⌝ }
+{
     let FlowText::Of(high, low, next) = flow_after(s, at, sep) else {
         return FlowWord {
             high: 0,
@@ -203,7 +227,9 @@ pub fn flow_word(s: &[u8], at: usize, sep: u8) -> FlowWord {
     FlowWord { high, low, next }
 }
 
-pub fn kind_word(s: &[u8], at: usize, sep: u8) -> KindWord {
+pub fn kind_word(s: &[u8], at: usize, sep: u8) -> KindWord
+    ensures { λ r. ⌜ r ≡ kindWordOf (kindAfter (now (s .entry)) at sep) ⌝ }
+{
     let k = kind_after(s, at, sep);
     match k {
         KindText::Auto(next) => KindWord {
@@ -224,7 +250,9 @@ pub fn kind_word(s: &[u8], at: usize, sep: u8) -> KindWord {
     }
 }
 
-fn place(step: Step) -> usize {
+fn place(step: Step) -> usize
+    ensures { λ r. ⌜ r ≡ placeOf step ⌝ }
+{
     let Step::At(next) = step else {
         return LOST;
     };
@@ -232,11 +260,15 @@ fn place(step: Step) -> usize {
 }
 
 // The place after this text.
-pub fn text_end(s: &[u8], at: usize, text: &[u8]) -> usize {
+pub fn text_end(s: &[u8], at: usize, text: &[u8]) -> usize
+    ensures { λ r. ⌜ r ≡ placeOf (afterText (now (s .entry)) at (now (text .entry))) ⌝ }
+{
     place(after_text(s, at, text))
 }
 
 // The place after this text, which is a whole word.
-pub fn word_end(s: &[u8], at: usize, text: &[u8]) -> usize {
+pub fn word_end(s: &[u8], at: usize, text: &[u8]) -> usize
+    ensures { λ r. ⌜ r ≡ placeOf (afterWord (now (s .entry)) at (now (text .entry))) ⌝ }
+{
     place(after_word(s, at, text))
 }

@@ -1,0 +1,14 @@
+-- `protocol::words::word_end` meets its contract. Assumes nothing.
+use borrow.Author.Needs.{needs}
+use Rattle.protocol.specs.Words.{placeOf}
+use Rattle.protocol.proofs.Wording.{carried}
+use Rattle.protocol.proofs.words.word_end.Statement.{statement}
+use Rattle.protocol.proofs.words.word_end.Tie as tie
+
+pub word-end-spec : {M : Type 1} → statement M
+word-end-spec =
+    tie.close
+    (tie.spec
+    (λ c κs. search needs)  -- after-word-requires
+    (λ c κs. search needs)  -- place-requires
+    (λ c. search (carried placeOf)))  -- returns
