@@ -34,24 +34,22 @@ unfolding lastLag
 last-some lags before h = default-same lags (length lags - 1) 0 before (omega arith)
 
 -- ---- the steps of the code
-module _ (s : Inputs) (i time : ℕ) (lags : List ℕ) (a b c a′ b′ c′ : List ℕ) {slot counted changed : Slot} {r : Inputs} {before w : LagWindow} {last : ℕ}
+module _ (s : Inputs) (i time : ℕ) (lags : List ℕ) (a b c a′ b′ c′ : List ℕ) {slot counted changed : Slot} {before w : LagWindow} {last : ℕ}
     (is-slot : slot ≡ slotAt s i)
     (is-before : before ≡ windowIn s slot)
     (is-window : lent w a′ b′ c′ ≡ placed i (pushedAll time lags (partOf i (lent before a b c))) (lent before a b c))
     (is-counted : counted ≡ withLagSeconds slot (w .seconds))
     (is-last : last ≡ lastLag lags (slot .«last_lag»))
-    (is-changed : changed ≡ withLastLag counted last)
-    (is-put : r ≡ putSlot s i changed) where
+    (is-changed : changed ≡ withLastLag counted last) where
   abbrev from : LagWindow
   from = windowIn s (slotAt s i)
 
   pushed-is : lent w a′ b′ c′ ≡ placed i (pushedAll time lags (partOf i (lent from a b c))) (lent from a b c)
   pushed-is = is-window ∙ ap (λ (x : LagWindow). placed i (pushedAll time lags (partOf i (lent x a b c))) (lent x a b c)) (is-before ∙ ap (windowIn s) is-slot)
 
-  pub arrived-by : (times peaks : List ℕ) → silent r (lists a′ b′ c′ times peaks) ≡ arrived i time lags s (lists a b c times peaks)
+  pub arrived-by : (times peaks : List ℕ) → silent (putSlot s i changed) (lists a′ b′ c′ times peaks) ≡ arrived i time lags s (lists a b c times peaks)
   unfolding arrived windowAfter
   arrived-by times peaks =
-      (λ t. silent (is-put t) (lists a′ b′ c′ times peaks))
-      ∙ (λ t. silent (putSlot s i (is-changed t)) (lists a′ b′ c′ times peaks))
+      (λ t. silent (putSlot s i (is-changed t)) (lists a′ b′ c′ times peaks))
       ∙ (λ t. silent (putSlot s i (withLastLag (is-counted t) (is-last t))) (lists a′ b′ c′ times peaks))
       ∙ (λ t. silent (putSlot s i (withLastLag (withLagSeconds (is-slot t) (pushed-is t .seconds)) (lastLag lags (is-slot t .«last_lag»)))) (lists (pushed-is t .starts) (pushed-is t .totals) (pushed-is t .counts) times peaks))

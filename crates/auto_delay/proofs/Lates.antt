@@ -3,6 +3,7 @@ use Prim.Native.Nat.{ℕ, _+_, _<_, _≤_}
 use mathlib.Core.Bool.{Bool, true, false}
 use mathlib.Core.Path.{_≡_, sym, ap, _∙_}
 use lib.Dec.{ltb}
+use lib.ListN.{length, set}
 use borrow.Author.Tests.{eq-eqb, ne-eqb}
 use Rattle.base.specs.Choice.{both}
 use Rattle.base.proofs.Choices.{le-yes, le-no}
@@ -14,8 +15,10 @@ use Rattle.delay_hold.specs.Steps.{lateAt, lateOf}
 use Rattle.slots.specs.declared.Slot.{Slot}
 use Rattle.slots.specs.declared.Inputs.{Inputs}
 use Rattle.slots.specs.Slots.{stateNumber, withLate}
-use Rattle.slots.specs.Inputs.{slotAt, putSlot}
+use Rattle.slots.specs.Inputs.{putSlot, withSlots}
+use Rattle.slots.proofs.Frame.{slot-same, put-rest, put-put}
 use Rattle.auto_delay.specs.Arrival.{lateNow, lateEvents, lateSlot, lateEvent}
+use Rattle.auto_delay.proofs.Readiness.{put-stores}
 
 module _ (policy : DelayPolicy) (slot : Slot) (applied : ℕ) (largest : Lag) where
   pub late-not-running : (stateNumber (slot .state) ≡ 2 → ⊥) → false ≡ lateNow policy slot applied largest
@@ -56,10 +59,19 @@ module _ (slot : Slot) where
   events-more late e before = rw (e, before)
 
 -- ---- the steps of the code
-pub late-by : (s : Inputs) (i applied : ℕ) (largest : Lag) {slot changed : Slot} {late : Bool} {events : ℕ} {r : Inputs} → slot ≡ slotAt s i → late ≡ lateNow (s .policy) slot applied largest → events ≡ lateEvents slot late
-    → changed ≡ withLate slot events late → r ≡ putSlot s i changed → r ≡ lateEvent i applied largest s
+pub late-by : (policy : DelayPolicy) (slot : Slot) (applied : ℕ) (largest : Lag) {late : Bool} {events : ℕ} {r : Slot} → late ≡ lateNow policy slot applied largest → events ≡ lateEvents slot late → r ≡ withLate slot events late
+    → r ≡ lateSlot policy slot applied largest
+late-by policy slot applied largest {late} is-late is-events is-changed =
+    is-changed ∙ ap (λ (n : ℕ). withLate slot n late) is-events ∙ ap (λ (b : Bool). withLate slot (lateEvents slot b) b) is-late
+
+-- a late event in a slot that is then stored is one in the record with that slot put
+pub late-stored : (s : Inputs) (i applied : ℕ) (largest : Lag) (slot : Slot) {heard : Slot} → i < 16 → length (s .slots) ≡ 16 → heard ≡ lateSlot (s .policy) slot applied largest
+    → withSlots s (set (s .slots) i heard) ≡ lateEvent i applied largest (putSlot s i slot)
 unfolding lateEvent
-late-by s i applied largest {slot} {late = late} is-slot is-late is-events is-changed is-put =
-    is-put
-    ∙ ap (putSlot s i) (is-changed ∙ ap (λ (n : ℕ). withLate slot n late) is-events ∙ ap (λ (b : Bool). withLate slot (lateEvents slot b) b) is-late)
-    ∙ ap (λ (x : Slot). putSlot s i (lateSlot (s .policy) x applied largest)) is-slot
+late-stored s i applied largest slot {heard} low sized is-heard =
+    sym
+    (put-put s i slot _
+    ∙ ap (λ (x : Slot). putSlot s i (lateSlot (putSlot s i slot .policy) x applied largest)) (slot-same s i slot low sized)
+    ∙ ap (λ (z : Inputs). putSlot s i (lateSlot (z .policy) slot applied largest)) (put-rest s i slot)
+    ∙ ap (putSlot s i) (sym is-heard)
+    ∙ put-stores s i heard low)

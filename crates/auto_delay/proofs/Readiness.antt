@@ -29,14 +29,18 @@ ready-of s l c i h =
 pub ready-low : (s : Inputs) (l : Lists) (i : ℕ) → Ready s l i → i < 16
 ready-low s l i r = omega (arith, r .input, r .fitting .allowed .most)
 
+-- a slot that is stored at its place is put
+pub put-stores : (s : Inputs) (i : ℕ) (slot : Slot) → i < 16 → putSlot s i slot ≡ withSlots s (set (s .slots) i slot)
+unfolding putSlot
+put-stores s i slot low = yes-pick _ _ (lt-ltb _ _ low)
+
 -- the slot and the lists of input i are replaced by whole ones
 module _ (s : Inputs) (l m : Lists) (i : ℕ) (slot : Slot) (r : Ready s l i) (sized : length (s .slots) ≡ 16) where
   abbrev after : Inputs
   after = withSlots s (set (s .slots) i slot)
 
   put-is : putSlot s i slot ≡ after
-  unfolding putSlot
-  put-is = yes-pick _ _ (lt-ltb _ _ (ready-low s l i r))
+  put-is = put-stores s i slot (ready-low s l i r)
 
   here : slotAt after i ≡ slot
   here = ap (λ (z : Inputs). slotAt z i) (sym put-is) ∙ slot-same s i slot (ready-low s l i r) sized

@@ -4,6 +4,7 @@ use mathlib.Core.Bool.{true}
 use mathlib.Core.Path.{_≡_}
 use mathlib.Core.List.{List, []}
 use Rattle.base.specs.Limits.{timeLimit}
+use Rattle.policy.specs.declared.DelayPolicy.{DelayPolicy}
 use Rattle.policy.specs.Settings as settings
 use Rattle.lag_window.specs.Window.{lent}
 use Rattle.lag_window.specs.Whole.{wholeWindow}
@@ -35,10 +36,10 @@ pub record P999Asked (s : Inputs) (slot : Slot) (i : ℕ) (starts counts : List 
   pub window : WindowReady s (lists starts totals counts [] []) i slot
 
 -- what `late_event` asks: 2 and 4, 10 of the applied delay, and 6 of one counter
-pub record LateAsked (s : Inputs) (i applied : ℕ) : Type 0 where
-  pub sound : settings.Sound (s .policy)
-  pub applied-in : applied ≤ s .policy .«delay_max»
-  pub events : slotAt s i .«late_events» < 9_223_372_036_854_775_808
+pub record LateAsked (policy : DelayPolicy) (slot : Slot) (applied : ℕ) : Type 0 where
+  pub sound : settings.Sound policy
+  pub applied-in : applied ≤ policy .«delay_max»
+  pub events : slot .«late_events» < 9_223_372_036_854_775_808
 
 -- input i as 1 to 6 let it through, but for its route, its counters, the times of its head and its last SetDelay, and the tables: the steps of a tick keep this even where they raise a counter to 2^63
 pub record Ready (s : Inputs) (l : Lists) (i : ℕ) : Type 0 where

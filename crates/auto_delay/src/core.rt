@@ -3,17 +3,20 @@ ghost use mathlib.Core.Path.{_≡_};
 ghost use mathlib.Core.List.{List, []};
 ghost use Prim.Native.Nat.{ℕ, _+_, _≤_};
 ghost use lib.ListN.{length};
+ghost use Rattle.slots.specs.Inputs.{putSlot};
 ghost use Rattle.record.specs.Lent.{lists};
 ghost use Rattle.record.specs.Effects.{silent, Effected};
-ghost use Rattle.auto_delay.specs.Arrival.{arrived, largestOf, lateEvent};
+ghost use Rattle.auto_delay.specs.Arrival.{arrived, largestOf, lateSlot};
 ghost use Rattle.auto_delay.specs.Auto.{autoDelayed};
 ghost use Rattle.auto_delay.specs.Asked.{ArriveAsked, LateAsked, AutoAsked};
 use super::steps;
 use commands::Sent;
 use delay_hold::Lag;
+use policy::DelayPolicy;
 use slots::Inputs;
+use slots::Slot;
 
-// The lags of one tick are pushed to the window of input i, and the last one is kept.
+// The slot of input i after the lags of one tick are pushed to its window, and the last one is kept. The caller puts it, with what else the tick changes in it: a record is large, and each call that returns one copies it.
 pub fn arrive(
     inputs: Inputs,
     i: usize,
@@ -22,16 +25,15 @@ pub fn arrive(
     starts: &mut [u64],
     totals: &mut [u64],
     counts: &mut [u32],
-) -> Inputs
+) -> Slot
     requires { ⌜ ArriveAsked inputs (lists (now starts) (now totals) (now counts) [] []) i time (length (now lags)) ⌝ }
-    ensures { λ r. ⌜ ((times peaks : List ℕ) → silent r (lists (now (starts .exit)) (now (totals .exit)) (now (counts .exit)) times peaks) ≡ arrived i time (now (lags .entry)) inputs (lists (now (starts .entry)) (now (totals .entry)) (now (counts .entry)) times peaks)) ⌝ }
+    ensures { λ r. ⌜ ((times peaks : List ℕ) → silent (putSlot inputs i r) (lists (now (starts .exit)) (now (totals .exit)) (now (counts .exit)) times peaks) ≡ arrived i time (now (lags .entry)) inputs (lists (now (starts .entry)) (now (totals .entry)) (now (counts .entry)) times peaks)) ⌝ }
 {
     let slot = slots::slot_at(inputs, i);
     let before = steps::window_in(inputs, slot);
     let window = lag_window::core::push_all(before, i, lags, time, starts, totals, counts);
     let counted = slots::with_lag_seconds(slot, window.seconds);
-    let changed = slots::with_last_lag(counted, steps::last_lag(lags, slot.last_lag));
-    slots::put_slot(inputs, i, changed)
+    slots::with_last_lag(counted, steps::last_lag(lags, slot.last_lag))
 }
 
 // The largest of all the lags of a tick, if any.
@@ -41,16 +43,13 @@ pub fn largest(lags: &[u32]) -> Lag
     delay_hold::core::worst(lags, lags.len())
 }
 
-// A late event counts, judged by the state before `watch` and the applied delay.
-pub fn late_event(inputs: Inputs, i: usize, applied: u32, largest: Lag) -> Inputs
-    requires { ⌜ LateAsked inputs i applied ⌝ }
-    ensures { λ r. ⌜ r ≡ lateEvent i applied largest inputs ⌝ }
+// The slot in which a late event counts, judged by the state before `watch` and the applied delay.
+pub fn late_event(policy: DelayPolicy, slot: Slot, applied: u32, largest: Lag) -> Slot
+    requires { ⌜ LateAsked policy slot applied ⌝ }
+    ensures { λ r. ⌜ r ≡ lateSlot policy slot applied largest ⌝ }
 {
-    let policy = inputs.policy;
-    let slot = slots::slot_at(inputs, i);
     let late = steps::late_now(policy, slot, applied, largest);
-    let changed = slots::with_late(slot, steps::late_events(slot, late), late);
-    slots::put_slot(inputs, i, changed)
+    slots::with_late(slot, steps::late_events(slot, late), late)
 }
 
 // The automatic delay of input i decides on the largest lag of the tick.

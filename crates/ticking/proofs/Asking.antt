@@ -3,11 +3,13 @@ use Prim.Native.Nat.{ℕ, _<_, _≤_}
 use mathlib.Core.Path.{_≡_, refl, sym, ap, subst, _∙_}
 use mathlib.Core.List.{List, []}
 use native.Mathlib.Omega.{arith}
-use lib.ListN.{length}
+use lib.ListN.{length, set}
 use Rattle.base.specs.Limits.{timeLimit}
 use Rattle.delay_hold.specs.declared.Lag.{Lag}
 use Rattle.slots.specs.declared.Inputs.{Inputs}
-use Rattle.slots.specs.Inputs.{slotAt}
+use Rattle.slots.specs.declared.Slot.{Slot}
+use Rattle.slots.specs.Inputs.{slotAt, putSlot, withSlots}
+use Rattle.slots.proofs.Frame.{slot-same}
 use Rattle.slots.proofs.Sized.{sized-put}
 use Rattle.slots.specs.Sized.{Sized}
 use Rattle.commands.specs.declared.Sent.{Sent}
@@ -15,11 +17,12 @@ use Rattle.commands.specs.Commands.{Did}
 use Rattle.record.specs.Lent.{Lists, lists}
 use Rattle.record.specs.Effects.{Effect, silent, beside, Effected}
 use Rattle.record.proofs.Effects.{effected-silent, effected-done}
-use Rattle.auto_delay.specs.Arrival.{arrived, largestOf, lateEvent}
+use Rattle.auto_delay.specs.Arrival.{arrived, largestOf, lateSlot, lateEvent}
 use Rattle.auto_delay.specs.Auto.{autoDelayed}
 use Rattle.auto_delay.specs.Asked.{ArriveAsked, LateAsked, Ready, AutoAsked}
 use Rattle.auto_delay.proofs.Asks.{ready-window}
-use Rattle.auto_delay.proofs.Arriving.{arrived-settings, arrived-ready, arrived-raised}
+use Rattle.auto_delay.proofs.Arriving.{arrived-ready, arrived-raised}
+use Rattle.auto_delay.proofs.Lates.{late-stored}
 use Rattle.auto_delay.proofs.LateKeeps.{late-ready, late-raised}
 use Rattle.auto_delay.proofs.Readiness.{ready-low}
 use Rattle.ticking.specs.declared.Look.{Look}
@@ -30,7 +33,7 @@ use Rattle.ticking.proofs.Looking.{looked-ready, looked-changes}
 
 -- ---- what the steps ask
 module _ (s : Inputs) (l : Lists) (i : ℕ) (look : Look) (lags : List ℕ) (time : ℕ) (sized : Sized s) (soon : time ≤ timeLimit) (asked : InputAsked s l i look (length lags) time) where
-  low : i < 16
+  pub low : i < 16
   low = ready-low s l i (asked .ready)
 
   pub arrive-asks : ArriveAsked s (lists (l .starts) (l .totals) (l .counts) [] []) i time (length lags)
@@ -48,17 +51,14 @@ module _ (s : Inputs) (l : Lists) (i : ℕ) (look : Look) (lags : List ℕ) (tim
   unfolding arrived
   first-sized = sized-put s i _ sized
 
-  pub late-asks : {all : Inputs} → all ≡ first → LateAsked all i (look .applied)
-  late-asks e =
-      subst (λ (x : Inputs). LateAsked x i (look .applied)) (sym e)
-      (record {
-        sound = first-ready .fitting .allowed .sound;
-        applied-in = subst (λ (x : Inputs). look .applied ≤ x .policy .«delay_max») (sym (arrived-settings i time lags s l)) (asked .applied);
-        events = omega (arith, arrived-raised i time lags s l low (sized .slots) .lates, asked .lates);
-      })
-    where
-      first-ready : Ready first left i
-      first-ready = arrived-ready i time lags s l (asked .ready) soon (asked .room) (sized .slots)
+  pub late-asks : (slot : Slot) → putSlot s i slot ≡ first → LateAsked (s .policy) slot (look .applied)
+  late-asks slot e = record {
+    sound = asked .ready .fitting .allowed .sound;
+    applied-in = asked .applied;
+    events =
+        subst (λ (x : Slot). x .«late_events» < 9_223_372_036_854_775_808) (ap (λ (z : Inputs). slotAt z i) (sym e) ∙ slot-same s i slot low (sized .slots))
+        (omega (arith, arrived-raised i time lags s l low (sized .slots) .lates, asked .lates));
+  }
 
   module _ (largest : Lag) where
     abbrev second : Inputs
@@ -77,14 +77,17 @@ module _ (s : Inputs) (l : Lists) (i : ℕ) (look : Look) (lags : List ℕ) (tim
     changes-fit : slotAt second i .«delay_changes» < 9_223_372_036_854_775_808
     changes-fit = omega (arith, late-raised i (look .applied) largest first low (first-sized .slots) .changes, arrived-raised i time lags s l low (sized .slots) .changes, asked .changes)
 
-    module _ {all heard : Inputs} (is-first : all ≡ first) (is-heard : heard ≡ lateEvent i (look .applied) largest all) where
-      second-is : heard ≡ second
-      second-is = is-heard ∙ ap (lateEvent i (look .applied) largest) is-first
+    module _ (slot : Slot) {heard : Slot} (is-first : putSlot s i slot ≡ first) (is-heard : heard ≡ lateSlot (s .policy) slot (look .applied) largest) where
+      abbrev stored : Inputs
+      stored = withSlots s (set (s .slots) i heard)
 
-      pub look-asks : (i < 16) × (slotAt heard i .reopens < 9_223_372_036_854_775_808)
+      second-is : stored ≡ second
+      second-is = late-stored s i (look .applied) largest slot low (sized .slots) is-heard ∙ ap (lateEvent i (look .applied) largest) is-first
+
+      pub look-asks : (i < 16) × (slotAt stored i .reopens < 9_223_372_036_854_775_808)
       look-asks = (low, subst (λ (x : Inputs). slotAt x i .reopens < 9_223_372_036_854_775_808) (sym second-is) reopens-fit)
 
-      pub auto-asks : {seen : Sent} {before after a b c : List ℕ} {used : ℕ} → Did 6 (looked i look time heard) seen before after used → lists a b c (l .times) (l .lags) ≡ left → AutoAsked (seen .inputs) i a c (l .times) (l .lags)
+      pub auto-asks : {seen : Sent} {before after a b c : List ℕ} {used : ℕ} → Did 6 (looked i look time stored) seen before after used → lists a b c (l .times) (l .lags) ≡ left → AutoAsked (seen .inputs) i a c (l .times) (l .lags)
       auto-asks {seen} {a = a} {b = b} {c = c} h e = record {
         totals = b;
         ready = subst (λ (x : Inputs). Ready x (lists a b c (l .times) (l .lags)) i) (sym third-is) (subst (λ (m : Lists). Ready third m i) (sym e) (looked-ready second left i second-ready time soon second-sized look));
@@ -101,12 +104,19 @@ module _ (s : Inputs) (l : Lists) (i : ℕ) (look : Look) (lags : List ℕ) (tim
           third-changes = subst (λ (n : ℕ). n < 9_223_372_036_854_775_808) (sym (looked-changes second left i second-ready time soon second-sized look)) changes-fit
 
 -- ---- the steps in a row
-module _ (i : ℕ) (look : Look) (lags : List ℕ) (time : ℕ) (s : Inputs) (l : Lists) {all after-late : Inputs} {largest : Lag} {seen answer : Sent} {a b c times peaks before middle after : List ℕ} {used : ℕ}
-    (is-arrived : (times peaks : List ℕ) → silent all (lists a b c times peaks) ≡ arrived i time lags s (lists (l .starts) (l .totals) (l .counts) times peaks))
+module _ (i : ℕ) (look : Look) (lags : List ℕ) (time : ℕ) (s : Inputs) (l : Lists) (slot : Slot) {heard-slot : Slot} {largest : Lag} {seen answer : Sent} {a b c times peaks before middle after : List ℕ} {used : ℕ}
+    (low : i < 16) (sized : length (s .slots) ≡ 16)
+    (is-arrived : (times peaks : List ℕ) → silent (putSlot s i slot) (lists a b c times peaks) ≡ arrived i time lags s (lists (l .starts) (l .totals) (l .counts) times peaks))
     (is-largest : largest ≡ largestOf lags)
-    (is-late : after-late ≡ lateEvent i (look .applied) largest all)
-    (is-seen : Did 6 (looked i look time after-late) seen before middle used)
+    (is-late : heard-slot ≡ lateSlot (s .policy) slot (look .applied) largest)
+    (is-seen : Did 6 (looked i look time (withSlots s (set (s .slots) i heard-slot))) seen before middle used)
     (is-answer : (totals : List ℕ) → Effected 3 (autoDelayed i largest time (seen .inputs) (lists a totals c (l .times) (l .lags))) answer (lists a totals c times peaks) middle after (seen .used)) where
+  abbrev all : Inputs
+  all = putSlot s i slot
+
+  abbrev after-late : Inputs
+  after-late = withSlots s (set (s .slots) i heard-slot)
+
   first-is : silent all (lists a b c (l .times) (l .lags)) ≡ arrived i time lags s l
   first-is = is-arrived (l .times) (l .lags)
 
@@ -121,7 +131,7 @@ module _ (i : ℕ) (look : Look) (lags : List ℕ) (time : ℕ) (s : Inputs) (l 
   heard-by =
       effected-then 0 0 (arrived i time lags s l) (λ z m. silent (lateEvent i (look .applied) (largestOf lags) z) m)
       (subst (λ (x : Effect). Effected 0 x (record { inputs = all; used = used }) (lists a b c (l .times) (l .lags)) before before used) first-is (effected-silent refl refl))
-      (effected-silent (is-late ∙ ap (λ (x : Lag). lateEvent i (look .applied) x all) is-largest) refl)
+      (effected-silent (late-stored s i (look .applied) largest slot low sized is-late ∙ ap (λ (x : Lag). lateEvent i (look .applied) x all) is-largest) refl)
 
   seen-by : Effected 6 (beside (lists a b c (l .times) (l .lags)) (looked i look time after-late)) seen (lists a b c (l .times) (l .lags)) before middle used
   seen-by = effected-done is-seen refl

@@ -71,8 +71,11 @@ fn tick_input(
 {
     let arrived = auto_delay::core::arrive(inputs, i, lags, time, starts, totals, counts);
     let largest = auto_delay::core::largest(lags);
-    let heard = auto_delay::core::late_event(arrived, i, look.applied, largest);
-    let seen = look_at(heard, i, look, time, commands, used);
+    let policy = inputs.policy;
+    let heard = auto_delay::core::late_event(policy, arrived, look.applied, largest);
+    let mut before = inputs;
+    before.slots[i] = heard;
+    let seen = look_at(before, i, look, time, commands, used);
     let all = seen.inputs;
     auto_delay::core::auto_delay(
         all,

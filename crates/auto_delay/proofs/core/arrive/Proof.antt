@@ -23,9 +23,6 @@ last-lag-requires c κs = search needs
 with-last-lag-requires : tie.Need-with-last-lag-requires
 with-last-lag-requires c κs = search needs
 
-put-slot-requires : tie.Need-put-slot-requires
-put-slot-requires c κs = search needs
-
 same-length : tie.Need-same-length
 same-length c = search needs
 
@@ -36,7 +33,7 @@ same-length-3 : tie.Need-same-length-3
 same-length-3 c = search needs
 
 returns : tie.Need-returns
-returns c = arrived-by _ _ _ _ _ _ _ _ _ _ (c .before .before .before .before .before .before .before .before .before .before .before .before .before .before .before .slot-at .ensures) (c .before .before .before .before .before .before .before .before .before .before .before .before .before .before .window-in .ensures) (c .before .before .before .before .before .before .before .before .before .before .push-all .ensures) (c .before .before .before .with-lag-seconds .ensures) (c .before .before .last-lag .ensures) (c .before .with-last-lag .ensures) (c .put-slot .ensures)
+returns c = arrived-by _ _ _ _ _ _ _ _ _ _ (c .before .before .before .before .before .before .before .before .before .before .before .before .before .before .slot-at .ensures) (c .before .before .before .before .before .before .before .before .before .before .before .before .before .window-in .ensures) (c .before .before .before .before .before .before .before .before .before .push-all .ensures) (c .before .before .with-lag-seconds .ensures) (c .before .last-lag .ensures) (c .with-last-lag .ensures)
 
 pub arrive-spec : {M : Type 1} → statement M
-arrive-spec = tie.close (tie.spec slot-at-requires window-in-requires push-all-requires with-lag-seconds-requires last-lag-requires with-last-lag-requires put-slot-requires same-length same-length-2 same-length-3 returns)
+arrive-spec = tie.close (tie.spec slot-at-requires window-in-requires push-all-requires with-lag-seconds-requires last-lag-requires with-last-lag-requires same-length same-length-2 same-length-3 returns)
