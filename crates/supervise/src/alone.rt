@@ -38,7 +38,7 @@ pub struct AloneDone {
 }
 
 // Before any call: a window of width 4 for offset and maximum 0, and a fresh hold.
-pub fn begin() -> Alone {
+pub(crate) fn begin() -> Alone {
     let window = LagWindow {
         seconds: 0,
         buckets: 1_202,
@@ -407,7 +407,7 @@ fn listless(
     }
 }
 
-pub fn answer(
+pub(crate) fn answer(
     call: Lone,
     alone: Alone,
     short: bool,

@@ -258,7 +258,7 @@ fn is_new(call: Call) -> bool {
 }
 
 // `loaded` is room for the flows that `new` loads, and `heard` for their delays.
-pub fn answer(
+pub(crate) fn answer(
     call: Call,
     supervisor: Supervisor,
     full: bool,

@@ -66,7 +66,7 @@ fn or(found: Named, s: &[u8], at: usize, name: &[u8], call: Call) -> Named {
     }
 }
 
-pub fn call_at(s: &[u8], at: usize) -> Named {
+pub(crate) fn call_at(s: &[u8], at: usize) -> Named {
     let a = Named {
         call: Call::Tick,
         next: word_end(s, at, b"tick"),
@@ -131,7 +131,7 @@ fn clock_at(found: LoneNamed, s: &[u8], at: usize) -> LoneNamed {
     or_lone(g, s, at, b"q_failed", Lone::QueryFailed)
 }
 
-pub fn lone_at(s: &[u8], at: usize) -> LoneNamed {
+pub(crate) fn lone_at(s: &[u8], at: usize) -> LoneNamed {
     let a = number_at(s, at);
     let b = window_at(a, s, at);
     let c = hold_at(b, s, at);
