@@ -30,7 +30,7 @@ is-extra-requires : tie.Need-is-extra-requires Inv-loop μ-loop
 is-extra-requires c κs = tt
 
 returns : tie.Need-returns Inv-loop μ-loop
-returns c = any-stop _ _ _ (c .before .before .before .loop-test .taken) (sym (c .before .is-extra .ensures) ∙ c .if1 .taken)
+returns c = any-stop _ _ _ (omega (arith, c .before .before .before .loop-test .taken)) (sym (c .before .is-extra .ensures) ∙ c .if1 .taken)
 
 add-i : tie.Need-add-i Inv-loop μ-loop
 add-i c = omega (arith, c .before .before .before .loop-test .taken)

@@ -78,7 +78,7 @@ returns-2 : tie.Need-returns-2 Inv-loop μ-loop Inv-loop2 μ-loop2
 unfolding wholeInputs emptySlot
 returns-2 c =
     let args = c .before .before .before .before .before .before .before .before .before .before .before .before .before .args in
-    all-stop (inputFits (args .t1) (lists (args .starts .now) (args .totals .now) (args .counts .now) (args .times .now) (args .lags .now))) 16 _ (c .before .before .before .loop2-test .taken) (told-no _ _ (told-unused _ (args .starts .now) (args .totals .now) (args .counts .now) (args .times .now) (args .lags .now) (args .t1) (c .before .before .before .before .loop2 .inv .0) (c .before .before .before .loop2-test .taken) (c .before .unused-slot .ensures)) (c .if2 .taken))
+    all-stop (inputFits (args .t1) (lists (args .starts .now) (args .totals .now) (args .counts .now) (args .times .now) (args .lags .now))) 16 _ (omega (arith, c .before .before .before .loop2-test .taken)) (told-no _ _ (told-unused _ (args .starts .now) (args .totals .now) (args .counts .now) (args .times .now) (args .lags .now) (args .t1) (c .before .before .before .before .loop2 .inv .0) (omega (arith, c .before .before .before .loop2-test .taken)) (c .before .unused-slot .ensures)) (c .if2 .taken))
 
 add-i-2 : tie.Need-add-i-2 Inv-loop μ-loop Inv-loop2 μ-loop2
 add-i-2 c = omega (arith, c .before .before .before .loop2-test .taken)
@@ -90,7 +90,7 @@ loop2-again : tie.Need-loop2-again Inv-loop μ-loop Inv-loop2 μ-loop2
 unfolding emptySlot
 loop2-again c =
     let args = c .before .before .before .before .before .before .before .before .before .before .before .before .before .args in
-    (omega (arith, c .before .before .before .before .loop2 .inv .0), omega (arith, c .before .before .before .loop2-test .taken), all-more (inputFits (args .t1) (lists (args .starts .now) (args .totals .now) (args .counts .now) (args .times .now) (args .lags .now))) _ (c .before .before .before .before .loop2 .inv .2) (told-yes _ _ (told-unused _ (args .starts .now) (args .totals .now) (args .counts .now) (args .times .now) (args .lags .now) (args .t1) (c .before .before .before .before .loop2 .inv .0) (c .before .before .before .loop2-test .taken) (c .before .unused-slot .ensures)) (c .if2 .left)))
+    (omega (arith, c .before .before .before .before .loop2 .inv .0), omega (arith, c .before .before .before .loop2-test .taken), all-more (inputFits (args .t1) (lists (args .starts .now) (args .totals .now) (args .counts .now) (args .times .now) (args .lags .now))) _ (c .before .before .before .before .loop2 .inv .2) (told-yes _ _ (told-unused _ (args .starts .now) (args .totals .now) (args .counts .now) (args .times .now) (args .lags .now) (args .t1) (c .before .before .before .before .loop2 .inv .0) (omega (arith, c .before .before .before .loop2-test .taken)) (c .before .unused-slot .ensures)) (c .if2 .left)))
 
 returns-3 : tie.Need-returns-3 Inv-loop μ-loop Inv-loop2 μ-loop2
 unfolding wholeInputs
