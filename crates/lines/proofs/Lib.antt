@@ -1,2 +1,3 @@
--- The laws that the proofs of this crate cite.
+-- The laws that the proofs of this crate cite, and those that a caller's proofs may.
 pub mod Looking
+pub mod OneLine

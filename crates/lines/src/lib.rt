@@ -158,7 +158,9 @@ fn read_after(input: &mut [u8], to: usize) -> usize {
 }
 
 // Where the buffer is used up, the lines that were answered make room.
-fn moved(input: &mut [u8], c: Cursor) -> Cursor {
+fn moved(input: &mut [u8], c: Cursor) -> Cursor
+    ensures { λ r. ⌜ (r .found ≡ c .found) × (r .dropped ≡ c .dropped) ⌝ }
+{
     if c.to < input.len() {
         return c;
     }
@@ -171,8 +173,10 @@ fn moved(input: &mut [u8], c: Cursor) -> Cursor {
     }
 }
 
-// Reads more of the input.
-pub fn more(input: &mut [u8], c: Cursor) -> Cursor {
+// Reads more of the input. A line of which a part was dropped stays dropped.
+pub fn more(input: &mut [u8], c: Cursor) -> Cursor
+    ensures { λ r. ⌜ (r .found ≡ c .found) × (r .dropped ≡ c .dropped) ⌝ }
+{
     let m = moved(input, c);
     let got = read_after(input, m.to);
     Cursor {

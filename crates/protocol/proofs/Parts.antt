@@ -1,13 +1,14 @@
 -- A part of a list that is cut where the list ends, and the bounds of what scanning and printing answer. Assumes nothing.
-use Prim.Native.Nat.{ℕ, suc, _+_, _-_, _<_, _≤_, min}
+use Prim.Native.Nat.{ℕ, zero, suc, _+_, _-_, _<_, _≤_, min}
 use mathlib.Core.Path.{_≡_, sym, ap, _∙_}
 use mathlib.Core.List.{List, [], _∷_}
 use native.Mathlib.Omega.{arith}
-use borrow.Author.Tests.{leb-false}
+use borrow.Author.Tests.{leb-true, leb-false, eqb-false}
 use lib.Dec.{leb, eqb}
-use lib.ListN.{length, take, drop, length-drop, drop-of-length-le}
-use lib.Seq.{length-sets, take-all, take-nil}
+use lib.ListN.{length, getD, take, drop, length-drop, drop-of-length-le}
+use lib.Seq.{length-sets, take-all, take-nil, getD-drop}
 use Rattle.base.proofs.Choices.{by-le, by-bool}
+use Rattle.protocol.specs.declared.Step.{Step}
 use Rattle.protocol.specs.declared.Step.the-variants.{At, Bad}
 use Rattle.protocol.specs.Scan.{firstOf, firstFrom}
 use Rattle.protocol.specs.Print.{Page, page, printed}
@@ -61,6 +62,37 @@ unfolding firstFrom
 first-within s at to b i e =
     let f = found to b i (drop at s) at e in
     (f .0, f .1, omega (arith, f .0, f .2, length-drop at s))
+
+-- how far `first` looked: up to the place that it answers, else up to `to`
+abbrev pub lookedTo : ℕ → Step → ℕ
+lookedTo to (At i) = i
+lookedTo to Bad = to
+
+-- so far there is no such byte
+over : (to b : ℕ) (xs : List ℕ) (k j : ℕ) → j < length xs → k + j < lookedTo to (firstOf to b k xs) → getD xs j 0 ≡ b → ⊥
+over to b [] k j l h g = omega arith
+over to b (x ∷ xs) k j l h g =
+    by-bool
+    (leb to k)
+    (λ t. beyond (leb-true to k t) (rw t at h))
+    (λ t. by-bool (eqb x b) (λ u. here (rw (t, u) at h)) (λ u. there (over to b xs (suc k)) j l (rw (t, u) at h) g (eqb-false x b u)))
+  where
+    beyond : to ≤ k → k + j < to → ⊥
+    beyond t q = omega arith
+
+    here : k + j < k → ⊥
+    here q = omega arith
+
+    there : ((j : ℕ) → j < length xs → suc k + j < lookedTo to (firstOf to b (suc k) xs) → getD xs j 0 ≡ b → ⊥) → (j : ℕ) → j < suc (length xs) →
+        k + j < lookedTo to (firstOf to b (suc k) xs) → getD (x ∷ xs) j 0 ≡ b → (x ≡ b → ⊥) → ⊥
+    there f zero m q e n = n e
+    there f (suc j) m q e n = f j (omega arith) (omega arith) e
+
+pub first-over : (s : List ℕ) (at to b j : ℕ) → at ≤ j → j < length s → j < lookedTo to (firstFrom s at to b) → getD s j 0 ≡ b → ⊥
+unfolding firstFrom
+first-over s at to b j h l q g =
+    let e : at + (j - at) ≡ j = omega arith in
+    over to b (drop at s) at (j - at) (rw length-drop (omega arith)) (rw e q) (getD-drop at s (j - at) 0 ∙ ap (λ i. getD s i 0) e ∙ g)
 
 -- the place that printing answers lies within the buffer, whose length stays
 pub printed-within : (text : List ℕ) (p : Page) (i : ℕ) (xs : List ℕ) → page i xs ≡ printed text p → (i ≤ length xs) × (length xs ≡ length (p .bytes))
