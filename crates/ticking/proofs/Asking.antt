@@ -8,15 +8,18 @@ use Rattle.base.specs.Limits.{timeLimit}
 use Rattle.delay_hold.specs.declared.Lag.{Lag}
 use Rattle.slots.specs.declared.Inputs.{Inputs}
 use Rattle.slots.specs.declared.Slot.{Slot}
+use Rattle.slots.specs.Slots.{stateNumber}
 use Rattle.slots.specs.Inputs.{slotAt, putSlot, withSlots}
 use Rattle.slots.proofs.Frame.{slot-same}
 use Rattle.slots.proofs.Sized.{sized-put}
 use Rattle.slots.specs.Sized.{Sized}
 use Rattle.commands.specs.declared.Sent.{Sent}
-use Rattle.commands.specs.Commands.{Did}
+use Rattle.commands.specs.Commands.{Did, quiet}
+use Rattle.commands.proofs.Steps.{did-by, did-quiet}
+use Rattle.watching.specs.Watching.{movedSlot}
 use Rattle.record.specs.Lent.{Lists, lists}
 use Rattle.record.specs.Effects.{Effect, silent, beside, Effected}
-use Rattle.record.proofs.Effects.{effected-silent, effected-done}
+use Rattle.record.proofs.Effects.{effected-by, effected-silent, effected-done}
 use Rattle.auto_delay.specs.Arrival.{arrived, largestOf, lateSlot, lateEvent}
 use Rattle.auto_delay.specs.Auto.{autoDelayed}
 use Rattle.auto_delay.specs.Asked.{ArriveAsked, LateAsked, Ready, AutoAsked}
@@ -24,7 +27,8 @@ use Rattle.auto_delay.proofs.Asks.{ready-window}
 use Rattle.auto_delay.proofs.Arriving.{arrived-ready, arrived-raised}
 use Rattle.auto_delay.proofs.Lates.{late-stored}
 use Rattle.auto_delay.proofs.LateKeeps.{late-ready, late-raised}
-use Rattle.auto_delay.proofs.Readiness.{ready-low}
+use Rattle.auto_delay.proofs.Autos.{auto-idle}
+use Rattle.auto_delay.proofs.Readiness.{ready-low, put-stores}
 use Rattle.ticking.specs.declared.Look.{Look}
 use Rattle.ticking.specs.Tick.{heard, looked, tickedInput}
 use Rattle.ticking.specs.Asked.{InputAsked}
@@ -142,3 +146,38 @@ module _ (i : ℕ) (look : Look) (lags : List ℕ) (time : ℕ) (s : Inputs) (l 
       effected-then 6 3 _ (autoDelayed i (largestOf lags) time)
       (effected-then 0 6 (heard i look lags time s l) (λ z m. beside m (looked i look time z)) heard-by seen-by)
       (subst (λ (x : Lag). Effected 3 (autoDelayed i x time (seen .inputs) (lists a b c (l .times) (l .lags))) answer (lists a b c times peaks) middle after (seen .used)) is-largest (is-answer b))
+
+-- ---- the ways of an input that goes through no other function
+stored-slot : (s : Inputs) (i : ℕ) (slot : Slot) → i < 16 → length (s .slots) ≡ 16 → slotAt (withSlots s (set (s .slots) i slot)) i ≡ slot
+stored-slot s i slot low sized = ap (λ (z : Inputs). slotAt z i) (sym (put-stores s i slot low)) ∙ slot-same s i slot low sized
+
+pub rested-by : (i : ℕ) (look : Look) (lags : List ℕ) (time : ℕ) (s : Inputs) (l : Lists) (slot heard-slot : Slot) {largest : Lag} {a b c words : List ℕ} {used : ℕ}
+    → i < 16 → length (s .slots) ≡ 16
+    → ((times peaks : List ℕ) → silent (putSlot s i slot) (lists a b c times peaks) ≡ arrived i time lags s (lists (l .starts) (l .totals) (l .counts) times peaks))
+    → largest ≡ largestOf lags
+    → heard-slot ≡ lateSlot (s .policy) slot (look .applied) largest
+    → (stateNumber (heard-slot .state) < 2) × ((z : Inputs) (j at : ℕ) → slotAt z j ≡ heard-slot → looked j look at z ≡ quiet z)
+    → Effected 9 (tickedInput i look lags time s l) (record { inputs = withSlots s (set (s .slots) i heard-slot); used = used }) (lists a b c (l .times) (l .lags)) words words used
+rested-by i look lags time s l slot heard-slot {largest} low sized is-arrived is-largest is-late rests =
+    ticked-by i look lags time s l slot low sized is-arrived is-largest is-late
+    (did-by (rests .1 stored i time here) (did-quiet refl))
+    (λ totals. effected-by (auto-idle i largest time stored _ (λ e. omega (arith, state, rests .0)) (λ e. omega (arith, state, rests .0))) (effected-silent refl refl))
+  where
+    stored : Inputs
+    stored = withSlots s (set (s .slots) i heard-slot)
+
+    here : slotAt stored i ≡ heard-slot
+    here = stored-slot s i heard-slot low sized
+
+    state : stateNumber (slotAt stored i .state) ≡ stateNumber (heard-slot .state)
+    state = ap (λ (x : Slot). stateNumber (x .state)) here
+
+pub moved-by : (i : ℕ) (look : Look) (time : ℕ) (s : Inputs) (heard-slot : Slot) {moved : Slot} (words : List ℕ) (used : ℕ) → i < 16 → Sized s
+    → ((z : Inputs) (j at : ℕ) → slotAt z j ≡ heard-slot → looked j look at z ≡ quiet (putSlot z j (movedSlot heard-slot (look .world .head) at)))
+    → moved ≡ movedSlot heard-slot (look .world .head) time
+    → Did 6 (looked i look time (withSlots s (set (s .slots) i heard-slot))) (record { inputs = withSlots s (set (set (s .slots) i heard-slot) i moved); used = used }) words words used
+moved-by i look time s heard-slot {moved} words used low sized moves is-moved =
+    did-by (moves stored i time (stored-slot s i heard-slot low (sized .slots))) (did-quiet (sym (put-stores stored i moved low) ∙ ap (putSlot stored i) is-moved))
+  where
+    stored : Inputs
+    stored = withSlots s (set (s .slots) i heard-slot)

@@ -13,16 +13,23 @@ use Rattle.delay_hold.specs.Next.{held}
 use Rattle.delay_hold.specs.Whole.{wholeHold}
 use Rattle.delay_hold.proofs.Marks.{seeded-whole}
 use Rattle.slots.specs.declared.State.the-variants.{Stalled}
+use Rattle.slots.specs.declared.Inode.{Inode}
+use Rattle.slots.specs.declared.Inode.the-variants.{Gone, Of}
+use Rattle.slots.specs.declared.Route.{Route}
+use Rattle.slots.specs.declared.Routed.{Routed}
+use Rattle.slots.specs.declared.Routed.the-variants.{Nowhere, To}
 use Rattle.slots.specs.declared.Slot.{Slot}
 use Rattle.slots.specs.declared.Inputs.{Inputs}
 use Rattle.slots.specs.Slots.{stateNumber, withState}
-use Rattle.slots.specs.Inputs.{slotAt}
+use Rattle.slots.specs.Inputs.{slotAt, putSlot}
 use Rattle.slots.specs.Sized.{Sized}
 use Rattle.commands.specs.Commands.{Done, quiet}
-use Rattle.opening.specs.Opening.{runningSlot, openedSlot, tryOpenOf}
+use Rattle.opening.specs.declared.World.{World}
+use Rattle.opening.specs.Opening.{runningSlot, openedSlot, openSeen, openRouted, tryOpenOf}
 use Rattle.opening.proofs.Frame.{Frame, leaves-quiet, open-leaves}
 use Rattle.opening.proofs.Outcomes.{startedSlot, open-outcomes}
 use Rattle.watching.specs.Watching.{lostSlot, movedSlot, watchOf}
+use Rattle.watching.proofs.Cases.{watch-same, head-moved}
 use Rattle.watching.proofs.Frame.{watch-leaves}
 use Rattle.watching.proofs.Outcomes.{watch-outcomes}
 use Rattle.record.specs.Lent.{Lists, bucketsIn, heldFor}
@@ -50,6 +57,28 @@ module _ (i : ℕ) (look : Look) (time : ℕ) (s : Inputs) {slot : Slot} (is-slo
     pub looked-watches : 2 ≤ code → looked i look time s ≡ watchOf s i time (look .seen) (look .world)
     unfolding looked
     looked-watches h = no-pick _ _ (ne-eqb _ _ (λ e. waits (sym state-is ∙ e))) ∙ yes-pick _ _ (le-leb 2 (stateNumber (slotAt s i .state)) (omega (arith, state-is)))
+
+-- ---- the cases by the slot, of any record that has it
+open-none : (s : Inputs) (i time : ℕ) (world : World) (to : Routed) → world .inode ≡ Gone → openRouted to s i time world ≡ quiet s
+unfolding openRouted openSeen
+open-none s i time world Nowhere e = refl
+open-none s i time world (To route) e = ap (λ (x : Inode). openSeen x (route .flow) s i time world) e
+
+module _ (look : Look) (slot : Slot) {code : ℕ} (is-code : code ≡ stateNumber (slot .state)) where
+  pub still-unrouted : code < 2 → (code ≡ 1 → ⊥) → (stateNumber (slot .state) < 2) × ((s : Inputs) (i time : ℕ) → slotAt s i ≡ slot → looked i look time s ≡ quiet s)
+  still-unrouted low waits = (omega (arith, is-code), λ s i time e. looked-rests i look time s (sym e) is-code waits low)
+
+  pub still-waiting : code ≡ 1 → look .world .inode ≡ Gone → (stateNumber (slot .state) < 2) × ((s : Inputs) (i time : ℕ) → slotAt s i ≡ slot → looked i look time s ≡ quiet s)
+  unfolding tryOpenOf
+  still-waiting waits gone =
+      (omega (arith, is-code), λ s i time e. looked-opens i look time s (sym e) is-code waits ∙ open-none s i time (look .world) (slotAt s i .route) gone)
+
+  pub only-moves : 2 ≤ code → {route : Route} → slot .route ≡ To route → {seen mine : ℕ} → look .seen ≡ Of seen → slot .inode ≡ Of mine → mine ≡ seen → (look .world .head ≡ slot .«last_head» → ⊥)
+      → (s : Inputs) (i time : ℕ) → slotAt s i ≡ slot → looked i look time s ≡ quiet (putSlot s i (movedSlot slot (look .world .head) time))
+  only-moves high to of stored same moved s i time e =
+      looked-watches i look time s (sym e) is-code (λ waits. omega arith) high
+      ∙ watch-same s i time (look .seen) (look .world) (sym e) to of stored same
+      ∙ head-moved slot s i time (look .world) moved refl refl
 
 -- ---- what stays
 pub looked-leaves : (i : ℕ) (look : Look) (time : ℕ) (s : Inputs) → Frame i s (looked i look time s .inputs)

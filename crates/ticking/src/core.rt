@@ -1,12 +1,16 @@
 // A tick over the whole record and the lists of all inputs, for the crate above, which has checked what is asked here.
+ghost use mathlib.Core.Bool.{true};
 ghost use mathlib.Core.Path.{_≡_};
 ghost use mathlib.Core.List.{List};
 ghost use Prim.Native.Nat.{ℕ, _+_, _*_, _<_, _≤_, _^_};
 ghost use lib.ListN.{length};
 ghost use Rattle.base.specs.Limits.{timeLimit};
-ghost use Rattle.slots.specs.Inputs.{slotAt};
+ghost use Rattle.slots.specs.declared.Inputs.{Inputs};
+ghost use Rattle.slots.specs.Slots.{stateNumber};
+ghost use Rattle.slots.specs.Inputs.{slotAt, putSlot};
 ghost use Rattle.slots.specs.Sized.{Sized};
-ghost use Rattle.commands.specs.Commands.{Did};
+ghost use Rattle.commands.specs.Commands.{Did, quiet};
+ghost use Rattle.watching.specs.Watching.{movedSlot};
 ghost use Rattle.record.specs.Lent.{lists};
 ghost use Rattle.record.specs.Effects.{Effected};
 ghost use Rattle.ticking.specs.Tick.{looked, tickedInput, tickedBelow, saved, ticked, unsavedAt};
@@ -16,7 +20,10 @@ use crate::Look;
 use crate::TickAnswer;
 use commands::Sent;
 use instances::Extra;
+use slots::Inode;
 use slots::Inputs;
+use slots::Routed;
+use slots::Slot;
 
 // The number of a waiting input's state, and of a running one's; those above it watch too.
 const WAITING: u32 = 1;
@@ -49,6 +56,57 @@ fn look_at(
     watching::core::watch(inputs, i, time, seen, world, commands, used)
 }
 
+// Is an input with this slot neither opened nor watched? It has no route, or it waits for an inode.
+fn rests(slot: Slot, look: Look) -> bool
+    ensures { λ r. ⌜ (r ≡ true → (stateNumber (slot .state) < 2) × ((s : Inputs) (i time : ℕ) → slotAt s i ≡ slot → looked i look time s ≡ quiet s)) ⌝ }
+{
+    let state = slot.state;
+    let code = slots::code(state);
+    if RUNNING <= code {
+        return false;
+    }
+    if code != WAITING {
+        return true;
+    }
+    let world = look.world;
+    let found = world.inode;
+    let Inode::Of(_) = found else {
+        return true;
+    };
+    false
+}
+
+// Does an input with this slot watch, and only see its head move?
+fn moves(slot: Slot, look: Look) -> bool
+    ensures { λ r. ⌜ (r ≡ true → ((s : Inputs) (i time : ℕ) → slotAt s i ≡ slot → looked i look time s ≡ quiet (putSlot s i (movedSlot slot (look .world .head) time)))) ⌝ }
+{
+    let state = slot.state;
+    let code = slots::code(state);
+    if code < RUNNING {
+        return false;
+    }
+    let to = slot.route;
+    let Routed::To(_) = to else {
+        return false;
+    };
+    let seen = look.seen;
+    let Inode::Of(inode) = seen else {
+        return false;
+    };
+    let stored = slot.inode;
+    let Inode::Of(mine) = stored else {
+        return false;
+    };
+    if mine != inode {
+        return false;
+    }
+    let world = look.world;
+    if world.head == slot.last_head {
+        return false;
+    }
+    true
+}
+
 // Input i: its lags arrive, a late event counts, it opens or watches, and its automatic delay decides.
 fn tick_input(
     inputs: Inputs,
@@ -75,6 +133,30 @@ fn tick_input(
     let heard = auto_delay::core::late_event(policy, arrived, look.applied, largest);
     let mut before = inputs;
     before.slots[i] = heard;
+    // Most inputs wait for their flow or see their head move: their record goes through no other function.
+    if rests(heard, look) {
+        return Sent {
+            inputs: before,
+            used,
+        };
+    }
+    if moves(heard, look) {
+        let world = look.world;
+        let moved = watching::moved(heard, world.head, time);
+        before.slots[i] = moved;
+        return auto_delay::core::auto_delay(
+            before,
+            i,
+            largest,
+            time,
+            starts,
+            counts,
+            times,
+            peaks,
+            commands,
+            used,
+        );
+    }
     let seen = look_at(before, i, look, time, commands, used);
     let all = seen.inputs;
     auto_delay::core::auto_delay(

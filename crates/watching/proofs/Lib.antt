@@ -1,4 +1,4 @@
 -- Laws of watching that crates above cite.
-mod Cases
+pub mod Cases
 pub mod Frame
 pub mod Outcomes

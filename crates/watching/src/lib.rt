@@ -7,7 +7,7 @@ use slots::State;
 pub mod core;
 
 // The head moved: a stalled input runs again.
-fn moved(slot: Slot, head: u64, time: u64) -> Slot
+pub fn moved(slot: Slot, head: u64, time: u64) -> Slot
     ensures { λ r. ⌜ r ≡ movedSlot slot head time ⌝ }
 {
     let seen = slots::with_head(slot, head, time);
