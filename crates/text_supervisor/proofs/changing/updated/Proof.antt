@@ -2,6 +2,7 @@
 use mathlib.Core.Path.{sym}
 use borrow.Author.Needs.{needs}
 use lib.Seq.{length-take-le}
+use Rattle.lending.proofs.Within.{within}
 use Rattle.text_supervisor.proofs.changing.updated.Statement.{statement}
 use Rattle.text_supervisor.proofs.changing.updated.Tie as tie
 
@@ -11,24 +12,24 @@ updated-spec =
     (tie.spec
     (λ c κs. search needs)  -- buckets-in-requires
     (λ c κs. search needs)  -- lengths-requires
-    (λ c κs. search needs)  -- fit-requires
-    (λ c κs. search needs)  -- fit-requires-2
-    (λ c κs. search needs)  -- fit-requires-3
-    (λ c κs. search needs)  -- fit-requires-4
-    (λ c κs. search needs)  -- fit-requires-5
-    (λ c κs. search needs)  -- fit-requires-6
+    (λ c κs. search needs)  -- least-usize-requires
+    (λ c κs. search needs)  -- least-usize-requires-2
+    (λ c κs. search needs)  -- least-usize-requires-3
+    (λ c κs. search needs)  -- least-usize-requires-4
+    (λ c κs. search needs)  -- least-usize-requires-5
+    (λ c κs. search needs)  -- least-usize-requires-6
     (λ c. search needs)  -- slice-relend-prefix-update
-    (λ c. sym (length-take-le _ _ (c .before .before .before .before .before .before .fit .ensures .1)))  -- slice-aggregate-update
+    (λ c. sym (length-take-le _ _ (within _ _ (c .before .before .before .before .before .before .least-usize .ensures))))  -- slice-aggregate-update
     (λ c. search needs)  -- slice-relend-prefix-update-2
-    (λ c. sym (length-take-le _ _ (c .before .before .before .before .before .before .fit2 .ensures .1)))  -- slice-aggregate-update-2
+    (λ c. sym (length-take-le _ _ (within _ _ (c .before .before .before .before .before .before .least-usize2 .ensures))))  -- slice-aggregate-update-2
     (λ c. search needs)  -- slice-relend-prefix-update-3
-    (λ c. sym (length-take-le _ _ (c .before .before .before .before .before .before .fit3 .ensures .1)))  -- slice-aggregate-update-3
+    (λ c. sym (length-take-le _ _ (within _ _ (c .before .before .before .before .before .before .least-usize3 .ensures))))  -- slice-aggregate-update-3
     (λ c. search needs)  -- slice-relend-prefix-update-4
-    (λ c. sym (length-take-le _ _ (c .before .before .before .before .before .before .fit4 .ensures .1)))  -- slice-aggregate-update-4
+    (λ c. sym (length-take-le _ _ (within _ _ (c .before .before .before .before .before .before .least-usize4 .ensures))))  -- slice-aggregate-update-4
     (λ c. search needs)  -- slice-relend-prefix-update-5
-    (λ c. sym (length-take-le _ _ (c .before .before .before .before .before .before .fit5 .ensures .1)))  -- slice-aggregate-update-5
+    (λ c. sym (length-take-le _ _ (within _ _ (c .before .before .before .before .before .before .least-usize5 .ensures))))  -- slice-aggregate-update-5
     (λ c. search needs)  -- slice-relend-prefix-update-6
-    (λ c. sym (length-take-le _ _ (c .before .before .before .before .before .before .fit6 .ensures .1)))  -- slice-aggregate-update-6
+    (λ c. sym (length-take-le _ _ (within _ _ (c .before .before .before .before .before .before .least-usize6 .ensures))))  -- slice-aggregate-update-6
     (λ c κs. search needs)  -- update-requires
     (λ c. search needs)  -- same-length
     (λ c. search needs)  -- same-length-2

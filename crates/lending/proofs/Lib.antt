@@ -1,0 +1,2 @@
+-- The laws of `lending`.
+pub mod Within
