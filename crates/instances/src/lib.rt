@@ -16,7 +16,7 @@ use slots::Instance;
 use slots::Routed;
 use slots::Slot;
 
-// A key that is kept although no input reads it yet, or none.
+// A key or none: one that is kept although no input reads it yet, or the one that an input reads.
 pub enum Extra {
     Nothing,
     Key(Instance),

@@ -26,4 +26,4 @@ lengthsFor n buckets short =
 -- `count` places from `first` on, as far as the list has them
 unfoldable pub placesFrom : (first count most : ℕ) → Span
 placesFrom first count most =
-    record { from = min first (min (countable (first + count)) most); to = min (countable (first + count)) most }
+    record { from = min first most; to = min (countable (first + count)) most }

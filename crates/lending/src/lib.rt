@@ -58,6 +58,6 @@ pub fn places(first: usize, count: usize, most: usize) -> Span
     ensures { λ r. ⌜ (r .from ≤ r .to) × (r .to ≤ most) ⌝ }
 {
     let to = least_usize(sum_usize(first, count), most);
-    let from = least_usize(first, to);
+    let from = least_usize(first, most);
     Span { from, to }
 }

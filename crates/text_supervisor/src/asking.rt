@@ -1,7 +1,6 @@
 // The calls that change nothing: `status`, `has`, `settled`, `dump`.
 use crate::buckets_in;
 use crate::show_record;
-use base::least_usize;
 use inputs_status::Answer;
 use inputs_status::InputStatus;
 use lending::lengths;

@@ -1,10 +1,7 @@
 // The calls on a supervisor (compare/README.md): each reads its words, is made on the part of the lists that it asks for, and its answer is
 // written. The lists have room for 16 inputs; `at` is the place after the call's name.
 use base::product_usize;
-use inputs_route::Wanted;
-use opening::World;
 use policy::DelayPolicy;
-use protocol::print::put_bit_after;
 use protocol::words::LOST;
 use record::InputsAnswer;
 use slots::Flow;

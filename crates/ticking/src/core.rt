@@ -133,7 +133,7 @@ fn tick_input(
     let heard = auto_delay::core::late_event(policy, arrived, look.applied, largest);
     let mut before = inputs;
     before.slots[i] = heard;
-    // Most inputs wait for their flow or see their head move: their record goes through no other function.
+    // Most inputs wait for their flow or see their head move: their record goes through no function that opens or watches.
     if rests(heard, look) {
         return Sent {
             inputs: before,

@@ -9,7 +9,7 @@ use Rattle.lending.proofs.places.Statement.{statement}
 use Rattle.lending.proofs.places.Tie as tie
 
 -- a part whose end and beginning are as they should be
-part-is : (first count most : ℕ) {total to from : ℕ} → total ≡ countable (first + count) → to ≡ min total most → from ≡ min first to →
+part-is : (first count most : ℕ) {total to from : ℕ} → total ≡ countable (first + count) → to ≡ min total most → from ≡ min first most →
     _≡_ {A = Span} (record { from = from; to = to }) (placesFrom first count most)
 unfolding placesFrom
 part-is first count most p q r = cc (p, q, r)
@@ -18,7 +18,7 @@ returns : tie.Need-returns
 returns c = (
   part-is (c .before .before .before .args .first) (c .before .before .before .args .count) (c .before .before .before .args .most)
       (c .before .before .sum-usize .ensures) (c .before .least-usize .ensures) (c .least-usize2 .ensures),
-  (omega (arith, c .least-usize2 .ensures), omega (arith, c .before .least-usize .ensures)),
+  (omega (arith, c .least-usize2 .ensures, c .before .least-usize .ensures, c .before .before .sum-usize .ensures, c .before .before .before .fits), omega (arith, c .before .least-usize .ensures)),
 )
 
 pub places-spec : {M : Type 1} → statement M
