@@ -1,10 +1,12 @@
 -- Where reading stands in the input buffer, the next line of it, and the line's bytes, the buffer as the list of its bytes. Assumes nothing.
-use Prim.Native.Nat.{ℕ, _+_, _-_}
+use Prim.Native.Nat.{ℕ, _+_, _-_, _≤_, max}
 use mathlib.Core.Bool.{Bool, true, false}
+use mathlib.Core.Path.{_≡_}
 use mathlib.Core.List.{List, []}
-use lib.Dec.{leb, ltb}
-use lib.ListN.{take, drop}
+use lib.Dec.{eqb, leb, ltb}
+use lib.ListN.{length, take, drop}
 use Rattle.base.specs.Choice.{pick}
+use Rattle.base.specs.Lists.{shifted}
 use Rattle.protocol.specs.declared.Step.{Step}
 use Rattle.protocol.specs.declared.Step.the-variants.{At, Bad}
 use Rattle.protocol.specs.Scan.{hasByte, firstFrom}
@@ -69,6 +71,30 @@ tooLong c = pick (c .dropped) true (ltb longest (c .end - c .from))
 -- a line that is too long is empty
 unfoldable pub lineOf : List ℕ → Cursor → List ℕ
 lineOf s c = pick (tooLong c) [] (take (textEnd s c - c .from) (drop (c .from) s))
+
+-- ---- reading more
+-- the unfinished line moves to the buffer's begin
+abbrev pub movedDown : Cursor → Cursor
+movedDown c = record { from = 0; seen = c .seen - c .from; to = c .to - c .from; ended = c .ended; found = c .found; end = c .end; next = c .next; dropped = c .dropped }
+
+-- only where the buffer, of this size, is used up
+unfoldable pub movedCursor : ℕ → Cursor → Cursor
+movedCursor size c = pick (ltb (c .to) size) c (movedDown c)
+
+-- the buffer's bytes move with it: those before the unfinished line go
+unfoldable pub movedBytes : Cursor → List ℕ → List ℕ
+movedBytes c s = pick (ltb (c .to) (length s)) s (shifted (c .from) s)
+
+-- what was read now ends at `to`: the input is at its end exactly where nothing came
+abbrev pub readUpTo : ℕ → Cursor → Cursor
+readUpTo to c = record { from = c .from; seen = c .seen; to = to; ended = eqb to (c .to); found = c .found; end = c .end; next = c .next; dropped = c .dropped }
+
+-- from a cursor and a buffer to a cursor and a buffer, by one read: what came stands after what was read before, in the buffer, and what was read before stays. What the bytes that came are is the system's to say.
+pub record ReadAfter (c : Cursor) (s : List ℕ) (r : Cursor) (t : List ℕ) : Type 0 where
+  pub cursor : r ≡ readUpTo (r .to) c
+  pub onwards : c .to ≤ r .to
+  pub inside : r .to ≤ max (c .to) (length s)
+  pub stays : take (c .to) t ≡ take (c .to) s
 
 -- ---- the place for the next words: the buffer begins anew where fewer than 1,024 places are left
 unfoldable pub roomAt : (length place : ℕ) → ℕ

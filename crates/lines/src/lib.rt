@@ -1,7 +1,8 @@
 // Lines from standard input, and answers to standard output, each through a buffer of the caller's.
+ghost use Prim.Native.Nat.{_-_, _≤_};
 ghost use mathlib.Core.Path.{_≡_};
-ghost use lib.ListN.{length};
-ghost use Rattle.lines.specs.Lines.{atBegin, foundAt, lastOf, unfinishedOf, lookOf, textEnd, lineOf, passedBy, roomAt};
+ghost use lib.ListN.{length, take};
+ghost use Rattle.lines.specs.Lines.{atBegin, foundAt, lastOf, unfinishedOf, lookOf, textEnd, lineOf, passedBy, movedCursor, movedBytes, ReadAfter, roomAt};
 use base::less_usize;
 use base::sum_usize;
 use libc::STDIN_FILENO;
@@ -147,8 +148,10 @@ pub fn passed(c: Cursor) -> Cursor
     }
 }
 
-// Reads once, to the end of the buffer: how many bytes came.
-fn read_after(input: &mut [u8], to: usize) -> usize {
+// Reads once, to the end of the buffer: how many bytes came. The bytes before `to` stay.
+fn read_after(input: &mut [u8], to: usize) -> usize
+    ensures { λ r. ⌜ (r ≤ length (now (input .entry)) - to) × (take to (now (input .exit)) ≡ take to (now (input .entry))) ⌝ }
+{
     if input.len() < to {
         return 0;
     }
@@ -159,7 +162,7 @@ fn read_after(input: &mut [u8], to: usize) -> usize {
 
 // Where the buffer is used up, the lines that were answered make room.
 fn moved(input: &mut [u8], c: Cursor) -> Cursor
-    ensures { λ r. ⌜ (r .found ≡ c .found) × (r .dropped ≡ c .dropped) ⌝ }
+    ensures { λ r. ⌜ (r ≡ movedCursor (length (now (input .entry))) c) × (now (input .exit) ≡ movedBytes c (now (input .entry))) ⌝ }
 {
     if c.to < input.len() {
         return c;
@@ -173,9 +176,9 @@ fn moved(input: &mut [u8], c: Cursor) -> Cursor
     }
 }
 
-// Reads more of the input. A line of which a part was dropped stays dropped.
+// Reads more of the input, after what stands in the buffer. A line of which a part was dropped stays dropped.
 pub fn more(input: &mut [u8], c: Cursor) -> Cursor
-    ensures { λ r. ⌜ (r .found ≡ c .found) × (r .dropped ≡ c .dropped) ⌝ }
+    ensures { λ r. ⌜ ReadAfter (movedCursor (length (now (input .entry))) c) (movedBytes c (now (input .entry))) r (now (input .exit)) ⌝ }
 {
     let m = moved(input, c);
     let got = read_after(input, m.to);
