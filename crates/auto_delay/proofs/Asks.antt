@@ -14,9 +14,10 @@ use Rattle.lag_window.specs.Window.{lent}
 use Rattle.lag_window.specs.Whole.{wholeWindow, Sound}
 use Rattle.lag_window.specs.Parts as parts
 use Rattle.lag_window.specs.Checks.{roomFor}
-use Rattle.lag_window.specs.Quantile.{Placeable}
+use Rattle.lag_window.specs.Quantile.{Placeable, ShortRows}
 use Rattle.lag_window.proofs.WholeAt.{whole-of}
 use Rattle.lag_window.proofs.Parting.{held-sound}
+use Rattle.lag_window.proofs.Totals.{rows-short}
 use Rattle.lag_window.proofs.Numbers.{sound-placeable}
 use Rattle.delay_hold.specs.declared.Lag.{Lag}
 use Rattle.delay_hold.specs.Next.{held}
@@ -60,15 +61,15 @@ module _ (s : Inputs) (slot : Slot) (i : ℕ) (starts counts : List ℕ) (asked 
 
   pub quantile-asks : {q : Float} → q ≡ permille999 → (limit : ℕ) →
       ((w .seconds ≤ 11) × (w .buckets ≤ 4096) × (1 ≤ w .width) × (w .width ≤ 4800))
-      × ((i * (11 * w .buckets) + 11 * w .buckets ≤ length counts) × Placeable q limit (parts.partOf i (lent w [] [] counts)))
+      × ((i * (11 * w .buckets) + 11 * w .buckets ≤ length counts) × (Placeable q limit (parts.partOf i (lent w [] [] counts)) × ShortRows (w .buckets) (w .seconds) (part (i * (11 * w .buckets)) (11 * w .buckets) counts)))
   quantile-asks {q} is-q limit =
       subst
       (λ (x : LagWindow).
       ((x .seconds ≤ 11) × (x .buckets ≤ 4096) × (1 ≤ x .width) × (x .width ≤ 4800))
-      × ((i * (11 * x .buckets) + 11 * x .buckets ≤ length counts) × Placeable q limit (parts.partOf i (lent x [] [] counts))))
+      × ((i * (11 * x .buckets) + 11 * x .buckets ≤ length counts) × (Placeable q limit (parts.partOf i (lent x [] [] counts)) × ShortRows (x .buckets) (x .seconds) (part (i * (11 * x .buckets)) (11 * x .buckets) counts))))
       (sym is) (
         (whole-of _ sound .few, asked .window .held .buckets-high, asked .window .held .width-low, asked .window .held .width-high),
-        (asked .window .held .counts-in, subst (λ (x : Float). Placeable x limit (windowFor s (lists starts (asked .totals) counts [] []) i slot)) (sym is-q) (sound-placeable permille999 limit _ sound permille-in)),
+        (asked .window .held .counts-in, (subst (λ (x : Float). Placeable x limit (windowFor s (lists starts (asked .totals) counts [] []) i slot)) (sym is-q) (sound-placeable permille999 limit _ sound permille-in), rows-short _ sound)),
       )
 
 -- ---- an input that is ready

@@ -22,7 +22,7 @@ use Rattle.lag_window.specs.Whole.{Sound}
 use Rattle.lag_window.proofs.WholeAt.{Whole, whole-of, later, span-ends}
 use Rattle.lag_window.proofs.Ticks as ticks
 use Rattle.lag_window.proofs.Ticks.{push-keeps-sound}
-use Rattle.lag_window.proofs.Totals.{total-few, rows-short}
+use Rattle.lag_window.proofs.Totals.{total-few}
 use Rattle.delay_hold.proofs.Outcomes.{AtMost}
 use Rattle.auto_delay.specs.Auto.{permille999, quantileLag, p999Of}
 use Rattle.history.specs.Stretch.{NonEmpty, NoneAbove}
@@ -166,5 +166,5 @@ module _ (began L width buckets : ℕ) (one : 1 ≤ width) (some : 0 < buckets) 
       le-rule _ (spanOf (w .seconds) (w .starts)) (quantileLag (quantileUpto permille999 limit w)) None (AtMost ((bucketOf L width buckets + 1) * width))
       (λ l. subst (λ (x : ℕ). AtMost ((bucketOf L width buckets + 1) * x) (quantileLag (quantileUpto permille999 limit w))) e
       (quantile-low permille999 limit w (bucketOf L width buckets) (young-low began (bucketOf L width buckets) t w f (k .young) (k .clean))
-      (record { few = total-few limit w h; low = zero-low; high = low-one }, rows-short w h) (lag-more (bucketOf L width buckets) w fits (k .has-lag))))
+      (record { few = total-few limit w h; low = zero-low; high = low-one }) (lag-more (bucketOf L width buckets) w fits (k .has-lag))))
       (λ l. absurd (omega (arith, span-second t w f (whole-of w h) k)))

@@ -23,8 +23,9 @@ use Rattle.lag_window.specs.Window.{Window, lent}
 use Rattle.lag_window.specs.Whole.{Sound}
 use Rattle.lag_window.specs.Parts.{partOf}
 use Rattle.lag_window.specs.Checks.{fromZeroToOne}
-use Rattle.lag_window.specs.Quantile.{quantileOf, Placeable}
+use Rattle.lag_window.specs.Quantile.{quantileOf, Placeable, ShortRows}
 use Rattle.lag_window.proofs.WholeAt.{whole-of}
+use Rattle.lag_window.proofs.Totals.{rows-short}
 use Rattle.lag_window.proofs.Numbers.{sound-placeable}
 use Rattle.delay_hold.proofs.Wholes as holds
 use Rattle.slots.specs.declared.Flow.{Flow}
@@ -124,9 +125,9 @@ arrival-by w is-half half-at is-high high-at is-highest highest-at =
 
 pub quantile-asks : {w : LagWindow} {i : ℕ} {counts : List ℕ} → Countable w i counts → {q : Float} (k : ℕ) → q ≡ thousandths k → k ≤ 1000 →
     ((w .seconds ≤ 11) × (w .buckets ≤ 4096) × (1 ≤ w .width) × (w .width ≤ 4800))
-    × ((i * (11 * w .buckets) + 11 * w .buckets ≤ length counts) × Placeable q 4294967295 (partOf i (lent w [] [] counts)))
+    × ((i * (11 * w .buckets) + 11 * w .buckets ≤ length counts) × (Placeable q 4294967295 (partOf i (lent w [] [] counts)) × ShortRows (w .buckets) (w .seconds) (part (i * (11 * w .buckets)) (11 * w .buckets) counts)))
 quantile-asks {w} {i} {counts} c k is-q h =
-    ((c .few, c .buckets-most, c .width-least, c .width-most), (c .counts-in, subst (λ (x : Float). Placeable x 4294967295 (partOf i (lent w [] [] counts))) (sym is-q) (c .placeable (thousandths k) (thousandths-in k h))))
+    ((c .few, c .buckets-most, c .width-least, c .width-most), (c .counts-in, (subst (λ (x : Float). Placeable x 4294967295 (partOf i (lent w [] [] counts))) (sym is-q) (c .placeable (thousandths k) (thousandths-in k h)), c .short)))
 
 -- ---- the route
 pub source-there : (s : Inputs) {to : Routed} {route : Route} {flow : Flow} → to ≡ To route → flow ≡ flowAt s (route .flow) → From (record { flow = flow; domain = route .domain }) ≡ sourceOf s to
@@ -151,6 +152,7 @@ module _ (s : Inputs) (l : Lists) (c : Checked s l) (i : ℕ) (h : i < s .count)
         width-most = window-is-sound .shaped .width-high;
         counts-in = window-held s l (c .fitting) i (slotAt s i) h .counts-in;
         placeable = λ q e. sound-placeable q 4294967295 (windowOf s l i) window-is-sound e;
+        short = rows-short (windowOf s l i) window-is-sound;
       })
 
   pub peaks-in : {k : ℕ} → k ≡ 600 → slot .hold .peaks ≤ length (part (i * 600) k (l .lags))

@@ -5,11 +5,12 @@ use mathlib.Core.Path.{_≡_}
 use mathlib.Core.List.{List, []}
 use lib.Ieee.{Float}
 use lib.ListN.{length}
+use Rattle.base.specs.Lists.{part}
 use Rattle.lag_window.specs.declared.LagWindow.{LagWindow}
 use Rattle.lag_window.specs.Window.{lent}
 use Rattle.lag_window.specs.Parts.{partOf}
 use Rattle.lag_window.specs.Checks.{fromZeroToOne}
-use Rattle.lag_window.specs.Quantile.{Placeable}
+use Rattle.lag_window.specs.Quantile.{Placeable, ShortRows}
 use Rattle.slots.specs.declared.Inputs.{Inputs}
 use Rattle.record.specs.Lent.{Lists}
 use Rattle.record.specs.Facts.{Checked}
@@ -22,6 +23,7 @@ pub record Countable (w : LagWindow) (i : ℕ) (counts : List ℕ) : Type 0 wher
   pub width-most : w .width ≤ 4800
   pub counts-in : i * (11 * w .buckets) + 11 * w .buckets ≤ length counts
   pub placeable : (q : Float) → fromZeroToOne q ≡ true → Placeable q 4294967295 (partOf i (lent w [] [] counts))
+  pub short : ShortRows (w .buckets) (w .seconds) (part (i * (11 * w .buckets)) (11 * w .buckets) counts)
 
 -- an input of a record that the checks let through, and an applied delay
 pub record Showable (s : Inputs) (l : Lists) (i applied : ℕ) : Type 0 where

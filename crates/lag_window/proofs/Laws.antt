@@ -262,7 +262,7 @@ module _ (q : Float) (limit : ℕ) (w : Window) where
       let one : 1 ≤ totalUpto limit w = total-some b h in
       let all : 0 + suc (w .buckets - 1) ≡ w .buckets = omega (arith, h .inside) in
       let last : suc (w .buckets - 1) ≡ w .buckets = omega (arith, h .inside) in
-      let found = found-some limit (w .width) (w .buckets) (w .seconds) (w .counts) (places.placeOf (totalUpto limit w) q) (w .buckets - 1) 0 (rw all (place-at-most (totalUpto limit w) q one (p .0))) in
+      let found = found-some limit (w .width) (w .buckets) (w .seconds) (w .counts) (places.placeOf (totalUpto limit w) q) (w .buckets - 1) 0 (rw all (place-at-most (totalUpto limit w) q one p)) in
       let is : reach (places.placeOf (totalUpto limit w) q) limit (w .width) (w .buckets) (w .seconds) (w .counts) (w .buckets) 0 ≡ At (found .0) = ap (λ (d : ℕ). reach (places.placeOf (totalUpto limit w) q) limit (w .width) (w .buckets) (w .seconds) (w .counts) d 0) (sym last) ∙ found .1 in
       ((found .0 + 1) * w .width, rw (ne-eqb (totalUpto limit w) 0 (λ z. omega arith), is))
 

@@ -17,7 +17,7 @@ use Rattle.lag_window.specs.declared.Quantile.the-variants.{Refused}
 use Rattle.base.specs.Rows.{spanOf}
 use Rattle.lag_window.specs.Window.{Window, lent, bucketsOf, fresh, cleared, pushed}
 use Rattle.lag_window.specs.Whole.{wholeWindow, Shaped, Sound}
-use Rattle.lag_window.specs.Quantile.{quantileUpto, Placeable}
+use Rattle.lag_window.specs.Quantile.{quantileUpto, Placeable, ShortRows}
 use Rattle.lag_window.specs.Checks.{checked, newest, roomFor, fromZeroToOne, newNumber, pushNumber, quantileNumber, replied, nothing, newReply, pushReply, clearReply, spanReply, answered, quantileUptoReply}
 use Rattle.lag_window.proofs.WholeAt.{whole-of}
 use Rattle.lag_window.proofs.Totals.{total-few, rows-short}
@@ -220,18 +220,18 @@ pub sound-placeable : (q : Float) (limit : ℕ) (w : Window) → Sound w → fro
 unfolding fromZeroToOne
 sound-placeable q limit w s h =
     let b = both-true _ _ h in
-    (record { few = total-few limit w s; low = is (b .0); high = is (b .1) }, rows-short w s)
+    record { few = total-few limit w s; low = is (b .0); high = is (b .1) }
   where
     is : {y : Bool} → y ≡ true → T y
     is e = rw e tt
 
-pub quantile-asks : (q : Float) (limit : ℕ) (w : Window) (n : ℕ) → n ≡ quantileNumber q w → n ≡ 0 → ((w .seconds ≤ 11) × (w .buckets ≤ 4096) × (1 ≤ w .width) × (w .width ≤ 4800)) × ((length (w .counts) ≡ 11 * w .buckets) × Placeable q limit w)
+pub quantile-asks : (q : Float) (limit : ℕ) (w : Window) (n : ℕ) → n ≡ quantileNumber q w → n ≡ 0 → ((w .seconds ≤ 11) × (w .buckets ≤ 4096) × (1 ≤ w .width) × (w .width ≤ 4800)) × ((length (w .counts) ≡ 11 * w .buckets) × (Placeable q limit w × ShortRows (w .buckets) (w .seconds) (w .counts)))
 unfolding quantileNumber
 quantile-asks q limit w n e z =
     let a = passed w _ (sym e ∙ z) in
     let b = asked _ _ _ (a .1) in
     let s = a .0 in
-    ((whole-of w s .few, s .shaped .buckets-high, s .shaped .width-low, s .shaped .width-high), (s .shaped .counts-long, sound-placeable q limit w s (b .0)))
+    ((whole-of w s .few, s .shaped .buckets-high, s .shaped .width-low, s .shaped .width-high), (s .shaped .counts-long, (sound-placeable q limit w s (b .0), rows-short w s)))
 
 pub span-asks : (w : Window) (n : ℕ) → n ≡ checked w 0 → n ≡ 0 → w .seconds ≤ length (w .starts)
 span-asks w n e z = let s = whole-of w (checked-sound w n e z) in omega (arith, s .few, s .ls)

@@ -12,7 +12,7 @@ use Rattle.lag_window.specs.declared.Quantile.{Quantile}
 use Rattle.lag_window.specs.Window.{Window, lent, inUse, laid, opens, added, opened, dropped, counted, pushed, pushedAll}
 use Rattle.lag_window.specs.Whole.{wholeWindow, Shaped, Sound}
 use Rattle.lag_window.specs.Checks.{roomFor}
-use Rattle.lag_window.specs.Quantile.{quantileUpto, Placeable}
+use Rattle.lag_window.specs.Quantile.{quantileUpto, Placeable, ShortRows}
 use Rattle.lag_window.specs.Parts.{partOf, placed, Held}
 use Rattle.lag_window.proofs.Padding.{part-length}
 
@@ -81,7 +81,7 @@ module _ (j : ℕ) (w : LagWindow) (s t c : List ℕ) (k n : ℕ) (ek : k ≡ 11
 
 -- ---- the counts alone
 module _ (q : Float) (limit : ℕ) (j : ℕ) (w : LagWindow) (c : List ℕ) (n : ℕ) (en : n ≡ 11 * w .buckets) where
-  pub part-quantile-asks : (w .seconds ≤ 11) × (w .buckets ≤ 4096) × (1 ≤ w .width) × (w .width ≤ 4800) → j * (11 * w .buckets) + 11 * w .buckets ≤ length c → Placeable q limit (partOf j (lent w [] [] c)) → ((w .seconds ≤ 11) × (w .buckets ≤ 4096) × (1 ≤ w .width) × (w .width ≤ 4800)) × ((length (part (j * (11 * w .buckets)) n c) ≡ 11 * w .buckets) × Placeable q limit (lent w [] [] (part (j * (11 * w .buckets)) n c)))
+  pub part-quantile-asks : (w .seconds ≤ 11) × (w .buckets ≤ 4096) × (1 ≤ w .width) × (w .width ≤ 4800) → j * (11 * w .buckets) + 11 * w .buckets ≤ length c → Placeable q limit (partOf j (lent w [] [] c)) × ShortRows (w .buckets) (w .seconds) (part (j * (11 * w .buckets)) (11 * w .buckets) c) → ((w .seconds ≤ 11) × (w .buckets ≤ 4096) × (1 ≤ w .width) × (w .width ≤ 4800)) × ((length (part (j * (11 * w .buckets)) n c) ≡ 11 * w .buckets) × (Placeable q limit (lent w [] [] (part (j * (11 * w .buckets)) n c)) × ShortRows (w .buckets) (w .seconds) (part (j * (11 * w .buckets)) n c)))
   part-quantile-asks sizes h p = rw en (sizes, (part-length (j * (11 * w .buckets)) (11 * w .buckets) c h, p))
 
   pub part-quantile : (r : Quantile) → r ≡ quantileUpto q limit (lent w [] [] (part (j * (11 * w .buckets)) n c)) → r ≡ quantileUpto q limit (partOf j (lent w [] [] c))

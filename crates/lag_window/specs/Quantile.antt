@@ -57,10 +57,10 @@ lagsIn w b = column (w .buckets) b (w .seconds) (w .counts)
 abbrev pub totalUpto : ℕ → Window → ℕ
 totalUpto limit w = running limit (w .width) (w .buckets) (w .seconds) (w .counts) (w .buckets)
 
--- each of the n seconds counts at most 4,294,967,295 lags, so that any part of its row is summed in 32 bits
+-- what the place of q among these lags is asked for: they are few enough, and q is from 0 to 1
+abbrev pub Placeable : Float → ℕ → Window → Type 0
+Placeable q limit w = places.Quantile (totalUpto limit w) q
+
+-- what the summing of rows in 32 bits asks: each of the n seconds counts at most 4,294,967,295 lags, so that no part of its row wraps
 abbrev pub ShortRows : (buckets n : ℕ) → List ℕ → Type 0
 ShortRows buckets n counts = (r : ℕ) → r < n → rowSum buckets counts r ≤ 4294967295
-
--- what the place of q among these lags is asked for: they are few enough, in all and in each second, and q is from 0 to 1
-abbrev pub Placeable : Float → ℕ → Window → Type 0
-Placeable q limit w = places.Quantile (totalUpto limit w) q × ShortRows (w .buckets) (w .seconds) (w .counts)

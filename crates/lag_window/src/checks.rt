@@ -48,7 +48,7 @@ fn summed(buckets: usize, totals: &[u64], counts: &[u32]) -> bool
     true
 }
 
-// Whether the window is whole. Unused totals are zero, so that the rows' sums tell of the unused counts too: each count is read once.
+// Whether the window is whole. Unused totals are zero, so that the rows' sums tell of the unused counts too: each count is read once, but in a row with a count of 2^20 or more.
 pub(crate) fn whole(window: LagWindow, starts: &[u64], totals: &[u64], counts: &[u32]) -> bool
     requires { ⌜ Shaped (lent window (now starts) (now totals) (now counts)) ⌝ }
     ensures { λ r. ⌜ r ≡ wholeWindow (lent window (now (starts .entry)) (now (totals .entry)) (now (counts .entry))) ⌝ }

@@ -9,7 +9,7 @@ ghost use Rattle.base.specs.Rows.{spanOf};
 ghost use Rattle.lag_window.specs.Window.{lent, bucketsOf, cleared, pushedAll};
 ghost use Rattle.lag_window.specs.Whole.{wholeWindow};
 ghost use Rattle.lag_window.specs.Checks.{roomFor};
-ghost use Rattle.lag_window.specs.Quantile.{quantileUpto, Placeable};
+ghost use Rattle.lag_window.specs.Quantile.{quantileUpto, Placeable, ShortRows};
 ghost use Rattle.lag_window.specs.Parts.{partOf, placed, Held};
 use super::LagWindow;
 use super::Quantile;
@@ -120,6 +120,7 @@ pub fn quantile_upto(window: LagWindow, j: usize, q: f64, limit: u32, counts: &[
     requires { ⌜ (window .seconds ≤ 11) × (window .buckets ≤ 4096) × (1 ≤ window .width) × (window .width ≤ 4800) ⌝ }
     requires { ⌜ j * (11 * window .buckets) + 11 * window .buckets ≤ length (now counts) ⌝ }
     requires { ⌜ Placeable q limit (partOf j (lent window [] [] (now counts))) ⌝ }
+    requires { ⌜ ShortRows (window .buckets) (window .seconds) (part (j * (11 * window .buckets)) (11 * window .buckets) (now counts)) ⌝ }
     ensures { λ r. ⌜ r ≡ quantileUpto q limit (partOf j (lent window [] [] (now (counts .entry)))) ⌝ }
 {
     let n = LagWindow::SECONDS * window.buckets;

@@ -6,7 +6,7 @@ ghost use lib.ListN.{length};
 ghost use Rattle.base.specs.Lists.{sumFrom};
 ghost use Rattle.lag_window.specs.Window.{lent};
 ghost use Rattle.lag_window.specs.InPlace.{rowsFrom};
-ghost use Rattle.lag_window.specs.Quantile.{column, running, reach, quantileUpto, ShortRows, Placeable};
+ghost use Rattle.lag_window.specs.Quantile.{column, running, reach, quantileUpto, Placeable, ShortRows};
 use super::Found;
 use super::LagWindow;
 use super::Quantile;
@@ -196,6 +196,7 @@ pub(crate) fn quantile_upto(window: LagWindow, q: f64, limit: u32, counts: &[u32
     requires { ⌜ (window .seconds ≤ 11) × (window .buckets ≤ 4096) × (1 ≤ window .width) × (window .width ≤ 4800) ⌝ }
     requires { ⌜ length (now counts) ≡ 11 * window .buckets ⌝ }
     requires { ⌜ Placeable q limit (lent window [] [] (now counts)) ⌝ }
+    requires { ⌜ ShortRows (window .buckets) (window .seconds) (now counts) ⌝ }
     ensures { λ r. ⌜ r ≡ quantileUpto q limit (lent window [] [] (now (counts .entry))) ⌝ }
 {
     let n = window.seconds;

@@ -59,7 +59,7 @@ pub fn commands_fit(n: usize, commands: Commands) -> bool
     words == n * 12
 }
 
-// Input i: its seconds, its peaks with seed and timer, and the rest of its slot. Each count is read once. Only what is read is handed on:
+// Input i: its seconds, its peaks with seed and timer, and the rest of its slot. Each count is read once, but in a row with a count of 2^20 or more. Only what is read is handed on:
 // the record would be copied for each input.
 fn whole_input(
     policy: DelayPolicy,
