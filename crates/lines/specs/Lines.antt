@@ -89,7 +89,7 @@ movedBytes c s = pick (ltb (c .to) (length s)) s (shifted (c .from) s)
 abbrev pub readUpTo : ℕ → Cursor → Cursor
 readUpTo to c = record { from = c .from; seen = c .seen; to = to; ended = eqb to (c .to); found = c .found; end = c .end; next = c .next; dropped = c .dropped }
 
--- from a cursor and a buffer to a cursor and a buffer, by one read: what came stands after what was read before, in the buffer, and what was read before stays. What the bytes that came are is the system's to say.
+-- from a cursor and a buffer to a cursor and a buffer, by one read: what came stands in the buffer after what was read before, which stays. Which bytes come, and whether any do, the contract of `libc::read` does not say.
 pub record ReadAfter (c : Cursor) (s : List ℕ) (r : Cursor) (t : List ℕ) : Type 0 where
   pub cursor : r ≡ readUpTo (r .to) c
   pub onwards : c .to ≤ r .to
