@@ -8,8 +8,8 @@ Usage: compare/make_replay.py             needs the oracle: compare/oracle/build
 
 The list is fixed. It has every line form of the protocol, every refusal for every call
 that it concerns, with two reasons at once in places (the smaller number wins), both
-sides of each edge of document 01's rules, its examples, and each of the 19 readings of
-DESIGN.md, section 3, under the name "Reading N". No line depends on a random number."""
+sides of each edge of document 01's rules, its examples, and the readings of
+docs/DECISIONS.md under the name "Reading N". No line depends on a random number."""
 import pathlib
 import subprocess
 import sys
@@ -37,8 +37,8 @@ def main():
     done = subprocess.run([ORACLE, "checked"], input=text, capture_output=True, text=True, check=True)
     answers = done.stdout.splitlines()
     for line, answer in zip(LINES, answers):
-        if answer.startswith(("panic", "err")):
-            sys.exit(f"the Rust stops at {line[:200]}")
+        if not answer.startswith(("ok", "refused ", "bad line", "flushed")):
+            sys.exit(f"{answer[:200]}: {line[:200]}")
     if len(answers) != len(LINES):
         sys.exit(f"{len(LINES)} calls, {len(answers)} answers")
     CRATE.mkdir(parents=True, exist_ok=True)

@@ -29,15 +29,15 @@ def numbers():
     say(f"need 0 0 0 {bits(0.0)} 0", f"need 96000 96000 96000 {bits(1000.0)} 96000")
     # Reading 13: rounding is not the floor of x and a half in doubles; both are 1.
     say(f"need 480 4800 0 {bits(BELOW_HALF)} 481", f"need 480 4800 0 {bits(50.0)} 481")
-    # Reading 12: -0.0 is a percent. Reading 1: of a policy the share is asked, and -0.0 is one.
+    # Reading 12: -0.0 is a percent. The percent is asked itself: the greatest below 0 is none, though its share is -0.0.
     say(f"need 480 4800 96 {bits(-0.0)} 485", f"need 480 4800 96 {bits(-LEAST)} 485")
-    bad_percents = [-1.0, 1000.0000000000001, 1001.0, NAN, -NAN, INF, -INF]
+    bad_percents = [-1.0, -49 * LEAST, -51 * LEAST, step(1000.0, 1), 1001.0, NAN, -NAN, INF, -INF]
     say(*(f"need 480 4800 96 {bits(p)} 485" for p in bad_percents))
     say(
         f"need 96001 4800 96 {bits(50.0)} 485", f"need 480 96001 96 {bits(50.0)} 485",
         f"need 480 4800 96001 {bits(50.0)} 485",
     )
-    say(f"need 480 96001 96 {bits(NAN)} 485")  # 2 before 4
+    say(f"need 480 96001 96 {bits(NAN)} 485", f"need 480 96001 96 {bits(-LEAST)} 485")  # 2 before 4
 
     section("index_at and time_of")
     say(
@@ -318,7 +318,8 @@ def hold():
     )
     say(
         nxt(5, margin=96001), nxt(5, percent=NAN), nxt(5, percent=-1.0), nxt(5, percent=1001.0),
-        nxt(5, percent=INF), nxt(5, percent=-LEAST, p999=480),
+        nxt(5, percent=INF), nxt(5, percent=-LEAST, p999=480), nxt(5, percent=-0.0, p999=480),
+        nxt(5, percent=step(1000.0, 1)), nxt(5, percent=1000.0, p999=480),
     )
     say(
         short(nxt(5, p999=480)), nxt(LATEST), nxt(LATEST + 1), nxt(U64), nxt(5, current=4801),
@@ -326,6 +327,7 @@ def hold():
     )
     say(
         nxt(5, offset=96001, hold=U64), nxt(5, hold=U64, percent=NAN), short(nxt(5, percent=NAN)),
+        nxt(5, offset=96001, percent=-LEAST), nxt(5, hold=U64, percent=-LEAST), short(nxt(5, percent=-LEAST)),
         short(nxt(LATEST + 1)), nxt(LATEST + 1, current=4801),
     )
     bad = [

@@ -1,6 +1,7 @@
 //! Document 01's checks, written from its text: which calls are refused and with
 //! which number, and which lines cannot be read. A call that passes goes to the
-//! Rust, which makes none of them.
+//! Rust. So does a refused one where the Rust has an answer of its own for it (a
+//! missing input, a manual delay out of range, no proposal): it must refuse it too.
 use crate::driver::Driver;
 use crate::inputs::probe::{self, HoldFields, Second};
 use std::collections::BTreeSet;
@@ -23,7 +24,33 @@ pub fn quiet_rust() {
     }));
 }
 
-/// Why a line is not given to the Rust.
+/// The Rust's answer, or none where it panics.
+fn in_the_rust<T>(call: impl FnOnce() -> T) -> Option<T> {
+    IN_THE_RUST.store(true, Relaxed);
+    let done = std::panic::catch_unwind(std::panic::AssertUnwindSafe(call));
+    IN_THE_RUST.store(false, Relaxed);
+    done.ok()
+}
+
+const AT_ODDS: &str = "at odds:";
+
+/// Whether an answer says that the checks and the Rust are at odds.
+pub fn at_odds(answer: &str) -> bool {
+    answer.starts_with(AT_ODDS)
+}
+
+/// The refusals that the Rust has too. `update` and `confirm_delay` answer them with an
+/// error; of a missing input `has_channels` says no, `status` has no entry and `route`
+/// does nothing.
+fn rust_refuses(line: &str, number: u8) -> bool {
+    let name = line.split(' ').next().unwrap_or("");
+    matches!(
+        (name, number),
+        ("update", 7 | 12) | ("confirm", 7 | 13) | ("route" | "has" | "status", 7)
+    )
+}
+
+/// Why a line is not answered by the Rust.
 #[derive(Debug, PartialEq)]
 pub enum No {
     BadLine,
@@ -163,9 +190,9 @@ fn width(w: u32) -> bool {
 fn times(hold: u64, window: u64) -> bool {
     hold <= 600 * SECOND && (SECOND..=600 * SECOND).contains(&window)
 }
-/// 4, of a policy: its share is percent / 100.
+/// 4: margin and percent. The percent is asked itself: the share of one just below 0 is -0.0.
 fn margins(margin: u32, percent: f64) -> bool {
-    margin <= 96_000 && (0.0..=10.0).contains(&(percent / 100.0))
+    margin <= 96_000 && (0.0..=1000.0).contains(&percent)
 }
 
 /// 6, of a window.
@@ -221,20 +248,29 @@ impl Checked {
         }
     }
 
-    /// The answer to a line, as the port is to give it.
+    /// The answer to a line, as the port is to give it; or that the Rust does otherwise
+    /// than the checks (see `at_odds`).
     pub fn call(&mut self, line: &str) -> &str {
         self.no = self.verdict(line).err();
         match self.no {
             Some(BadLine) => self.driver.out = "bad line".into(),
-            Some(Refused(n)) => self.driver.out = format!("refused {n}"),
+            Some(Refused(n)) => {
+                let wrong = if rust_refuses(line, n) {
+                    in_the_rust(|| self.driver.refused(line)).unwrap_or(Some("panics"))
+                } else {
+                    None
+                };
+                self.driver.out = match wrong {
+                    Some(wrong) => format!("{AT_ODDS} refused {n}, the Rust {wrong}"),
+                    None => format!("refused {n}"),
+                };
+            }
             None => {
                 let line = line.strip_prefix("!5 ").unwrap_or(line);
-                let driver = &mut self.driver;
-                IN_THE_RUST.store(true, Relaxed);
-                let done = std::panic::catch_unwind(std::panic::AssertUnwindSafe(|| driver.call(line)));
-                IN_THE_RUST.store(false, Relaxed);
-                if done.is_err() {
+                if in_the_rust(|| self.driver.call(line)).is_none() {
                     self.driver.out = "panic".into();
+                } else if self.driver.out == "err" {
+                    self.driver.out = format!("{AT_ODDS} accepted, the Rust answers an error");
                 }
             }
         }
@@ -338,7 +374,7 @@ impl Checked {
         ask(1, (1..=16).contains(&n))?;
         ask(2, reaches(offset, max) && width(bucket) && buckets(offset, max, bucket) <= 4096)?;
         ask(3, times(hold, window) && stall <= 600 * SECOND)?;
-        ask(4, margin <= 96_000 && (0.0..=1000.0).contains(&percent))?;
+        ask(4, margins(margin, percent))?;
         ask(5, !short)?;
         ask(8, now <= LATEST)?;
         ask(9, flows.len() <= 64)?;

@@ -4,7 +4,7 @@
 //! compare SEED CALLS FAMILY PORT [ARGUMENT..]     FAMILY: supervisor, alone, all
 //! replay FILE PORT [ARGUMENT..]                   a file of calls, one a line
 use crate::calls::Calls;
-use crate::checks::{quiet_rust, Checked, No};
+use crate::checks::{at_odds, quiet_rust, Checked, No};
 use std::collections::{BTreeMap, BTreeSet};
 use std::io::{BufRead, BufReader, BufWriter, Write};
 use std::process::{exit, Command, Stdio};
@@ -38,10 +38,11 @@ fn answers<'a>(port: &[String], lines: impl Iterator<Item = &'a str>) -> Vec<Str
     found
 }
 
-/// The first line that the port answers otherwise, and its answer.
+/// The first line that the port answers otherwise, or at which the checks and the Rust
+/// are at odds, and the port's answer.
 fn difference(port: &[String], asked: &[Asked]) -> Option<(usize, String)> {
     let found = answers(port, asked.iter().map(|a| a.0.as_str()));
-    let at = (0..asked.len()).find(|&i| found.get(i) != Some(&asked[i].1))?;
+    let at = (0..asked.len()).find(|&i| at_odds(&asked[i].1) || found.get(i) != Some(&asked[i].1))?;
     Some((at, found.get(at).cloned().unwrap_or_else(|| "(no answer)".into())))
 }
 
@@ -101,6 +102,10 @@ fn report(port: &[String], asked: &[Asked]) {
     let word = (0..a.len().max(b.len())).find(|&i| a.get(i) != b.get(i)).unwrap_or(0);
     println!("expected: {wanted}");
     println!("the port: {found}");
+    if at_odds(wanted) {
+        println!("after {} calls the checks and the Rust are at odds", at + 1);
+        return;
+    }
     println!(
         "after {} calls word {} of the answer is {} and not {}",
         at + 1,
@@ -179,9 +184,13 @@ pub fn replay(args: &[String]) {
     quiet_rust();
     let text = std::fs::read_to_string(file).expect("the file of calls");
     let mut checked = Checked::new();
-    // "flush" is no call; its answer stands all the same.
-    let mut answer = |l: &str| if l == "flush" { "flushed".into() } else { checked.call(l).to_string() };
-    let asked: Vec<Asked> = text.lines().map(|l| (l.to_string(), answer(l))).collect();
+    // A carriage return before the newline is no part of a line; "flush" is no call, but
+    // has its answer.
+    let mut answer = |line: &str| match line.strip_suffix('\r').unwrap_or(line) {
+        "flush" => "flushed".into(),
+        line => checked.call(line).to_string(),
+    };
+    let asked: Vec<Asked> = text.split_terminator('\n').map(|l| (l.to_string(), answer(l))).collect();
     if difference(port, &asked).is_some() {
         report(port, &asked);
         exit(1);

@@ -182,6 +182,11 @@ impl Driver {
     }
 
     fn route(&mut self, w: &mut Words) {
+        let index = self.call_route(w);
+        self.out.push_str("ok");
+        self.show(Some(index), self.full);
+    }
+    fn call_route(&mut self, w: &mut Words) -> usize {
         shim::set_clock(num(w));
         let index: usize = num(w);
         let route = match w.next().unwrap() {
@@ -205,41 +210,86 @@ impl Driver {
             make,
             reader,
         };
-        mxlio::set_world(index, world);
-        mxlio::turn(index);
+        // A missing input has no world: the Rust would stop if it asked for one.
         if let Some(c) = engine.counters.inputs.get(index) {
             c.head_index.store(head, Relaxed);
+            mxlio::set_world(index, world);
         }
+        mxlio::turn(index);
         inputs.route(engine, index, route);
-        self.out.push_str("ok");
-        self.show(Some(index), self.full);
+        index
     }
 
     fn update(&mut self, w: &mut Words) {
+        let (index, done) = self.call_update(w);
+        self.answer(index, done);
+    }
+    fn call_update(&mut self, w: &mut Words) -> (usize, bool) {
         shim::set_clock(num(w));
         let index: usize = num(w);
         let delay = kind(w.next().unwrap());
         let (inputs, engine, _) = self.sup.as_mut().expect("new first");
-        match inputs.update(engine, index, None, Some(delay)) {
-            Ok(_) => {
-                self.out.push_str("ok");
-                self.show(Some(index), self.full);
-            }
-            Err(_) => self.out.push_str("err"),
-        }
+        (index, inputs.update(engine, index, None, Some(delay)).is_ok())
     }
 
     fn confirm(&mut self, w: &mut Words) {
+        let (index, done) = self.call_confirm(w);
+        self.answer(index, done);
+    }
+    fn call_confirm(&mut self, w: &mut Words) -> (usize, bool) {
         shim::set_clock(num(w));
         let index: usize = num(w);
         let (inputs, engine, _) = self.sup.as_mut().expect("new first");
-        match inputs.confirm_delay(engine, index) {
-            Ok(()) => {
-                self.out.push_str("ok");
-                self.show(Some(index), self.full);
-            }
-            Err(_) => self.out.push_str("err"),
+        (index, inputs.confirm_delay(engine, index).is_ok())
+    }
+
+    /// The input, or `err` where the Rust answers an error.
+    fn answer(&mut self, index: usize, done: bool) {
+        if done {
+            self.out.push_str("ok");
+            self.show(Some(index), self.full);
+        } else {
+            self.out.push_str("err");
         }
+    }
+
+    /// Make a call that document 01 refuses and the Rust answers itself: what it does
+    /// wrong. `update` and `confirm` are to be errors, `has` a no, `status` to have no
+    /// such input, `route` quiet; none may change the record or send a command.
+    pub fn refused(&mut self, line: &str) -> Option<&'static str> {
+        let mut words = line.split_ascii_whitespace();
+        let w = &mut words;
+        let name = w.next().unwrap_or("");
+        shim::set_w(self.widths.0);
+        let before = self.whole();
+        let accepts = match name {
+            "update" => self.call_update(w).1,
+            "confirm" => self.call_confirm(w).1,
+            "has" => self.call_has(w),
+            "status" => {
+                let (inputs, _, _) = self.sup.as_ref().expect("new first");
+                inputs.status().get(num::<usize>(w)).is_some()
+            }
+            "route" => {
+                self.call_route(w);
+                false
+            }
+            _ => panic!("the Rust does not refuse {name}"),
+        };
+        if accepts {
+            Some("accepts it")
+        } else if self.whole() != before {
+            Some("changes its record")
+        } else {
+            None
+        }
+    }
+
+    /// The commands sent and the whole record.
+    fn whole(&mut self) -> String {
+        let answer = std::mem::take(&mut self.out);
+        self.show(None, true);
+        std::mem::replace(&mut self.out, answer)
     }
 
     fn tick(&mut self, w: &mut Words, dry: bool) {
@@ -289,13 +339,16 @@ impl Driver {
     }
 
     fn has(&mut self, w: &mut Words) {
+        let yes = self.call_has(w);
+        write!(self.out, "ok {}", u8::from(yes)).unwrap();
+    }
+    fn call_has(&mut self, w: &mut Words) -> bool {
         let (index, channels, wanted): (usize, u32, usize) = (num(w), num(w), num(w));
         let (inputs, engine, _) = self.sup.as_mut().expect("new first");
         if let Some(c) = engine.counters.inputs.get(index) {
             c.channels.store(channels, Relaxed);
         }
-        let yes = inputs.has_channels(index, wanted);
-        write!(self.out, "ok {}", u8::from(yes)).unwrap();
+        inputs.has_channels(index, wanted)
     }
 
     /// Not in the Rust: from its state and the commands it sent.

@@ -1,1 +1,4 @@
+-- The worked answers, each computed.
+pub mod Windows
+pub mod Holds
 pub mod Fifteen

@@ -1,5 +1,5 @@
 -- Document 01's checks of `new` and of `next` alone, the answers, and what each call leaves. Assumes nothing.
-use Prim.Native.Nat.{ℕ, zero, suc, _+_, _≤_}
+use Prim.Native.Nat.{ℕ, zero, suc, _≤_}
 use mathlib.Core.Path.{_≡_}
 use mathlib.Core.Bool.{Bool, true}
 use mathlib.Core.List.{List}
@@ -33,22 +33,22 @@ pub record NewReply : Type 0 where
   pub number : ℕ
   pub held : Held
 
-abbrev pub newLeft : NewHold → List ℕ → List ℕ → NewReply
+abbrev pub newLeft : (r : NewHold) (times lags : List ℕ) → NewReply
 newLeft r times lags = record { number = r .number; held = held (r .hold) times lags }
 
-unfoldable pub newReply : List ℕ → List ℕ → NewReply
+unfoldable pub newReply : (times lags : List ℕ) → NewReply
 newReply times lags =
     let s : Held = held freshHold times lags in
     record { number = newNumber s; held = accepted (newNumber s) s (clearedHold s) }
 
 -- ---- next alone
 -- a lag, if there is one, is at most the limit
-abbrev pub lagUpTo : Lag → ℕ → Bool
+abbrev pub lagUpTo : Lag → (limit : ℕ) → Bool
 lagUpTo None limit = true
 lagUpTo (Of lag) limit = leb lag limit
 
 -- 2: "Are offset and maximum at most 96,000, W 1 to 4,800" 3. 4.
-unfoldable pub settingsNumber : DelayPolicy → ℕ → ℕ
+unfoldable pub settingsNumber : (policy : DelayPolicy) (width : ℕ) → ℕ
 settingsNumber policy width =
     ask 2 (reachesAllowed policy)
     (ask 2 (leb 1 width)
@@ -57,7 +57,7 @@ settingsNumber policy width =
     (ask 4 (marginsAllowed policy) 0))))
 
 -- 5. 6. 8. 15: "current at most maximum, p999 at most offset + maximum + W"
-unfoldable pub stateNumber : DelayPolicy → ℕ → Held → Lag → ℕ → ℕ → ℕ
+unfoldable pub stateNumber : (policy : DelayPolicy) (width : ℕ) (s : Held) (p999 : Lag) (current time : ℕ) → ℕ
 stateNumber policy width s p999 current time =
     ask 5 (listsFit s)
     (ask 6 (wholeHold policy width s)
@@ -66,12 +66,12 @@ stateNumber policy width s p999 current time =
     (ask 15 (lagUpTo p999 (peakMost policy width)) 0))))
 
 -- the first check of `next` that says no, or 0
-unfoldable pub nextNumber : DelayPolicy → ℕ → Held → Lag → ℕ → ℕ → ℕ
+unfoldable pub nextNumber : (policy : DelayPolicy) (width : ℕ) (s : Held) (p999 : Lag) (current time : ℕ) → ℕ
 nextNumber policy width s p999 current time =
     accepted (settingsNumber policy width) (settingsNumber policy width) (stateNumber policy width s p999 current time)
 
 -- the answer for a number and a change
-abbrev pub nextAnswer : ℕ → Change → Answer
+abbrev pub nextAnswer : ℕ → (change : Change) → Answer
 nextAnswer zero Keep = Kept
 nextAnswer zero (To delay) = Changed delay
 nextAnswer (suc k) change = Refused (suc k)
@@ -92,14 +92,14 @@ pub record Reply : Type 0 where
   pub answer : Answer
   pub held : Held
 
-abbrev pub left : Answer → DelayHold → List ℕ → List ℕ → Reply
+abbrev pub left : (r : Answer) (h : DelayHold) (times lags : List ℕ) → Reply
 left r h times lags = record { answer = r; held = held h times lags }
 
 -- the reply for a number and what was decided
-abbrev pub replyOf : ℕ → Held → Decided → Reply
+abbrev pub replyOf : (number : ℕ) (s : Held) (d : Decided) → Reply
 replyOf number s d = record { answer = nextAnswer number (d .change); held = accepted number s (d .held) }
 
-unfoldable pub nextReply : DelayPolicy → ℕ → Held → Lag → Lag → ℕ → ℕ → Reply
+unfoldable pub nextReply : (policy : DelayPolicy) (width : ℕ) (s : Held) (p999 largest : Lag) (current time : ℕ) → Reply
 nextReply policy width s p999 largest current time =
     replyOf (nextNumber policy width s p999 current time) s (nextOf oneMillisecond alwaysLower policy s p999 largest current time)
 

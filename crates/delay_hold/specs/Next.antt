@@ -30,7 +30,7 @@ pub record Held : Type 0 where
   pub times : List ℕ
   pub lags : List ℕ
 
-abbrev pub held : DelayHold → List ℕ → List ℕ → Held
+abbrev pub held : (h : DelayHold) (times lags : List ℕ) → Held
 held h times lags = record { hold = h; times = times; lags = lags }
 
 -- what `next` decides and leaves
@@ -38,7 +38,7 @@ pub record Decided : Type 0 where
   pub change : Change
   pub held : Held
 
-abbrev pub decided : Next → List ℕ → List ℕ → Decided
+abbrev pub decided : (r : Next) (times lags : List ℕ) → Decided
 decided r times lags = record { change = r .change; held = held (r .hold) times lags }
 
 -- the times and the lags of the peaks in use
@@ -49,7 +49,7 @@ abbrev pub lagsIn : Held → List ℕ
 lagsIn s = take (s .hold .peaks) (s .lags)
 
 -- the hold with another number of peaks
-abbrev pub withPeaks : DelayHold → ℕ → DelayHold
+abbrev pub withPeaks : (h : DelayHold) (n : ℕ) → DelayHold
 withPeaks h n =
     record {
       peaks = n;
@@ -62,29 +62,29 @@ withPeaks h n =
     }
 
 -- 1. the hold and the window of this call
-abbrev pub holdNow : DelayPolicy → DelayHold → ℕ → ℕ
+abbrev pub holdNow : (policy : DelayPolicy) (h : DelayHold) (time : ℕ) → ℕ
 holdNow policy h time = capped (inStartup h time) (policy .hold)
 
-abbrev pub windowNow : DelayPolicy → DelayHold → ℕ → ℕ
+abbrev pub windowNow : (policy : DelayPolicy) (h : DelayHold) (time : ℕ) → ℕ
 windowNow policy h time = capped (inStartup h time) (policy .window)
 
 -- 4. the peaks that are left
-abbrev pub timesNow : DelayPolicy → Held → Lag → Lag → ℕ → List ℕ
+abbrev pub timesNow : (policy : DelayPolicy) (s : Held) (p999 largest : Lag) (time : ℕ) → List ℕ
 timesNow policy s p999 largest time = timesAfter (timesIn s) (largerLag (lagOf policy largest) p999) (windowNow policy (s .hold) time) time
 
-abbrev pub lagsNow : DelayPolicy → Held → Lag → Lag → ℕ → List ℕ
+abbrev pub lagsNow : (policy : DelayPolicy) (s : Held) (p999 largest : Lag) (time : ℕ) → List ℕ
 lagsNow policy s p999 largest time =
     lagsAfter (timesIn s) (lagsIn s) (largerLag (lagOf policy largest) p999) (windowNow policy (s .hold) time) time
 
 -- 1 to 4: the hold that decides
-abbrev pub holdBefore : ℕ → DelayPolicy → Held → Lag → Lag → ℕ → ℕ → DelayHold
+abbrev pub holdBefore : (millisecond : ℕ) (policy : DelayPolicy) (s : Held) (p999 largest : Lag) (current time : ℕ) → DelayHold
 holdBefore millisecond policy s p999 largest current time =
     withPeaks
     (noted millisecond policy (s .hold) (lagOf policy largest) (inStartup (s .hold) time) (lateOf policy largest current) time)
     (length (timesNow policy s p999 largest time))
 
 -- 5 to 8
-abbrev pub decision : ℕ → Bool → DelayPolicy → Held → Lag → Lag → ℕ → ℕ → Next
+abbrev pub decision : (millisecond : ℕ) (mayLower : Bool) (policy : DelayPolicy) (s : Held) (p999 largest : Lag) (current time : ℕ) → Next
 decision millisecond mayLower policy s p999 largest current time =
     decide millisecond mayLower policy (holdBefore millisecond policy s p999 largest current time) (lateOf policy largest current) p999
     (worstOf (lagsNow policy s p999 largest time))
@@ -93,14 +93,14 @@ decision millisecond mayLower policy s p999 largest current time =
     time
 
 -- "`next` takes p999, the largest lag, current, time. In order:" 1 to 8
-unfoldable pub nextOf : ℕ → Bool → DelayPolicy → Held → Lag → Lag → ℕ → ℕ → Decided
+unfoldable pub nextOf : (millisecond : ℕ) (mayLower : Bool) (policy : DelayPolicy) (s : Held) (p999 largest : Lag) (current time : ℕ) → Decided
 nextOf millisecond mayLower policy s p999 largest current time =
     decided (decision millisecond mayLower policy s p999 largest current time)
     (padded 600 (timesNow policy s p999 largest time))
     (padded 600 (lagsNow policy s p999 largest time))
 
 -- the delay after a change
-abbrev pub delayAfter : ℕ → Change → ℕ
+abbrev pub delayAfter : (current : ℕ) → Change → ℕ
 delayAfter current Keep = current
 delayAfter current (To delay) = delay
 
@@ -122,7 +122,7 @@ abbrev pub clearedHold : Held → Held
 clearedHold s = held freshHold (replicate (length (s .times)) 0) (replicate (length (s .lags)) 0)
 
 -- "seed": the remembered delay, from now on
-abbrev pub seededHold : DelayHold → ℕ → ℕ → DelayHold
+abbrev pub seededHold : (h : DelayHold) (delay time : ℕ) → DelayHold
 seededHold h delay time =
     record {
       peaks = h .peaks;

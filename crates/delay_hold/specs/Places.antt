@@ -10,15 +10,15 @@ use Rattle.delay_hold.specs.declared.Lag.{Lag}
 use Rattle.delay_hold.specs.declared.Lag.the-variants.{None, Of}
 use Rattle.delay_hold.specs.Peaks.{isNewAt}
 
-abbrev pub countJoined : ℕ → List ℕ → Lag → ℕ → ℕ
+abbrev pub countJoined : (n : ℕ) (times : List ℕ) → Lag → (time : ℕ) → ℕ
 countJoined n times None time = n
 countJoined n times (Of lag) time = pick (isNewAt n times time) (n + 1) n
 
-abbrev pub timesJoined : ℕ → List ℕ → Lag → ℕ → List ℕ
+abbrev pub timesJoined : (n : ℕ) (times : List ℕ) → Lag → (time : ℕ) → List ℕ
 timesJoined n times None time = times
 timesJoined n times (Of lag) time = pick (isNewAt n times time) (set times n time) times
 
-abbrev pub lagsJoined : ℕ → List ℕ → List ℕ → Lag → ℕ → List ℕ
+abbrev pub lagsJoined : (n : ℕ) (times lags : List ℕ) → Lag → (time : ℕ) → List ℕ
 lagsJoined n times lags None time = lags
 lagsJoined n times lags (Of lag) time = pick (isNewAt n times time) (set lags n lag) (set lags (n - 1) (max (getD lags (n - 1) 0) lag))
 

@@ -15,40 +15,40 @@ use Rattle.delay_hold.specs.declared.Lag.the-variants.{None, Of}
 use Rattle.delay_hold.specs.declared.DelayHold.{DelayHold}
 
 -- 1. "The first call sets started."
-abbrev pub startedAt : Moment → ℕ → ℕ
+abbrev pub startedAt : Moment → (time : ℕ) → ℕ
 startedAt Never time = time
 startedAt (At t) time = t
 
 -- 1. "Startup is: under 60 s since, and fewer than two startup lates."
-abbrev pub startupAt : ℕ → ℕ → ℕ → Bool
+abbrev pub startupAt : (started lates time : ℕ) → Bool
 startupAt started lates time = ltb (time - started) (60 * nanos) && ltb lates 2
 
-abbrev pub inStartup : DelayHold → ℕ → Bool
+abbrev pub inStartup : (h : DelayHold) (time : ℕ) → Bool
 inStartup h time = startupAt (startedAt (h .started) time) (h .«startup_late») time
 
 -- 1. "In startup hold and window are each at most 5 s."
-abbrev pub capped : Bool → ℕ → ℕ
+abbrev pub capped : (startup : Bool) (x : ℕ) → ℕ
 capped startup x = pick startup (min x (5 * nanos)) x
 
 -- 2. "A seed of age at least the policy's hold (not the startup one) goes."
-abbrev pub seedLeft : Seed → ℕ → ℕ → Seed
+abbrev pub seedLeft : Seed → (hold time : ℕ) → Seed
 seedLeft Nothing hold time = Nothing
 seedLeft (From t delay) hold time = pick (leb hold (time - t)) Nothing (From t delay)
 
 -- 3. "A largest lag above offset + maximum is dropped."
-abbrev pub lagWithin : Lag → ℕ → Lag
+abbrev pub lagWithin : Lag → (limit : ℕ) → Lag
 lagWithin None limit = None
 lagWithin (Of lag) limit = pick (leb lag limit) (Of lag) None
 
-abbrev pub lagOf : DelayPolicy → Lag → Lag
+abbrev pub lagOf : (policy : DelayPolicy) (largest : Lag) → Lag
 lagOf policy largest = lagWithin largest (policy .«read_offset» + policy .«delay_max»)
 
 -- 3. "Late: it exceeds offset + current."
-abbrev pub lateAt : Lag → ℕ → Bool
+abbrev pub lateAt : Lag → (limit : ℕ) → Bool
 lateAt None limit = false
 lateAt (Of lag) limit = ltb limit lag
 
-abbrev pub lateOf : DelayPolicy → Lag → ℕ → Bool
+abbrev pub lateOf : (policy : DelayPolicy) (largest : Lag) (current : ℕ) → Bool
 lateOf policy largest current = lateAt (lagOf policy largest) (policy .«read_offset» + current)
 
 abbrev pub changedBefore : Moment → Bool
@@ -56,17 +56,17 @@ changedBefore Never = false
 changedBefore (At t) = true
 
 -- 3. "A late after a not-late, in startup, with an earlier change, adds a startup late (up to 255)."
-abbrev pub latesNext : Bool → Bool → Bool → Moment → ℕ → ℕ
+abbrev pub latesNext : (late before startup : Bool) (last : Moment) (n : ℕ) → ℕ
 latesNext late before startup last n = pick (late && not before && startup && changedBefore last) (min (n + 1) 255) n
 
 -- 3. "With a largest lag, a seed not above its need + 48 sets startup lates to 2."
-abbrev pub latesSeeded : ℕ → DelayPolicy → Lag → Seed → ℕ → ℕ
+abbrev pub latesSeeded : (millisecond : ℕ) (policy : DelayPolicy) → Lag → (seed : Seed) (n : ℕ) → ℕ
 latesSeeded millisecond policy None seed n = n
 latesSeeded millisecond policy (Of lag) Nothing n = n
 latesSeeded millisecond policy (Of lag) (From t delay) n = pick (leb delay (needOf policy lag + millisecond)) 2 n
 
 -- 1 to 3, of the hold: the start, the seed, the startup lates, and whether this call is late
-unfoldable pub noted : ℕ → DelayPolicy → DelayHold → Lag → Bool → Bool → ℕ → DelayHold
+unfoldable pub noted : (millisecond : ℕ) (policy : DelayPolicy) (h : DelayHold) (lag : Lag) (startup late : Bool) (time : ℕ) → DelayHold
 noted millisecond policy h lag startup late time =
     record {
       peaks = h .peaks;

@@ -24,7 +24,7 @@ momentTimely Never = true
 momentTimely (At t) = leb t latest
 
 -- "seeds .. at most maximum", and its time
-abbrev pub seedFits : Seed → ℕ → Bool
+abbrev pub seedFits : Seed → (maximum : ℕ) → Bool
 seedFits Nothing maximum = true
 seedFits (From t delay) maximum = leb delay maximum
 
@@ -33,18 +33,18 @@ seedTimely Nothing = true
 seedTimely (From t delay) = leb t latest
 
 -- "timer needs at most maximum"; a timer that is off is an unused place
-unfoldable pub timerFits : LowerTimer → ℕ → Bool
+unfoldable pub timerFits : (timer : LowerTimer) (maximum : ℕ) → Bool
 timerFits timer maximum =
     pick (timer .on)
     (leb (timer .highest) maximum)
     (both (eqb (timer .since) 0) (eqb (timer .highest) 0))
 
 -- the largest lag that a peak may hold, and p999: "offset + maximum + W"
-abbrev pub peakMost : DelayPolicy → ℕ → ℕ
+abbrev pub peakMost : (policy : DelayPolicy) (width : ℕ) → ℕ
 peakMost policy width = policy .«read_offset» + policy .«delay_max» + width
 
 -- "peaks within number, each at least 1 s after the one before, .. less than window; .. unused places zero; peaks at most offset + maximum + W"
-unfoldable pub wholePeaks : DelayPolicy → ℕ → Held → Bool
+unfoldable pub wholePeaks : (policy : DelayPolicy) (width : ℕ) (s : Held) → Bool
 wholePeaks policy width s =
     both (leb (s .hold .peaks) 600)
     (both (apart nanos (s .hold .peaks - 1) (s .times))
@@ -55,7 +55,7 @@ wholePeaks policy width s =
     (upTo latest (s .hold .peaks) (s .times)))))))
 
 -- "seeds, timer needs at most maximum; .. times within 8"
-unfoldable pub wholeTimes : DelayPolicy → DelayHold → Bool
+unfoldable pub wholeTimes : (policy : DelayPolicy) (h : DelayHold) → Bool
 wholeTimes policy h =
     both (seedFits (h .seeded) (policy .«delay_max»))
     (both (timerFits (h .lower) (policy .«delay_max»))
@@ -64,5 +64,5 @@ wholeTimes policy h =
     (both (momentTimely (h .started))
     (seedTimely (h .seeded))))))
 
-unfoldable pub wholeHold : DelayPolicy → ℕ → Held → Bool
+unfoldable pub wholeHold : (policy : DelayPolicy) (width : ℕ) (s : Held) → Bool
 wholeHold policy width s = both (wholePeaks policy width s) (wholeTimes policy (s .hold))

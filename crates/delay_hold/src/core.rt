@@ -107,19 +107,19 @@ pub fn next(
     times: &mut [u64],
     lags: &mut [u32],
     p999: Lag,
-    largest: Lag,
+    max_lag: Lag,
     current: u32,
     policy: DelayPolicy,
     time: u64,
 ) -> Next
     requires { ⌜ Asked policy (held hold (now times) (now lags)) p999 current ⌝ }
-    ensures { λ r. ⌜ decided r (now (times .exit)) (now (lags .exit)) ≡ nextOf oneMillisecond alwaysLower policy (held hold (now (times .entry)) (now (lags .entry))) p999 largest current time ⌝ }
+    ensures { λ r. ⌜ decided r (now (times .exit)) (now (lags .exit)) ≡ nextOf oneMillisecond alwaysLower policy (held hold (now (times .entry)) (now (lags .entry))) p999 «max_lag» current time ⌝ }
 {
     let begun = hold.started;
     let startup = in_startup(begun.started(time), hold.startup_late, time);
     let hold_now = cap(startup, policy.hold);
     let window = cap(startup, policy.window);
-    let lag = largest.within(policy.read_offset + policy.delay_max);
+    let lag = max_lag.within(policy.read_offset + policy.delay_max);
     let late = lag.late(policy.read_offset + current);
     let n = peaks_next(times, lags, hold.peaks, lag.larger(p999), window, time);
     let peak = worst(lags, n);

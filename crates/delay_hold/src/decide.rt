@@ -14,7 +14,7 @@ use super::LowerTimer;
 use super::Moment;
 use super::Next;
 use super::Seed;
-use super::steps::MILLISECOND;
+use super::steps::DELAY_LOWER_SAMPLES;
 use base::age;
 use base::less;
 use base::most;
@@ -152,7 +152,7 @@ impl DelayHold {
         if raised(current, need, urgent) {
             return self.changed(need, time);
         }
-        if current < need + MILLISECOND {
+        if current < need + DELAY_LOWER_SAMPLES {
             return self.idle();
         }
         self.lowered(need, hold, time)

@@ -206,20 +206,20 @@ impl DelayHold {
     }
 
     // `next` by value: the new delay for an input with delay `current`, or that it stays, with the hold and the lists after it.
-    // `p999` is the arrival lag's 99.9th percentile (none before a second of lags), `largest` the highest lag of the
+    // `p999` is the arrival lag's 99.9th percentile (none before a second of lags), `max_lag` the highest lag of the
     // blocks since the last call, `width` the bucket width. A refusal leaves hold and lists as they were.
     pub fn decide_next(
         self,
         times: &mut [u64],
         lags: &mut [u32],
         p999: Lag,
-        largest: Lag,
+        max_lag: Lag,
         current: u32,
         policy: DelayPolicy,
         width: u32,
         time: u64,
     ) -> Answered
-        ensures { λ r. ⌜ left (r .answer) (r .hold) (now (times .exit)) (now (lags .exit)) ≡ nextReply policy width (held self (now (times .entry)) (now (lags .entry))) p999 largest current time ⌝ }
+        ensures { λ r. ⌜ left (r .answer) (r .hold) (now (times .exit)) (now (lags .exit)) ≡ nextReply policy width (held self (now (times .entry)) (now (lags .entry))) p999 «max_lag» current time ⌝ }
     {
         let number = self.next_number(times, lags, p999, current, policy, width, time);
         if number != 0 {
@@ -228,7 +228,7 @@ impl DelayHold {
                 answer: Answer::Refused(number),
             };
         }
-        let next = core::next(self, times, lags, p999, largest, current, policy, time);
+        let next = core::next(self, times, lags, p999, max_lag, current, policy, time);
         let hold = next.hold;
         let change = next.change;
         let Change::To(delay) = change else {
@@ -249,20 +249,20 @@ impl DelayHold {
         times: &mut [u64],
         lags: &mut [u32],
         p999: Lag,
-        largest: Lag,
+        max_lag: Lag,
         current: u32,
         policy: DelayPolicy,
         width: u32,
         time: u64,
     ) -> Answer
-        ensures { λ r. ⌜ left r (now (self .exit)) (now (times .exit)) (now (lags .exit)) ≡ nextReply policy width (held (now (self .entry)) (now (times .entry)) (now (lags .entry))) p999 largest current time ⌝ }
+        ensures { λ r. ⌜ left r (now (self .exit)) (now (times .exit)) (now (lags .exit)) ≡ nextReply policy width (held (now (self .entry)) (now (times .entry)) (now (lags .entry))) p999 «max_lag» current time ⌝ }
     {
         let n = DelayHold::decide_next(
             *self,
             times,
             lags,
             p999,
-            largest,
+            max_lag,
             current,
             policy,
             width,

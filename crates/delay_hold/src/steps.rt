@@ -13,7 +13,7 @@ use policy::DelayPolicy;
 use policy::core::need;
 
 // One millisecond of samples: the delay goes down only where the need is at least so much lower.
-pub(crate) const MILLISECOND: u32 = 48;
+pub(crate) const DELAY_LOWER_SAMPLES: u32 = 48;
 // How long the startup phase lasts, and the longest hold and window in it.
 const STARTUP: u64 = 60 * base::NANOS;
 
@@ -132,7 +132,7 @@ fn lates_seeded(policy: DelayPolicy, lag: Lag, seed: Seed, n: u8) -> u8
     let Seed::From(_, delay) = seed else {
         return n;
     };
-    if delay <= need(policy, l) + MILLISECOND {
+    if delay <= need(policy, l) + DELAY_LOWER_SAMPLES {
         return 2;
     }
     n

@@ -2,18 +2,18 @@
 -- a bound that is itself a double is kept by rounding. Assumes nothing.
 use mathlib.Core.Path.{_≡_, refl, sym, ap, _∙_, subst}
 use mathlib.Core.Logic.{inl, inr}
-use mathlib.Core.Bool.{Bool, true, false, not, cond, _&&_, _||_, true≢false}
-use Prim.Native.Nat.{ℕ, zero, suc, _+_, _-_, _*_, _/_, _^_, _≤_, _<_, zero-le, min}
-use native.Mathlib.Nat.{eq-or-lt-of-le, le-trans, le-of-eq, le-of-mul-le-mul-right, lt-of-lt-of-le, mul-one, one-mul, zero-mul, mul-comm, mul-assoc, mul-left-comm, mul-right-comm, mul-pos, mul-le-mul-right, mul-le-mul-left, zero-lt-suc}
+use mathlib.Core.Bool.{Bool, true, false, cond, _&&_, _||_, true≢false}
+use Prim.Native.Nat.{ℕ, suc, _+_, _-_, _*_, _/_, _^_, _≤_, _<_, zero-le, min}
+use native.Mathlib.Nat.{eq-or-lt-of-le, le-trans, le-of-eq, le-of-mul-le-mul-right, lt-of-lt-of-le, mul-one, zero-mul, mul-comm, mul-assoc, mul-left-comm, mul-right-comm, mul-pos, mul-le-mul-right, zero-lt-suc}
 use native.Mathlib.Omega.{arith}
 use lib.Dec.{T, leb→le, ltb, lt→ltb, eqb, eqb·suc-zero}
 use lib.Pow.{pow-add, pow-pos, pow-mono, shl-lt}
-use lib.IntN.{ℤ, pos, negsuc}
+use lib.IntN.{pos}
 use lib.Ieee.{Float, nan, inf, fin, binary64, up, down, round, mul, div, le}
-use lib.Ieee.Fits.{up-pos, down-pos, and-i, eq→eqb}
+use lib.Ieee.Fits.{down-pos, and-i, eq→eqb}
 use lib.Ieee.Exact.{HasValue, round-exact}
 use lib.Ieee.Nearest.{div-mono}
-use lib.Ieee.Order.{round-mono, transfer}
+use lib.Ieee.Order.{round-mono}
 use Rattle.doubles.specs.Doubles.{halfAway, toU32}
 use Rattle.doubles.proofs.Halves.{twice-pos}
 use Rattle.doubles.proofs.Products.{le-says, le-negative, minus-zero, no-factor, round-zero, halves-cross}

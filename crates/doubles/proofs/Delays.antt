@@ -1,6 +1,5 @@
 -- A manual delay from 0 to `ms`(n), in samples, is at most n. Assumes nothing.
-use mathlib.Core.Path.{_≡_, refl, sym, ap, _∙_, subst}
-use mathlib.Core.Bool.{Bool, true, false}
+use mathlib.Core.Bool.{false}
 use Prim.Native.Nat.{ℕ, _+_, _-_, _*_, _/_, _^_, _≤_, _<_}
 use native.Mathlib.Nat.{le-trans}
 use native.Mathlib.Omega.{arith}
@@ -8,7 +7,7 @@ use lib.Dec.{T, leb→le}
 use lib.IntN.{pos}
 use lib.Pow.{pow-pos}
 use lib.Ieee.{Float, fin, binary64, mul, div, le}
-use Rattle.doubles.specs.Doubles.{thousand, rate, double, msOf, samplesOf, toU32}
+use Rattle.doubles.specs.Doubles.{thousand, rate, double, msOf, samplesOf}
 use Rattle.doubles.proofs.Products.{double-value}
 use Rattle.doubles.proofs.Bounds.{Upto, upto-of-value, upto-trans, mul-upto, div-upto, toU32-upto}
 

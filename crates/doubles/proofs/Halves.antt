@@ -1,14 +1,13 @@
 -- Rounding with halves away from zero, by the definition's fraction: as half of one more than twice the value cut to a whole number, and against 2 ^ 32 - 1. Assumes nothing.
 use mathlib.Core.Path.{_≡_, refl, sym, ap, _∙_, subst}
-use mathlib.Core.Bool.{Bool, true, false, not}
-use Prim.Native.Nat.{ℕ, zero, suc, _+_, _-_, _*_, _/_, _^_, _≤_, _<_, min}
-use native.Mathlib.Nat.{le-trans, le-of-eq, le-of-lt, lt-of-lt-of-le, lt-of-le-of-lt, mul-one, one-mul, zero-mul, mul-comm, mul-right-comm, mul-pos, mul-le-mul-right, add-div-right, div-div-eq-div-mul, div-lt-iff-lt-mul, le-div-iff-mul-le, div-eq-of-lt}
+use mathlib.Core.Bool.{true, false, not}
+use Prim.Native.Nat.{ℕ, _+_, _-_, _*_, _/_, _^_, _≤_, _<_, min}
+use native.Mathlib.Nat.{le-trans, le-of-eq, lt-of-lt-of-le, mul-one, zero-mul, mul-comm, mul-right-comm, add-div-right, div-div-eq-div-mul, div-lt-iff-lt-mul, le-div-iff-mul-le, div-eq-of-lt}
 use native.Mathlib.Omega.{arith}
-use lib.Dec.{T, ltb, leb, ltb→lt, nltb→le}
-use lib.IntN.{ℤ, pos, negsuc}
-use lib.Ieee.{Float, nan, inf, fin, Format, binary64, up, down, mul, lt, fits, toUnsigned}
-use lib.Ieee.Fits.{up-pos, down-pos}
-use lib.Ieee.Exact.{HasValue}
+use lib.Dec.{T, ltb, nltb→le}
+use lib.IntN.{ℤ, pos}
+use lib.Ieee.{Float, nan, inf, fin, binary64, up, down, mul, lt, fits, toUnsigned}
+use lib.Ieee.Fits.{down-pos}
 use lib.Ieee.Positive.{num, den, den-pos}
 use Rattle.doubles.specs.Doubles.{halfAway, toU32}
 use Rattle.doubles.proofs.Values.{doubled, trunc-of-value, lt-of-value, above-minus-one, below-says}

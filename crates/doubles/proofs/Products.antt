@@ -1,22 +1,20 @@
 -- A whole number times a double that is not negative, rounded once: as a fraction, its bounds, and its order. Assumes nothing.
 use mathlib.Core.Path.{_≡_, refl, sym, ap, _∙_, subst}
 use mathlib.Core.Logic.{_⊎_, inl, inr}
-use mathlib.Core.Bool.{Bool, true, false, not, _&&_, _||_, true≢false}
-use Prim.Native.Nat.{ℕ, zero, suc, _+_, _-_, _*_, _/_, _^_, _≤_, _<_, zero-le}
-use native.Mathlib.Nat.{le-refl, le-trans, le-of-eq, le-of-lt, lt-of-lt-of-le, lt-of-le-of-lt, lt-irrefl, eq-zero-or-pos, mul-one, one-mul, zero-mul, mul-comm, mul-assoc, mul-left-comm, mul-right-comm, mul-pos, mul-le-mul-right, mul-le-mul, add-mul, div-eq-of-lt}
+use mathlib.Core.Bool.{Bool, true, false, _&&_, _||_, true≢false}
+use Prim.Native.Nat.{ℕ, _+_, _-_, _*_, _/_, _^_, _≤_, _<_, zero-le}
+use native.Mathlib.Nat.{le-trans, le-of-eq, le-of-lt, lt-irrefl, eq-zero-or-pos, mul-one, zero-mul, mul-comm, mul-assoc, mul-left-comm, mul-pos, mul-le-mul-right, mul-le-mul, add-mul, div-eq-of-lt}
 use native.Mathlib.Omega.{arith}
-use lib.Dec.{T, ltb, leb, eqb, ltb→lt, lt→ltb, leb→le, le→leb, eqb→eq}
-use lib.Pow.{pow-pos}
-use lib.IntN.{ℤ, pos, negsuc}
-use lib.Ieee.{Float, nan, inf, fin, Format, binary64, up, down, round, mul, lt, le, ofInt}
-use lib.Ieee.Fits.{up-pos, down-pos, and-l, and-r}
+use lib.Dec.{T, ltb, leb, eqb, ltb→lt, lt→ltb, leb→le, eqb→eq}
+use lib.IntN.{ℤ, pos}
+use lib.Ieee.{Float, nan, inf, fin, binary64, up, down, round, mul, lt, le, ofInt}
+use lib.Ieee.Fits.{down-pos, and-l, and-r}
 use lib.Ieee.Exact.{HasValue, round-exact}
 use lib.Ieee.Back.{round-whole}
 use lib.Ieee.Nearest.{div-mono}
 use lib.Ieee.Order.{round-mono}
-use lib.Ieee.Scale.{round-same, finite}
-use lib.Ieee.Positive.{num, den, den-pos}
-use Rattle.doubles.specs.Doubles.{double, halfAway, ceilOf}
+use lib.Ieee.Scale.{round-same}
+use Rattle.doubles.specs.Doubles.{double, halfAway}
 use Rattle.doubles.proofs.Halves.{twice-pos}
 
 -- ---- what `<=` says

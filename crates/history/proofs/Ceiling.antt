@@ -12,8 +12,8 @@ use Rattle.base.proofs.Choices.{by-le}
 use Rattle.policy.specs.declared.DelayPolicy.{DelayPolicy}
 use Rattle.policy.specs.Need.{needOf}
 use Rattle.policy.proofs.Laws.{need-covers}
-use Rattle.lag_window.specs.Window.{Window, bucketsOf, bucketOf, pushedAll}
-use Rattle.lag_window.specs.Checks.{roomFor}
+use Rattle.rules_window.specs.Window.{Window, bucketsOf, bucketOf, pushedAll}
+use Rattle.rules_window.specs.Checks.{roomFor}
 use Rattle.history.specs.View.{Rules, InputView, Tick, tickedView}
 use Rattle.history.specs.Events.{ticks, after, history, Lawful}
 use Rattle.history.specs.Stretch.{Allowed, runningTicks, NonEmpty, NoneAbove, Stretch, ending, bucketEnd}
@@ -24,9 +24,9 @@ use Rattle.history.proofs.Steady.{Steady, next-steady}
 use Rattle.history.proofs.Kept.{kept-ready, kept-peaks, kept-delay, kept-pushed, kept-ticked, kept-after}
 use Rattle.history.proofs.Sanity.{Sane, sane-later}
 
-module _ (policy : DelayPolicy) (width : ℕ) (allowed : Allowed policy width) (millisecond : ℕ) (mayLower : Bool) where
+module _ (policy : DelayPolicy) (width : ℕ) (allowed : Allowed policy width) (millisecond : ℕ) where
   abbrev rules : Rules
-  rules = record { policy = policy; millisecond = millisecond; mayLower = mayLower }
+  rules = record { policy = policy; millisecond = millisecond }
 
   abbrev buckets : ℕ
   buckets = bucketsOf (policy .«read_offset») (policy .«delay_max») width
@@ -36,29 +36,29 @@ module _ (policy : DelayPolicy) (width : ℕ) (allowed : Allowed policy width) (
 
   -- ---- L is at most offset + maximum
   module _
-      (one : 1 ≤ millisecond) (may : mayLower ≡ true)
+      (one : 1 ≤ millisecond)
       (L : ℕ) (fits : L ≤ policy .«read_offset» + policy .«delay_max») (began : ℕ)
     where
       -- what holds after each tick of the stretch
       record Within (t : ℕ) (view : InputView) : Type 0 where
         kept : Kept policy width view
         windowed : Windowed began L width buckets t (view .window)
-        steady : Steady millisecond one mayLower may policy width allowed L fits began t (view .held) (view .delay)
+        steady : Steady millisecond policy width allowed L fits began t (view .held) (view .delay)
 
-      module _ (time : ℕ) (lags : List ℕ) (soon : time ≤ timeLimit) (few : NoneAbove L lags) (view : InputView) (k : Kept policy width view) (room : roomFor time (length lags) (view .window) ≡ true) where
+      module _ (mayLower : Bool) (may : mayLower ≡ true) (time : ℕ) (lags : List ℕ) (soon : time ≤ timeLimit) (few : NoneAbove L lags) (view : InputView) (k : Kept policy width view) (room : roomFor time (length lags) (view .window) ≡ true) where
         abbrev after-pushes : Window
         after-pushes = pushedAll time lags (view .window)
 
         -- a tick, from what holds before it and of the window after its lags
         tick-within :
             (t : ℕ) → t ≤ time → time ≤ t + 5 * nanos → Windowed began L width buckets time after-pushes →
-            Steady millisecond one mayLower may policy width allowed L fits began t (view .held) (view .delay) →
-            Within time (tickedView rules view (record { time = time; lags = lags }))
+            Steady millisecond policy width allowed L fits began t (view .held) (view .delay) →
+            Within time (tickedView rules view (record { time = time; lags = lags; mayLower = mayLower }))
         unfolding tickedView
         tick-within t a b w st =
             let r = kept-pushed policy width allowed time soon lags view k room in
             let n =
-            next-steady millisecond one mayLower may policy width allowed L fits began t time a b lags few after-pushes (r .sound) (r .widths) w
+            next-steady millisecond policy width allowed L fits began one mayLower may t time a b lags few after-pushes (r .sound) (r .widths) w
             (view .held) (kept-peaks policy width allowed view k) (k .times-long) (k .lags-long) (view .delay) st
             in
             record {
@@ -77,12 +77,12 @@ module _ (policy : DelayPolicy) (width : ℕ) (allowed : Allowed policy width) (
         ready = kept-ready policy width allowed view k time (length lags) room
 
       first-within :
-          (view : InputView) (lags : List ℕ) → began ≤ timeLimit → roomFor began (length lags) (view .window) ≡ true →
+          (view : InputView) (lags : List ℕ) (mayLower : Bool) → mayLower ≡ true → began ≤ timeLimit → roomFor began (length lags) (view .window) ≡ true →
           Kept policy width view → Sane began view → NonEmpty lags → NoneAbove L lags →
-          Within began (tickedView rules view (record { time = began; lags = lags }))
-      first-within view lags soon room k s e few =
-          tick-within began lags soon few view k room began (omega arith) (omega arith)
-          (first-windowed began L width buckets (allowed .width-least) used soon lags (view .window) (ready began lags soon few view k room) e few (s .starts))
+          Within began (tickedView rules view (record { time = began; lags = lags; mayLower = mayLower }))
+      first-within view lags mayLower may soon room k s e few =
+          tick-within mayLower may began lags soon few view k room began (omega arith) (omega arith)
+          (first-windowed began L width buckets (allowed .width-least) used soon lags (view .window) (ready mayLower may began lags soon few view k room) e few (s .starts))
           (record {
             till = s .hold;
             low = λ i l g. absurd (omega (arith, s .hold .peaks i l));
@@ -91,12 +91,12 @@ module _ (policy : DelayPolicy) (width : ℕ) (allowed : Allowed policy width) (
           })
 
       next-within :
-          (t : ℕ) (view : InputView) (tick : Tick) → t ≤ tick .time → tick .time ≤ t + 5 * nanos → tick .time ≤ timeLimit →
+          (t : ℕ) (view : InputView) (tick : Tick) → tick .mayLower ≡ true → t ≤ tick .time → tick .time ≤ t + 5 * nanos → tick .time ≤ timeLimit →
           roomFor (tick .time) (length (tick .lags)) (view .window) ≡ true → NonEmpty (tick .lags) → NoneAbove L (tick .lags) →
           Within t view → Within (tick .time) (tickedView rules view tick)
-      next-within t view tick a b soon room e few h =
-          tick-within (tick .time) (tick .lags) soon few view (h .kept) room t a b
-          (step-windowed began L width buckets (allowed .width-least) used (tick .time) soon t (tick .lags) (view .window) a b (ready (tick .time) (tick .lags) soon few view (h .kept) room) e few (h .windowed))
+      next-within t view tick may a b soon room e few h =
+          tick-within (tick .mayLower) may (tick .time) (tick .lags) soon few view (h .kept) room t a b
+          (step-windowed began L width buckets (allowed .width-least) used (tick .time) soon t (tick .lags) (view .window) a b (ready (tick .mayLower) may (tick .time) (tick .lags) soon few view (h .kept) room) e few (h .windowed))
           (h .steady)
 
       run-within :
@@ -106,17 +106,17 @@ module _ (policy : DelayPolicy) (width : ℕ) (allowed : Allowed policy width) (
       run-within t view [] k s l = k
       run-within t view (tick ∷ later) k s l =
           run-within (tick .time) (tickedView rules view tick) later
-          (next-within t view tick (l .0) (omega (arith, s .0)) (l .1) (l .3) (s .1) (s .2) k)
-          (s .3) (l .4)
+          (next-within t view tick (s .1) (l .0) (omega (arith, s .0)) (l .1) (l .3) (s .2) (s .3) k)
+          (s .4) (l .4)
 
       ceiling-low :
-          (before : ℕ) (view : InputView) (lags : List ℕ) (later : List Tick) → Kept policy width view → Sane began view →
-          NonEmpty lags → NoneAbove L lags → Stretch L began later → Lawful rules before view (runningTicks (record { time = began; lags = lags } ∷ later)) →
+          (before : ℕ) (view : InputView) (lags : List ℕ) (mayLower : Bool) (later : List Tick) → Kept policy width view → Sane began view →
+          mayLower ≡ true → NonEmpty lags → NoneAbove L lags → Stretch L began later → Lawful rules before view (runningTicks (record { time = began; lags = lags; mayLower = mayLower } ∷ later)) →
           began + max (10 * nanos + policy .window) (policy .hold) + 2 * policy .hold + 10 * nanos ≤ ending began later →
-          history rules view (runningTicks (record { time = began; lags = lags } ∷ later)) .delay ≤ needOf policy (bucketEnd policy width L) + (millisecond - 1)
+          history rules view (runningTicks (record { time = began; lags = lags; mayLower = mayLower } ∷ later)) .delay ≤ needOf policy (bucketEnd policy width L) + (millisecond - 1)
       unfolding history after
-      ceiling-low before view lags later k s e few r l long =
-          let d = run-within began (tickedView rules view (record { time = began; lags = lags })) later (first-within view lags (l .1) (l .3) k s e few) r (l .4) in
+      ceiling-low before view lags mayLower later k s may e few r l long =
+          let d = run-within began (tickedView rules view (record { time = began; lags = lags; mayLower = mayLower })) later (first-within view lags mayLower may (l .1) (l .3) k s e few) r (l .4) in
           at-last millisecond _ (policy .hold) (needOf policy (bucketEnd policy width L)) (ending began later) _ _ _ long (d .steady .phase)
 
   -- ---- L is above offset + maximum: the need at the end of its bucket is the maximum
@@ -127,7 +127,7 @@ module _ (policy : DelayPolicy) (width : ℕ) (allowed : Allowed policy width) (
   run-kept t view [] k l = k
   run-kept t view (tick ∷ later) k l =
       run-kept (tick .time) (after rules view (ticks tick)) later
-      (kept-after policy width allowed millisecond mayLower view (ticks tick) (l .1) (l .2) (l .3) k) (l .4)
+      (kept-after policy width allowed millisecond view (ticks tick) (l .1) (l .2) (l .3) k) (l .4)
 
   end-high : (L : ℕ) → policy .«read_offset» + policy .«delay_max» < L → policy .«read_offset» + policy .«delay_max» ≤ bucketEnd policy width L
   unfolding bucketEnd bucketsOf
@@ -141,14 +141,14 @@ module _ (policy : DelayPolicy) (width : ℕ) (allowed : Allowed policy width) (
 
   -- ---- the theorem, for a tick and the ticks after it
   pub ceiling :
-      1 ≤ millisecond → mayLower ≡ true →
+      1 ≤ millisecond →
       (before L : ℕ) (view : InputView) (first : Tick) (later : List Tick) → Kept policy width view → Sane before view →
-      Lawful rules before view (runningTicks (first ∷ later)) → NonEmpty (first .lags) → NoneAbove L (first .lags) → Stretch L (first .time) later →
+      Lawful rules before view (runningTicks (first ∷ later)) → first .mayLower ≡ true → NonEmpty (first .lags) → NoneAbove L (first .lags) → Stretch L (first .time) later →
       first .time + (30 * nanos + policy .window + 3 * policy .hold) ≤ ending (first .time) later →
       history rules view (runningTicks (first ∷ later)) .delay ≤ needOf policy (bucketEnd policy width L) + (millisecond - 1)
-  ceiling one may before L view first later k s l e few r long =
+  ceiling one before L view first later k s l may e few r long =
       by-le L (policy .«read_offset» + policy .«delay_max»)
-      (λ fits. ceiling-low one may L fits (first .time) before view (first .lags) later k (sane-later view (l .0) s) e few r l (omega arith))
+      (λ fits. ceiling-low one L fits (first .time) before view (first .lags) (first .mayLower) later k (sane-later view (l .0) s) may e few r l (omega arith))
       (λ high.
       let d : history rules view (runningTicks (first ∷ later)) .delay ≤ policy .«delay_max» = kept-delay policy width allowed _ (run-kept before view (first ∷ later) k l) in
       omega (arith, need-covers policy (bucketEnd policy width L), end-high L high))

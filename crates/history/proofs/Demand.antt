@@ -2,7 +2,7 @@
 -- Assumes nothing.
 use Prim.Native.Nat.{ℕ, _+_, _-_, _*_, _≤_}
 use mathlib.Core.Path.{_≡_, refl, sym, subst, _∙_}
-use mathlib.Core.Bool.{Bool, true}
+use mathlib.Core.Bool.{true}
 use mathlib.Core.List.{List, [], _∷_, _++_}
 use native.Mathlib.Omega.{arith}
 use Rattle.base.specs.Limits.{nanos}
@@ -11,11 +11,11 @@ use Rattle.policy.specs.Need.{needOf}
 use Rattle.delay_hold.specs.declared.Lag.{Lag}
 use Rattle.delay_hold.specs.declared.Lag.the-variants.{Of}
 use Rattle.delay_hold.specs.Peaks.{worstOf}
-use Rattle.delay_hold.specs.Next.{nextOf, delayAfter, oneMillisecond, alwaysLower}
+use Rattle.delay_hold.specs.Next.{nextOf, delayAfter, oneMillisecond}
 use Rattle.delay_hold.proofs.Wholes.{in-use}
 use Rattle.delay_hold.proofs.Covers.{next-covers}
-use Rattle.lag_window.specs.Window.{pushedAll}
-use Rattle.auto_delay.specs.Auto.{p999Of}
+use Rattle.rules_window.specs.Window.{pushedAll}
+use Rattle.rules_tick.specs.AutoDelay.{p999Of}
 use Rattle.history.specs.View.{Rules, InputView, Tick, tickedView}
 use Rattle.history.specs.Events.{Event, ticks, freshView, after, history, timeOf, Lawful, clock}
 use Rattle.history.specs.Stretch.{Allowed, runningTicks, NonEmpty, NoneAbove, Stretch, ending, bucketEnd}
@@ -43,15 +43,15 @@ lawful-append rules before view (event ∷ events) more l =
 
 -- ---- the invariants after every list
 
-module _ (policy : DelayPolicy) (width : ℕ) (allowed : Allowed policy width) (millisecond : ℕ) (mayLower : Bool) where
+module _ (policy : DelayPolicy) (width : ℕ) (allowed : Allowed policy width) (millisecond : ℕ) where
   abbrev rules : Rules
-  rules = record { policy = policy; millisecond = millisecond; mayLower = mayLower }
+  rules = record { policy = policy; millisecond = millisecond }
 
   pub kept-history : (before : ℕ) (view : InputView) (events : List Event) → Lawful rules before view events → Kept policy width view → Kept policy width (history rules view events)
   unfolding history
   kept-history before view [] l k = k
   kept-history before view (event ∷ events) l k =
-      kept-history (timeOf event) (after rules view event) events (l .4) (kept-after policy width allowed millisecond mayLower view event (l .1) (l .2) (l .3) k)
+      kept-history (timeOf event) (after rules view event) events (l .4) (kept-after policy width allowed millisecond view event (l .1) (l .2) (l .3) k)
 
   pub sane-history :
       (before : ℕ) (view : InputView) (events : List Event) → Lawful rules before view events → Kept policy width view → Sane before view →
@@ -60,8 +60,8 @@ module _ (policy : DelayPolicy) (width : ℕ) (allowed : Allowed policy width) (
   sane-history before view [] l k s = s
   sane-history before view (event ∷ events) l k s =
       sane-history (timeOf event) (after rules view event) events (l .4)
-      (kept-after policy width allowed millisecond mayLower view event (l .1) (l .2) (l .3) k)
-      (sane-after policy width allowed millisecond mayLower before view event (l .0) (l .1) (l .3) k s)
+      (kept-after policy width allowed millisecond view event (l .1) (l .2) (l .3) k)
+      (sane-after policy width allowed millisecond before view event (l .0) (l .1) (l .3) k s)
 
   -- ---- one tick after them, and a stretch after them
   floor-tick :
@@ -73,8 +73,8 @@ module _ (policy : DelayPolicy) (width : ℕ) (allowed : Allowed policy width) (
       let u = in-use (kept-peaks policy width allowed view k) (k .times-long) (k .lags-long) in
       omega (
         arith,
-        subst (λ (x : Lag). l ≤ policy .«read_offset» + delayAfter (view .delay) (nextOf millisecond mayLower policy (view .held) p999 x (view .delay) (tick .time) .change))
-            (sym e) (next-covers policy (view .held) (u .1 ∙ sym (u .0)) (allowed .window-least) p999 l fits (tick .time) millisecond mayLower (view .delay)),
+        subst (λ (x : Lag). l ≤ policy .«read_offset» + delayAfter (view .delay) (nextOf millisecond (tick .mayLower) policy (view .held) p999 x (view .delay) (tick .time) .change))
+            (sym e) (next-covers policy (view .held) (u .1 ∙ sym (u .0)) (allowed .window-least) p999 l fits (tick .time) millisecond (tick .mayLower) (view .delay)),
       )
 
   pub floor-history :
@@ -89,30 +89,30 @@ module _ (policy : DelayPolicy) (width : ℕ) (allowed : Allowed policy width) (
       (kept-history 0 (freshView policy width) events (a .0) (kept-fresh policy width allowed)) e fits)
 
   pub ceiling-history :
-      1 ≤ millisecond → mayLower ≡ true →
+      1 ≤ millisecond →
       (events : List Event) (first : Tick) (later : List Tick) (L : ℕ) → Lawful rules 0 (freshView policy width) (events ++ runningTicks (first ∷ later)) →
-      NonEmpty (first .lags) → NoneAbove L (first .lags) → Stretch L (first .time) later →
+      first .mayLower ≡ true → NonEmpty (first .lags) → NoneAbove L (first .lags) → Stretch L (first .time) later →
       first .time + (30 * nanos + policy .window + 3 * policy .hold) ≤ ending (first .time) later →
       history rules (freshView policy width) (events ++ runningTicks (first ∷ later)) .delay ≤ needOf policy (bucketEnd policy width L) + (millisecond - 1)
-  ceiling-history one may events first later L law e few r long =
+  ceiling-history one events first later L law may e few r long =
       let a = lawful-append rules 0 (freshView policy width) events (runningTicks (first ∷ later)) law in
       let k = kept-fresh policy width allowed in
       rw (history-append rules (freshView policy width) events (runningTicks (first ∷ later)))
-      (ceiling policy width allowed millisecond mayLower one may (clock 0 events) L (history rules (freshView policy width) events) first later
+      (ceiling policy width allowed millisecond one (clock 0 events) L (history rules (freshView policy width) events) first later
       (kept-history 0 (freshView policy width) events (a .0) k)
       (sane-history 0 (freshView policy width) events (a .0) k (sane-fresh policy width 0))
-      (a .1) e few r long)
+      (a .1) may e few r long)
 
 -- ---- the third demand of one input, with document 01's 48 samples
 
 pub whole-after : (policy : DelayPolicy) (width : ℕ) → Allowed policy width → StaysWhole policy width
 whole-after policy width allowed events law =
-    kept-history policy width allowed oneMillisecond alwaysLower 0 (freshView policy width) events law (kept-fresh policy width allowed) .whole
+    kept-history policy width allowed oneMillisecond 0 (freshView policy width) events law (kept-fresh policy width allowed) .whole
 
 pub floor-after : (policy : DelayPolicy) (width : ℕ) → Allowed policy width → Floor policy width
 floor-after policy width allowed events tick lag law e fits =
-    omega (arith, floor-history policy width allowed oneMillisecond alwaysLower events tick lag law e (omega arith))
+    omega (arith, floor-history policy width allowed oneMillisecond events tick lag law e (omega arith))
 
 pub ceiling-after : (policy : DelayPolicy) (width : ℕ) → Allowed policy width → Ceiling policy width
-ceiling-after policy width allowed events first later L law e few r long =
-    omega (arith, ceiling-history policy width allowed oneMillisecond alwaysLower (omega arith) refl events first later L law e few r (omega arith))
+ceiling-after policy width allowed events first later L law may e few r long =
+    omega (arith, ceiling-history policy width allowed oneMillisecond (omega arith) events first later L law may e few r (omega arith))

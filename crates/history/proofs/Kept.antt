@@ -12,11 +12,11 @@ use Rattle.base.proofs.Choices.{le-rule}
 use Rattle.base.proofs.Points.{both-true, true-both, zeros-at}
 use Rattle.policy.specs.declared.DelayPolicy.{DelayPolicy}
 use Rattle.base.specs.Rows.{spanOf}
-use Rattle.lag_window.specs.Window.{Window, fresh, bucketsOf, pushedAll}
-use Rattle.lag_window.specs.Whole as windows
-use Rattle.lag_window.specs.Quantile.{quantileUpto}
-use Rattle.lag_window.specs.Checks.{roomFor, newest}
-use Rattle.lag_window.proofs.WholeAt as window-facts
+use Rattle.rules_window.specs.Window.{Window, fresh, bucketsOf, pushedAll}
+use Rattle.rules_window.specs.Whole as windows
+use Rattle.rules_window.specs.Quantile.{quantileUpto}
+use Rattle.rules_window.specs.Checks.{roomFor, newest}
+use Rattle.rules_window.proofs.WholeAt as window-facts
 use Rattle.delay_hold.specs.Checks.{lagUpTo, AskedFor}
 use Rattle.delay_hold.specs.Peaks.{worstOf}
 use Rattle.delay_hold.specs.Next.{Held, held, clearedHold}
@@ -24,7 +24,7 @@ use Rattle.delay_hold.specs.Whole.{peakMost, wholeHold}
 use Rattle.delay_hold.proofs.Wholes as hold-facts
 use Rattle.delay_hold.proofs.Marks as marks
 use Rattle.delay_hold.proofs.Keeps.{next-keeps-whole, next-keeps-lengths, next-delay-fits}
-use Rattle.auto_delay.specs.Auto.{permille999, quantileLag, p999Of}
+use Rattle.rules_tick.specs.AutoDelay.{permille999, quantileLag, p999Of}
 use Rattle.history.specs.View.{InputView, tickedView}
 use Rattle.history.specs.Events.{Event, ticks, rests, seeds, clears, sets, freshView, interrupted, after, timeOf, Fits, Room}
 use Rattle.history.specs.Stretch.{Allowed}
@@ -135,12 +135,12 @@ module _ (policy : DelayPolicy) (width : ℕ) (allowed : Allowed policy width) w
           p999-in = p999-up (pushedAll time lags (view .window)) (kept-pushed .widths);
         }
 
-    pub kept-ticked : (millisecond : ℕ) (mayLower : Bool) → Kept policy width (tickedView (record { policy = policy; millisecond = millisecond; mayLower = mayLower }) view (record { time = time; lags = lags }))
+    pub kept-ticked : (millisecond : ℕ) (mayLower : Bool) → Kept policy width (tickedView (record { policy = policy; millisecond = millisecond }) view (record { time = time; lags = lags; mayLower = mayLower }))
     unfolding tickedView
     kept-ticked millisecond mayLower =
         let p999 = p999Of policy (pushedAll time lags (view .window)) in
         let long = next-keeps-lengths millisecond mayLower width policy (view .held) p999 (worstOf lags) (view .delay) time kept-asked soon in
-        kept-of (tickedView (record { policy = policy; millisecond = millisecond; mayLower = mayLower }) view (record { time = time; lags = lags }))
+        kept-of (tickedView (record { policy = policy; millisecond = millisecond }) view (record { time = time; lags = lags; mayLower = mayLower }))
         (kept-pushed .sound) (kept-pushed .widths) (kept-pushed .bucketed)
         (next-keeps-whole millisecond mayLower width policy (view .held) p999 (worstOf lags) (view .delay) time kept-asked soon)
         (long .0) (long .1)
@@ -162,20 +162,20 @@ module _ (policy : DelayPolicy) (width : ℕ) (allowed : Allowed policy width) w
   -- ---- every event
 
   pub kept-after :
-      (millisecond : ℕ) (mayLower : Bool) (view : InputView) (event : Event) → timeOf event ≤ timeLimit → Fits (policy .«delay_max») event → Room view event →
-      Kept policy width view → Kept policy width (after (record { policy = policy; millisecond = millisecond; mayLower = mayLower }) view event)
+      (millisecond : ℕ) (view : InputView) (event : Event) → timeOf event ≤ timeLimit → Fits (policy .«delay_max») event → Room view event →
+      Kept policy width view → Kept policy width (after (record { policy = policy; millisecond = millisecond }) view event)
   unfolding after fresh
-  kept-after millisecond mayLower view (ticks tick) soon fits room k = kept-ticked (tick .time) soon (tick .lags) view k room millisecond mayLower
-  kept-after millisecond mayLower view (rests stalled tick) soon fits room k =
+  kept-after millisecond view (ticks tick) soon fits room k = kept-ticked (tick .time) soon (tick .lags) view k room millisecond (tick .mayLower)
+  kept-after millisecond view (rests stalled tick) soon fits room k =
       let r = kept-pushed (tick .time) soon (tick .lags) view k room in
       kept-of _ (r .sound) (r .widths) (r .bucketed) (interrupted-whole stalled (view .held) (parts view k .1)) (k .times-long) (k .lags-long) (parts view k .2)
-  kept-after millisecond mayLower view (seeds time delay) soon fits room k =
+  kept-after millisecond view (seeds time delay) soon fits room k =
       kept-of _ (kept-sound view k) (k .widths) (k .bucketed) (marks.seeded-whole policy width (view .held) (parts view k .1) delay time fits soon) (k .times-long) (k .lags-long) fits
-  kept-after millisecond mayLower view (clears time zeroed) soon fits room k =
+  kept-after millisecond view (clears time zeroed) soon fits room k =
       kept-of _
       (fresh-sound (view .window .buckets) (view .window .width) (k .shaped .width-low) (k .shaped .width-high) (k .shaped .buckets-low) (k .shaped .buckets-high))
       (k .widths) (k .bucketed) (cleared-whole (view .held) (k .times-long) (k .lags-long))
       (length-replicate (length (view .held .times)) 0 ∙ k .times-long) (length-replicate (length (view .held .lags)) 0 ∙ k .lags-long)
       (zeroed-fits zeroed (view .delay) (parts view k .2))
-  kept-after millisecond mayLower view (sets time delay) soon fits room k =
+  kept-after millisecond view (sets time delay) soon fits room k =
       kept-of _ (kept-sound view k) (k .widths) (k .bucketed) (parts view k .1) (k .times-long) (k .lags-long) fits

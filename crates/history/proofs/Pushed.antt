@@ -15,12 +15,12 @@ use Rattle.base.proofs.Choices.{by-le}
 use Rattle.base.proofs.Points.{shifted-at}
 use Rattle.base.proofs.Toward.{shifted-length}
 use Rattle.base.proofs.Flat.{row-le, flat-in}
-use Rattle.lag_window.specs.Window.{Window, stale, opens, bucketOf, counted, pushed}
-use Rattle.lag_window.specs.InPlace.{droppedInPlace, openedInPlace, pushedInPlace}
-use Rattle.lag_window.proofs.Stales.{stale-le, stale-old, stale-next}
-use Rattle.lag_window.proofs.WholeAt.{Whole, later}
-use Rattle.lag_window.proofs.Keeps.{dropped-whole, opens-dropped, opens-old, near, open-fits, bucket-lt}
-use Rattle.lag_window.proofs.InUse.{in-place}
+use Rattle.rules_window.specs.Window.{Window, stale, opens, bucketOf, counted, pushed}
+use Rattle.rules_window.specs.InPlace.{droppedInPlace, openedInPlace, pushedInPlace}
+use Rattle.rules_window.proofs.Stales.{stale-le, stale-old, stale-next}
+use Rattle.rules_window.proofs.WholeAt.{Whole, later}
+use Rattle.rules_window.proofs.Keeps.{dropped-whole, opens-dropped, opens-old, near, open-fits, bucket-lt}
+use Rattle.rules_window.proofs.InUse.{in-place}
 
 -- the start of second r, and its count of bucket b
 abbrev pub startAt : Window → ℕ → ℕ

@@ -11,13 +11,13 @@ use lib.Ieee.{Float}
 use lib.ListN.{getD}
 use Rattle.base.proofs.Choices.{by-le}
 use Rattle.base.proofs.Points.{sum-zero, sum-at-le}
-use Rattle.lag_window.specs.declared.Quantile.{Quantile}
-use Rattle.lag_window.specs.Window.{Window}
-use Rattle.lag_window.specs.Quantile.{column, lagsIn, quantileUpto, Placeable}
-use Rattle.lag_window.proofs.Laws.{Holds, quantile-bucket, quantile-at-most, quantile-exists, quantile-cases}
+use Rattle.rules_window.specs.declared.Quantile.{Quantile}
+use Rattle.rules_window.specs.Window.{Window}
+use Rattle.rules_window.specs.Quantile.{column, lagsIn, quantileUpto, Placeable}
+use Rattle.rules_window.proofs.Laws.{Holds, quantile-bucket, quantile-at-most, quantile-exists, quantile-cases}
 use Rattle.delay_hold.specs.Checks.{lagUpTo}
 use Rattle.delay_hold.proofs.Outcomes.{AtMost}
-use Rattle.auto_delay.specs.Auto.{quantileLag}
+use Rattle.rules_tick.specs.AutoDelay.{quantileLag}
 use Rattle.history.proofs.Pushed.{countAt}
 
 -- no second has a count above bucket c

@@ -7,12 +7,12 @@ use native.Mathlib.Omega.{arith}
 use lib.ListN.{length, replicate}
 use Rattle.base.specs.Limits.{timeLimit}
 use Rattle.policy.specs.declared.DelayPolicy.{DelayPolicy}
-use Rattle.lag_window.specs.Window.{fresh, bucketsOf, pushedAll}
-use Rattle.lag_window.specs.Checks.{roomFor}
+use Rattle.rules_window.specs.Window.{fresh, bucketsOf, pushedAll}
+use Rattle.rules_window.specs.Checks.{roomFor}
 use Rattle.delay_hold.specs.Peaks.{worstOf}
 use Rattle.delay_hold.proofs.Later.{HoldTill, hold-later, next-till}
 use Rattle.delay_hold.proofs.Marks.{fresh-till, seeded-till, interrupted-till}
-use Rattle.auto_delay.specs.Auto.{p999Of}
+use Rattle.rules_tick.specs.AutoDelay.{p999Of}
 use Rattle.history.specs.View.{Rules, InputView, tickedView}
 use Rattle.history.specs.Events.{Event, ticks, rests, seeds, clears, sets, freshView, after, timeOf, Room}
 use Rattle.history.specs.Stretch.{Allowed}
@@ -37,12 +37,12 @@ sane-fresh policy width t =
       hold = fresh-till t (replicate 600 0) (replicate 600 0);
     }
 
-module _ (policy : DelayPolicy) (width : ℕ) (allowed : Allowed policy width) (millisecond : ℕ) (mayLower : Bool) where
+module _ (policy : DelayPolicy) (width : ℕ) (allowed : Allowed policy width) (millisecond : ℕ) where
   abbrev rules : Rules
-  rules = record { policy = policy; millisecond = millisecond; mayLower = mayLower }
+  rules = record { policy = policy; millisecond = millisecond }
 
   module _
-      (time : ℕ) (soon : time ≤ timeLimit) (lags : List ℕ)
+      (time : ℕ) (soon : time ≤ timeLimit) (lags : List ℕ) (mayLower : Bool)
       (view : InputView) (k : Kept policy width view) (room : roomFor time (length lags) (view .window) ≡ true) (s : Sane time view)
     where
       starts-pushed : StartsTill time (pushedAll time lags (view .window))
@@ -50,7 +50,7 @@ module _ (policy : DelayPolicy) (width : ℕ) (allowed : Allowed policy width) (
           till-all width (bucketsOf (policy .«read_offset») (policy .«delay_max») width) time (allowed .width-least) (omega (arith, buckets-some policy width)) soon
           lags (view .window) (kept-ready policy width allowed view k time (length lags) room) (s .starts)
 
-      sane-ticked : Sane time (tickedView rules view (record { time = time; lags = lags }))
+      sane-ticked : Sane time (tickedView rules view (record { time = time; lags = lags; mayLower = mayLower }))
       unfolding tickedView
       sane-ticked =
           record {
@@ -60,7 +60,7 @@ module _ (policy : DelayPolicy) (width : ℕ) (allowed : Allowed policy width) (
                 (kept-peaks policy width allowed view k) (k .times-long) (k .lags-long) time (omega arith) (s .hold);
           }
 
-      sane-rested : (stalled : Bool) → Sane time (after rules view (rests stalled (record { time = time; lags = lags })))
+      sane-rested : (stalled : Bool) → Sane time (after rules view (rests stalled (record { time = time; lags = lags; mayLower = mayLower })))
       unfolding after
       sane-rested true = record { starts = starts-pushed; hold = interrupted-till time time (view .held) (s .hold) }
       sane-rested false = record { starts = starts-pushed; hold = s .hold }
@@ -69,8 +69,8 @@ module _ (policy : DelayPolicy) (width : ℕ) (allowed : Allowed policy width) (
       (before : ℕ) (view : InputView) (event : Event) → before ≤ timeOf event → timeOf event ≤ timeLimit → Room view event →
       Kept policy width view → Sane before view → Sane (timeOf event) (after rules view event)
   unfolding after fresh
-  sane-after before view (ticks tick) h soon room k s = sane-ticked (tick .time) soon (tick .lags) view k room (sane-later view h s)
-  sane-after before view (rests stalled tick) h soon room k s = sane-rested (tick .time) soon (tick .lags) view k room (sane-later view h s) stalled
+  sane-after before view (ticks tick) h soon room k s = sane-ticked (tick .time) soon (tick .lags) (tick .mayLower) view k room (sane-later view h s)
+  sane-after before view (rests stalled tick) h soon room k s = sane-rested (tick .time) soon (tick .lags) (tick .mayLower) view k room (sane-later view h s) stalled
   sane-after before view (seeds time delay) h soon room k s =
       record { starts = sane-later view h s .starts; hold = seeded-till before time (view .held) (s .hold) delay h }
   sane-after before view (clears time zeroed) h soon room k s =

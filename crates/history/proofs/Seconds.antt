@@ -5,9 +5,9 @@ use native.Mathlib.Omega.{arith}
 use Rattle.base.specs.Limits.{nanos}
 use Rattle.base.proofs.Choices.{by-le}
 use Rattle.base.proofs.Flat.{row-le}
-use Rattle.lag_window.specs.Window.{Window, bucketOf}
-use Rattle.lag_window.proofs.WholeAt.{Whole}
-use Rattle.lag_window.proofs.Keeps.{bucket-lt}
+use Rattle.rules_window.specs.Window.{Window, bucketOf}
+use Rattle.rules_window.proofs.WholeAt.{Whole}
+use Rattle.rules_window.proofs.Keeps.{bucket-lt}
 use Rattle.history.proofs.Pushed.{startAt, countAt, Opening, opening, staying, Pushed}
 use Rattle.history.proofs.Quantiles.{LowCounts, HasLag}
 

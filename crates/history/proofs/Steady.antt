@@ -12,8 +12,8 @@ use Rattle.base.proofs.Choices.{by-le, le-rule}
 use Rattle.policy.specs.declared.DelayPolicy.{DelayPolicy}
 use Rattle.policy.specs.Need.{needOf}
 use Rattle.policy.proofs.Laws.{need-grows}
-use Rattle.lag_window.specs.Window.{Window, bucketsOf, bucketOf}
-use Rattle.lag_window.specs.Whole.{Sound}
+use Rattle.rules_window.specs.Window.{Window, bucketsOf, bucketOf}
+use Rattle.rules_window.specs.Whole.{Sound}
 use Rattle.delay_hold.specs.declared.Lag.{Lag}
 use Rattle.delay_hold.specs.declared.Lag.the-variants.{None, Of}
 use Rattle.delay_hold.specs.declared.DelayHold.{DelayHold}
@@ -26,7 +26,7 @@ use Rattle.delay_hold.proofs.Bounds.{larger-up, up-more, worst-up, capped-le}
 use Rattle.delay_hold.proofs.Outcomes.{AtMost}
 use Rattle.delay_hold.proofs.Wholes.{WholePeaks}
 use Rattle.delay_hold.proofs.Later.{SeedTill, Each, HoldTill, seed-kept, seed-gone, next-low, next-seeded, next-till, next-peaked, worst-low}
-use Rattle.auto_delay.specs.Auto.{p999Of}
+use Rattle.rules_tick.specs.AutoDelay.{p999Of}
 use Rattle.history.specs.Stretch.{Allowed, NoneAbove, bucketEnd}
 use Rattle.history.proofs.Phase.{Phase, early, step-phase}
 use Rattle.history.proofs.Windows.{buckets-some, div-mono, bucket-start, Windowed, p999-windowed}
@@ -69,8 +69,7 @@ at-most-up (Of lag) e h = le-leb lag e h
 -- ---- a stretch
 
 module _
-    (millisecond : ℕ) (one : 1 ≤ millisecond) (mayLower : Bool) (may : mayLower ≡ true)
-    (policy : DelayPolicy) (width : ℕ) (allowed : Allowed policy width)
+    (millisecond : ℕ) (policy : DelayPolicy) (width : ℕ) (allowed : Allowed policy width)
     (L : ℕ) (fits : L ≤ policy .«read_offset» + policy .«delay_max») (began : ℕ)
   where
     abbrev edge : ℕ
@@ -91,6 +90,7 @@ module _
       pub phase : Phase millisecond calm (policy .hold) (needOf policy edge) t delay (s .hold .«last_change») (s .hold .lower)
 
     module _
+        (one : 1 ≤ millisecond) (mayLower : Bool) (may : mayLower ≡ true)
         (t time : ℕ) (forward : t ≤ time) (soon : time ≤ t + 5 * nanos)
         (lags : List ℕ) (few : NoneAbove L lags)
         (w : Window) (sound : Sound w) (widths : w .width ≡ width) (k : Windowed began L width buckets time w)

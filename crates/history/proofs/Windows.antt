@@ -15,16 +15,16 @@ use Rattle.base.proofs.Choices.{le-rule}
 use Rattle.policy.specs.declared.DelayPolicy.{DelayPolicy}
 use Rattle.delay_hold.specs.declared.Lag.the-variants.{None}
 use Rattle.base.specs.Rows.{spanOf}
-use Rattle.lag_window.specs.Window.{Window, bucketsOf, bucketOf, pushed, pushedAll}
-use Rattle.lag_window.specs.Quantile.{quantileUpto}
-use Rattle.lag_window.specs.Checks.{newest}
-use Rattle.lag_window.specs.Whole.{Sound}
-use Rattle.lag_window.proofs.WholeAt.{Whole, whole-of, later, span-ends}
-use Rattle.lag_window.proofs.Ticks as ticks
-use Rattle.lag_window.proofs.Ticks.{push-keeps-sound}
-use Rattle.lag_window.proofs.Totals.{total-few}
+use Rattle.rules_window.specs.Window.{Window, bucketsOf, bucketOf, pushed, pushedAll}
+use Rattle.rules_window.specs.Quantile.{quantileUpto}
+use Rattle.rules_window.specs.Checks.{newest}
+use Rattle.rules_window.specs.Whole.{Sound}
+use Rattle.rules_window.proofs.WholeAt.{Whole, whole-of, later, span-ends}
+use Rattle.rules_window.proofs.Ticks as ticks
+use Rattle.rules_window.proofs.Ticks.{push-keeps-sound}
+use Rattle.rules_window.proofs.Totals.{total-few}
 use Rattle.delay_hold.proofs.Outcomes.{AtMost}
-use Rattle.auto_delay.specs.Auto.{permille999, quantileLag, p999Of}
+use Rattle.rules_tick.specs.AutoDelay.{permille999, quantileLag, p999Of}
 use Rattle.history.specs.Stretch.{NonEmpty, NoneAbove}
 use Rattle.history.proofs.Pushed.{Pushed, pushed-facts}
 use Rattle.history.proofs.Quantiles.{HasLag, lag-more, quantile-low}

@@ -14,7 +14,7 @@ use Rattle.history.specs.Whole.{wholeView}
 use Rattle.history.specs.Stretch.{runningTicks, NonEmpty, NoneAbove, Stretch, ending, bucketEnd}
 
 -- the delay after events
-abbrev pub delayOf : DelayPolicy → ℕ → List Event → ℕ
+abbrev pub delayOf : (policy : DelayPolicy) (width : ℕ) (events : List Event) → ℕ
 delayOf policy width events = history (rulesOf policy) (freshView policy width) events .delay
 
 -- the events are of accepted calls, from fresh on
@@ -27,7 +27,7 @@ StaysWhole policy width =
     (events : List Event) → Accepted policy width events → wholeView policy width (history (rulesOf policy) (freshView policy width) events) ≡ true
 
 -- "After every accepted tick that leaves it running on automatic and brings it lags, the largest at most read offset + maximum delay,
--- its delay + read offset is at least that lag."
+-- its delay + read offset is at least that lag." It holds of every tick, whether or not a due lowering happens at it
 abbrev pub Floor : DelayPolicy → ℕ → Type 0
 Floor policy width =
     (events : List Event) (tick : Tick) (lag : ℕ) → Accepted policy width (events ++ (ticks tick ∷ [])) →
@@ -37,10 +37,11 @@ Floor policy width =
 
 -- "take any stretch of successive accepted ticks, each at most 5 s after the one before, that all leave it running on automatic and bring it
 -- lags, none above L, with no accepted route or delay setting for it between them. After each of them that comes 30 s + window + 3 holds or
--- more after the first, its delay is at most the need at the end of L's bucket .., plus 47": it is the last of `first` and `later`
+-- more after the first, its delay is at most the need at the end of L's bucket .., plus 47": it is the last of `first` and `later`.
+-- At each of them a due lowering happens
 abbrev pub Ceiling : DelayPolicy → ℕ → Type 0
 Ceiling policy width =
     (events : List Event) (first : Tick) (later : List Tick) (L : ℕ) → Accepted policy width (events ++ runningTicks (first ∷ later)) →
-    NonEmpty (first .lags) → NoneAbove L (first .lags) → Stretch L (first .time) later →
+    first .mayLower ≡ true → NonEmpty (first .lags) → NoneAbove L (first .lags) → Stretch L (first .time) later →
     first .time + (30 * nanos + policy .window + 3 * policy .hold) ≤ ending (first .time) later →
     delayOf policy width (events ++ runningTicks (first ∷ later)) ≤ needOf policy (bucketEnd policy width L) + 47

@@ -7,8 +7,8 @@ use lib.ListN.{length, replicate}
 use Rattle.base.specs.Limits.{timeLimit}
 use Rattle.base.specs.Choice.{pick}
 use Rattle.policy.specs.declared.DelayPolicy.{DelayPolicy}
-use Rattle.lag_window.specs.Window.{fresh, cleared, bucketsOf, pushedAll}
-use Rattle.lag_window.specs.Checks.{roomFor}
+use Rattle.rules_window.specs.Window.{fresh, cleared, bucketsOf, pushedAll}
+use Rattle.rules_window.specs.Checks.{roomFor}
 use Rattle.delay_hold.specs.declared.DelayHold.{DelayHold}
 use Rattle.delay_hold.specs.Decide.{timerOff, withLower}
 use Rattle.delay_hold.specs.Next.{held, freshHold, clearedHold, seededHold}
@@ -27,7 +27,7 @@ pub data Event : Type 0 where
   sets : (time delay : ℕ) → Event
 
 -- an input of an accepted `new`, before any delay is set
-unfoldable pub freshView : DelayPolicy → ℕ → InputView
+unfoldable pub freshView : (policy : DelayPolicy) (width : ℕ) → InputView
 freshView policy width =
     record {
       window = fresh (bucketsOf (policy .«read_offset») (policy .«delay_max») width) width;
@@ -36,11 +36,11 @@ freshView policy width =
     }
 
 -- the hold, with its timer off where the input is Stalled
-abbrev pub interrupted : Bool → DelayHold → DelayHold
+abbrev pub interrupted : (stalled : Bool) (h : DelayHold) → DelayHold
 interrupted stalled h = pick stalled (withLower h timerOff) h
 
 -- what an event makes of the input
-unfoldable pub after : Rules → InputView → Event → InputView
+unfoldable pub after : (rules : Rules) (view : InputView) → Event → InputView
 after rules view (ticks tick) = tickedView rules view tick
 after rules view (rests stalled tick) =
     record {
@@ -55,7 +55,7 @@ after rules view (clears time zeroed) =
 after rules view (sets time delay) = record { window = view .window; held = view .held; delay = delay }
 
 -- what a list of them leaves
-unfoldable pub history : Rules → InputView → List Event → InputView
+unfoldable pub history : (rules : Rules) (view : InputView) → List Event → InputView
 history rules view [] = view
 history rules view (event ∷ events) = history rules (after rules view event) events
 
@@ -91,6 +91,6 @@ Lawful rules before view (event ∷ events) =
     × Lawful rules (timeOf event) (after rules view event) events
 
 -- the time of the last event
-abbrev pub clock : ℕ → List Event → ℕ
+abbrev pub clock : (before : ℕ) → List Event → ℕ
 clock before [] = before
 clock before (event ∷ events) = clock (timeOf event) events

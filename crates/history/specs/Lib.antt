@@ -1,4 +1,4 @@
--- The definitions of the third demand.
+-- The definitions of the third demand of one input.
 pub mod View
 pub mod Events
 pub mod Stretch

@@ -1,10 +1,12 @@
 -- The words of the third demand, of one input: the settings that `new` accepts, a stretch of ticks, and the end of a lag's bucket. Assumes nothing.
 use Prim.Native.Nat.{ℕ, _+_, _*_, _≤_}
+use mathlib.Core.Path.{_≡_}
+use mathlib.Core.Bool.{true}
 use mathlib.Core.List.{List, [], _∷_}
 use Rattle.base.specs.Limits.{nanos}
 use Rattle.policy.specs.declared.DelayPolicy.{DelayPolicy}
 use Rattle.policy.specs.Settings as policies
-use Rattle.lag_window.specs.Window.{bucketsOf, bucketOf}
+use Rattle.rules_window.specs.Window.{bucketsOf, bucketOf}
 use Rattle.history.specs.View.{Tick}
 use Rattle.history.specs.Events.{Event, ticks}
 
@@ -33,17 +35,17 @@ abbrev pub NoneAbove : ℕ → List ℕ → Type 0
 NoneAbove L [] = Unit {0}
 NoneAbove L (lag ∷ lags) = (lag ≤ L) × NoneAbove L lags
 
--- successive ticks, "each at most 5 s after the one before" (the first after `before`), that bring lags, none above L
+-- successive ticks, "each at most 5 s after the one before" (the first after `before`), that may lower and bring lags, none above L
 abbrev pub Stretch : (L before : ℕ) → List Tick → Type 0
 Stretch L before [] = Unit {0}
 Stretch L before (tick ∷ later) =
-    (tick .time ≤ before + 5 * nanos) × NonEmpty (tick .lags) × NoneAbove L (tick .lags) × Stretch L (tick .time) later
+    (tick .time ≤ before + 5 * nanos) × (tick .mayLower ≡ true) × NonEmpty (tick .lags) × NoneAbove L (tick .lags) × Stretch L (tick .time) later
 
 -- the time of the last of them
-abbrev pub ending : ℕ → List Tick → ℕ
+abbrev pub ending : (before : ℕ) → List Tick → ℕ
 ending before [] = before
 ending before (tick ∷ later) = ending (tick .time) later
 
 -- "the end of L's bucket (the end that `quantile_upto` answers)"
-unfoldable pub bucketEnd : DelayPolicy → (width L : ℕ) → ℕ
+unfoldable pub bucketEnd : (policy : DelayPolicy) (width L : ℕ) → ℕ
 bucketEnd policy width L = (bucketOf L width (bucketsOf (policy .«read_offset») (policy .«delay_max») width) + 1) * width

@@ -4,20 +4,19 @@ use Prim.Native.Nat.{ℕ}
 use mathlib.Core.Bool.{Bool}
 use mathlib.Core.List.{List}
 use Rattle.policy.specs.declared.DelayPolicy.{DelayPolicy}
-use Rattle.lag_window.specs.Window.{Window, pushedAll}
+use Rattle.rules_window.specs.Window.{Window, pushedAll}
 use Rattle.delay_hold.specs.Peaks.{worstOf}
 use Rattle.delay_hold.specs.Next.{Held, Decided, nextOf, delayAfter, oneMillisecond, alwaysLower}
-use Rattle.auto_delay.specs.Auto.{p999Of}
+use Rattle.rules_tick.specs.AutoDelay.{p999Of}
 
--- what all calls of a list keep: the policy of `new`, document 01's 48 samples, and whether a due lowering happens
+-- what all calls of a list keep: the policy of `new` and document 01's 48 samples
 pub record Rules : Type 0 where
   pub policy : DelayPolicy
   pub millisecond : ℕ
-  pub mayLower : Bool
 
--- document 01's: 48 samples are a millisecond, and a due lowering never waits
+-- document 01's: 48 samples are a millisecond
 abbrev pub rulesOf : DelayPolicy → Rules
-rulesOf policy = record { policy = policy; millisecond = oneMillisecond; mayLower = alwaysLower }
+rulesOf policy = record { policy = policy; millisecond = oneMillisecond }
 
 -- one input, with the parts of the lent lists that are its own
 pub record InputView : Type 0 where
@@ -25,22 +24,27 @@ pub record InputView : Type 0 where
   pub held : Held
   pub delay : ℕ
 
--- what a tick brings to one input: the time and its lags
+-- what a tick brings to one input: the time, its lags, and whether a due lowering happens at it or waits
 pub record Tick : Type 0 where
   pub time : ℕ
   pub lags : List ℕ
+  pub mayLower : Bool
+
+-- document 01's: a due lowering never waits
+abbrev pub tickOf : (time : ℕ) (lags : List ℕ) → Tick
+tickOf time lags = record { time = time; lags = lags; mayLower = alwaysLower }
 
 -- what `next` decides at a tick, after its lags are pushed: "current is .. the delay"
-abbrev pub decidedAt : Rules → InputView → Tick → Decided
+abbrev pub decidedAt : (rules : Rules) (view : InputView) (tick : Tick) → Decided
 decidedAt rules view tick =
-    nextOf (rules .millisecond) (rules .mayLower) (rules .policy) (view .held)
+    nextOf (rules .millisecond) (tick .mayLower) (rules .policy) (view .held)
     (p999Of (rules .policy) (pushedAll (tick .time) (tick .lags) (view .window)))
     (worstOf (tick .lags))
     (view .delay)
     (tick .time)
 
 -- "push lags .. then `auto_delay`": an answer becomes the delay
-unfoldable pub tickedView : Rules → InputView → Tick → InputView
+unfoldable pub tickedView : (rules : Rules) (view : InputView) (tick : Tick) → InputView
 tickedView rules view tick =
     record {
       window = pushedAll (tick .time) (tick .lags) (view .window);

@@ -6,13 +6,13 @@ use lib.Dec.{leb}
 use lib.ListN.{length}
 use Rattle.base.specs.Choice.{both}
 use Rattle.policy.specs.declared.DelayPolicy.{DelayPolicy}
-use Rattle.lag_window.specs.Window.{bucketsOf}
-use Rattle.lag_window.specs.Whole as windows
+use Rattle.rules_window.specs.Window.{bucketsOf}
+use Rattle.rules_window.specs.Whole as windows
 use Rattle.delay_hold.specs.Whole.{wholeHold}
 use Rattle.history.specs.View.{InputView}
 
 -- check 6 of one input's window, hold and delay
-unfoldable pub wholeView : DelayPolicy → ℕ → InputView → Bool
+unfoldable pub wholeView : (policy : DelayPolicy) (width : ℕ) (view : InputView) → Bool
 wholeView policy width view =
     both (windows.wholeWindow (view .window)) (both (wholeHold policy width (view .held)) (leb (view .delay) (policy .«delay_max»)))
 

@@ -87,7 +87,7 @@ fn next(
     times: &mut [u64],
     lags: &mut [u32],
     p999: Lag,
-    largest: Lag,
+    max_lag: Lag,
     current: u32,
     policy: DelayPolicy,
     width: u32,
@@ -101,11 +101,11 @@ fn next(
     number_after(b" ", policy.margin as u64);
     text(b" 4049000000000000");
     lag_after(p999);
-    lag_after(largest);
+    lag_after(max_lag);
     number_after(b" ", current as u64);
     number_after(b" ", time);
     text(b"\n");
-    let r = hold.decide_next(times, lags, p999, largest, current, policy, width, time);
+    let r = hold.decide_next(times, lags, p999, max_lag, current, policy, width, time);
     let left = r.hold;
     let answer = r.answer;
     match answer {
@@ -151,7 +151,7 @@ fn policy() -> DelayPolicy {
 }
 
 // The first call of a fresh hold.
-fn first(p999: Lag, largest: Lag, current: u32) {
+fn first(p999: Lag, max_lag: Lag, current: u32) {
     let mut times = [0u64; 600];
     let mut lags = [0u32; 600];
     let hold = fresh(&mut times, &mut lags);
@@ -160,7 +160,7 @@ fn first(p999: Lag, largest: Lag, current: u32) {
         &mut times,
         &mut lags,
         p999,
-        largest,
+        max_lag,
         current,
         policy(),
         48,

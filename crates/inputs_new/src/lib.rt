@@ -2,39 +2,25 @@
 ghost use mathlib.Core.Path.{_≡_};
 ghost use Prim.Native.Nat.{_*_};
 ghost use lib.Dec.{eqb};
-ghost use lib.ListN.{length};
-ghost use Rattle.record.specs.Lent.{lists};
-ghost use Rattle.record.specs.Reply.{left};
-ghost use Rattle.inputs_new.specs.Fresh.{policyOf, blank, blankFor, noInputs};
-ghost use Rattle.inputs_new.specs.Start.{zeroedLists};
-ghost use Rattle.inputs_new.specs.Checks.{marginFits, settingsNumber};
-ghost use Rattle.inputs_new.specs.Reply.{newReply};
+ghost use Rattle.rules_record.specs.Lent.{lists};
+ghost use Rattle.rules_record.specs.Reply.{left};
+ghost use Rattle.rules_calls.specs.NewRecord.{policyOf, blank, blankFor, noInputs};
+ghost use Rattle.rules_calls.specs.NewStart.{zeroedLists};
+ghost use Rattle.rules_calls.specs.NewChecks.{marginFits, settingsNumber};
+ghost use Rattle.rules_calls.specs.NewReply.{newReply};
 use policy::DelayPolicy;
-use record::Commands;
-use record::InputsAnswer;
-use slots::ExtraDelay;
-use slots::Flow;
-use slots::FlowEntry;
-use slots::Inputs;
-use slots::Instance;
-use slots::Remembered;
+use rules_calls::Settings;
+use rules_record::Commands;
+use rules_record::ExtraDelay;
+use rules_record::Flow;
+use rules_record::FlowEntry;
+use rules_record::Inputs;
+use rules_record::InputsAnswer;
+use rules_record::Instance;
+use rules_record::Remembered;
 
 mod loading;
 mod start;
-
-// What a supervisor is set to. Times are in nanoseconds, the margin's share is a percent.
-pub struct Settings {
-    pub count: usize,
-    pub read_offset: u32,
-    pub delay_max: u32,
-    pub width: u32,
-    pub hold: u64,
-    pub window: u64,
-    pub stall: u64,
-    pub margin: u32,
-    pub percent: f64,
-    pub confirm: bool,
-}
 
 // ---- the record without delays
 fn policy_of(settings: Settings) -> DelayPolicy
@@ -54,7 +40,7 @@ fn policy_of(settings: Settings) -> DelayPolicy
 fn blank(count: usize, policy: DelayPolicy, width: u32, stall: u64, confirm: bool) -> Inputs
     ensures { λ r. ⌜ r ≡ blank count policy width stall confirm ⌝ }
 {
-    let slot = slots::empty_slot();
+    let slot = inputs_slots::empty_slot();
     let slots = [slot; 16];
     let flow = Flow { high: 0, low: 0 };
     let remembered = Remembered::Never;
@@ -138,33 +124,37 @@ fn settings_number(
     totals: &[u64],
     counts: &[u32],
     times: &[u64],
-    lags: &[u32],
+    peaks: &[u32],
     words: usize,
 ) -> u32
-    ensures { λ r. ⌜ r ≡ settingsNumber settings bytes delays (lists (now (starts .entry)) (now (totals .entry)) (now (counts .entry)) (now (times .entry)) (now (lags .entry))) words 0 ⌝ }
+    ensures { λ r. ⌜ r ≡ settingsNumber settings bytes delays (lists (now (starts .entry)) (now (totals .entry)) (now (counts .entry)) (now (times .entry)) (now (peaks .entry))) words 0 ⌝ }
 {
-    if !record::inputs_allowed(settings.count) {
+    if !inputs_checks::inputs_allowed(settings.count) {
         return 1;
     }
     let policy = policy_of(settings);
-    if !record::buckets_allowed(policy, settings.width) {
+    if !inputs_checks::buckets_allowed(policy, settings.width) {
         return 2;
     }
-    if !record::pauses_allowed(policy, settings.stall) {
+    if !inputs_checks::pauses_allowed(policy, settings.stall) {
         return 3;
     }
     if !margin_fits(settings) {
         return 4;
     }
-    let buckets = lag_window::core::buckets_of(
-        policy.read_offset,
-        policy.delay_max,
-        settings.width,
-    );
-    if !record::core::lists_fit(settings.count, buckets, starts, totals, counts, times, lags) {
+    let buckets = lag_rows::core::buckets_of(policy.read_offset, policy.delay_max, settings.width);
+    if !inputs_checks::core::lists_fit(
+        settings.count,
+        buckets,
+        starts,
+        totals,
+        counts,
+        times,
+        peaks,
+    ) {
         return 5;
     }
-    if !record::core::commands_fit(settings.count, Commands::Words(words)) {
+    if !inputs_checks::core::commands_fit(settings.count, Commands::Words(words)) {
         return 5;
     }
     if !bytes_fit(bytes, delays) {
@@ -179,15 +169,15 @@ fn zero_lists(
     totals: &mut [u64],
     counts: &mut [u32],
     times: &mut [u64],
-    lags: &mut [u32],
+    peaks: &mut [u32],
 )
-    ensures { λ _. ⌜ lists (now (starts .exit)) (now (totals .exit)) (now (counts .exit)) (now (times .exit)) (now (lags .exit)) ≡ zeroedLists (lists (now (starts .entry)) (now (totals .entry)) (now (counts .entry)) (now (times .entry)) (now (lags .entry))) ⌝ }
+    ensures { λ _. ⌜ lists (now (starts .exit)) (now (totals .exit)) (now (counts .exit)) (now (times .exit)) (now (peaks .exit)) ≡ zeroedLists (lists (now (starts .entry)) (now (totals .entry)) (now (counts .entry)) (now (times .entry)) (now (peaks .entry))) ⌝ }
 {
     base::zero_u64(starts);
     base::zero_u64(totals);
     base::zero_u32(counts);
     base::zero_u64(times);
-    base::zero_u32(lags);
+    base::zero_u32(peaks);
 }
 
 // A supervisor with these settings, a delay kind for each input, and the remembered delays that the host loaded: 16 flow bytes to each.
@@ -201,10 +191,10 @@ pub fn new(
     totals: &mut [u64],
     counts: &mut [u32],
     times: &mut [u64],
-    lags: &mut [u32],
+    peaks: &mut [u32],
     commands: &mut [u32],
 ) -> InputsAnswer
-    ensures { λ r. ⌜ left r (lists (now (starts .exit)) (now (totals .exit)) (now (counts .exit)) (now (times .exit)) (now (lags .exit))) (now (commands .exit)) ≡ newReply settings kinds (now (flows .entry)) (now (delays .entry)) time (lists (now (starts .entry)) (now (totals .entry)) (now (counts .entry)) (now (times .entry)) (now (lags .entry))) (now (commands .entry)) ⌝ }
+    ensures { λ r. ⌜ left r (lists (now (starts .exit)) (now (totals .exit)) (now (counts .exit)) (now (times .exit)) (now (peaks .exit))) (now (commands .exit)) ≡ newReply settings kinds (now (flows .entry)) (now (delays .entry)) time (lists (now (starts .entry)) (now (totals .entry)) (now (counts .entry)) (now (times .entry)) (now (peaks .entry))) (now (commands .entry)) ⌝ }
 {
     let number = settings_number(
         settings,
@@ -214,7 +204,7 @@ pub fn new(
         totals,
         counts,
         times,
-        lags,
+        peaks,
         commands.len(),
     );
     if number != 0 {
@@ -240,7 +230,7 @@ pub fn new(
         };
     }
     let all = loaded.inputs;
-    zero_lists(starts, totals, counts, times, lags);
+    zero_lists(starts, totals, counts, times, peaks);
     base::zero_u32(commands);
     let sent = start::started(all, settings.count, kinds, time, commands);
     let inputs = sent.inputs;

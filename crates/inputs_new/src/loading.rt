@@ -3,9 +3,9 @@ ghost use mathlib.Core.Path.{_≡_};
 ghost use mathlib.Core.Bool.{true};
 ghost use Prim.Native.Nat.{_+_, _*_, _<_, _≤_};
 ghost use lib.ListN.{length};
-ghost use Rattle.inputs_new.specs.Loading.{bytesAt, loadedFlow, loadedOne, loadedBelow, loadFits};
-use slots::Flow;
-use slots::Inputs;
+ghost use Rattle.rules_calls.specs.NewLoading.{bytesAt, loadedFlow, loadedOne, loadedBelow, loadFits};
+use rules_record::Flow;
+use rules_record::Inputs;
 
 // The record with the loaded delays, where each flow had room.
 pub(crate) struct Loaded {
@@ -50,9 +50,9 @@ fn flow_of(bytes: &[u8], k: usize) -> Flow
 fn load_one(inputs: Inputs, flow: Flow, delay: u32) -> Inputs
     ensures { λ r. ⌜ r ≡ loadedOne flow delay inputs ⌝ }
 {
-    let all = flows::enrol(inputs, flow);
-    let place = flows::find(all, flow);
-    flows::keep(all, place, delay)
+    let all = inputs_flows::enrol(inputs, flow);
+    let place = inputs_flows::find(all, flow);
+    inputs_flows::keep(all, place, delay)
 }
 
 // Each flow in its turn, until one has no room (check 9).
@@ -65,7 +65,7 @@ pub(crate) fn load(inputs: Inputs, bytes: &[u8], delays: &[u32]) -> Loaded
     let mut k: usize = 0;
     while k < delays.len() {
         let flow = flow_of(bytes, k);
-        if !flows::has_room(all, flow) {
+        if !inputs_flows::has_room(all, flow) {
             return Loaded {
                 fits: false,
                 inputs,

@@ -2,12 +2,12 @@
 ghost use mathlib.Core.Path.{_≡_};
 ghost use Prim.Native.Nat.{_+_, _*_, _<_, _≤_};
 ghost use lib.ListN.{length};
-ghost use Rattle.commands.specs.Commands.{Did};
-ghost use Rattle.inputs_new.specs.Start.{kindAt, madeAt, startedOne, startedBelow};
-use commands::Sent;
-use slots::ExtraDelay;
-use slots::InputConfig;
-use slots::Inputs;
+ghost use Rattle.rules_record.specs.Commands.{Did};
+ghost use Rattle.rules_calls.specs.NewStart.{kindAt, madeAt, startedOne, startedBelow};
+use rules_record::ExtraDelay;
+use rules_record::InputConfig;
+use rules_record::Inputs;
+use rules_record::Sent;
 
 // The delay kind of input i; there are 16 places.
 fn kind_at(kinds: [ExtraDelay; 16], i: usize) -> ExtraDelay
@@ -22,8 +22,8 @@ fn made_at(inputs: Inputs, i: usize, kind: ExtraDelay, time: u64) -> Inputs
     ensures { λ r. ⌜ r ≡ madeAt i kind time inputs ⌝ }
 {
     let config = InputConfig { extra_delay: kind };
-    let slot = slots::with_config(slots::slot_at(inputs, i), config);
-    slots::put_slot(inputs, i, slots::with_head(slot, 0, time))
+    let slot = inputs_slots::with_config(inputs_slots::slot_at(inputs, i), config);
+    inputs_slots::put_slot(inputs, i, inputs_slots::with_head(slot, 0, time))
 }
 
 // A manual input gets the smaller of its samples and the maximum.
@@ -44,7 +44,7 @@ fn started_one(
     };
     let policy = inputs.policy;
     let samples = base::least(doubles::samples(delay), policy.delay_max);
-    set_delay::core::set_delay(all, i, samples, time, commands, used)
+    inputs_set_delay::core::set_delay(all, i, samples, time, commands, used)
 }
 
 // The inputs in their order; the words are laid from the first place on.

@@ -1,27 +1,15 @@
 // Routing an input (document 01, "Supervision").
 ghost use mathlib.Core.Path.{_≡_};
-ghost use Rattle.record.specs.Lent.{lists};
-ghost use Rattle.record.specs.Reply.{left};
-ghost use Rattle.inputs_route.specs.Checks.{wantedFits, routeNumber};
-ghost use Rattle.inputs_route.specs.Reply.{routeReply};
-use opening::World;
-use record::InputsAnswer;
-use slots::Flow;
-use slots::Inputs;
+ghost use Rattle.rules_record.specs.Lent.{lists};
+ghost use Rattle.rules_record.specs.Reply.{left};
+ghost use Rattle.rules_calls.specs.RouteChecks.{wantedFits, routeNumber};
+ghost use Rattle.rules_calls.specs.RouteReply.{routeReply};
+use rules_calls::Wanted;
+use rules_record::Inputs;
+use rules_record::InputsAnswer;
+use rules_routing::World;
 
 mod steps;
-
-// A flow in a domain.
-pub struct Source {
-    pub domain: u64,
-    pub flow: Flow,
-}
-
-// What an input is to read: nothing, or a flow.
-pub enum Wanted {
-    Nothing,
-    From(Source),
-}
 
 // ---- the checks
 // Is the flow known, or is there room for it (check 9), where one is given?
@@ -32,7 +20,7 @@ fn wanted_fits(inputs: Inputs, wanted: Wanted) -> bool
         return true;
     };
     let flow = source.flow;
-    flows::has_room(inputs, flow)
+    inputs_flows::has_room(inputs, flow)
 }
 
 fn route_number(
@@ -45,12 +33,12 @@ fn route_number(
     totals: &[u64],
     counts: &[u32],
     times: &[u64],
-    lags: &[u32],
+    peaks: &[u32],
     words: usize,
 ) -> u32
-    ensures { λ r. ⌜ r ≡ routeNumber inputs (lists (now (starts .entry)) (now (totals .entry)) (now (counts .entry)) (now (times .entry)) (now (lags .entry))) words input wanted time world ⌝ }
+    ensures { λ r. ⌜ r ≡ routeNumber inputs (lists (now (starts .entry)) (now (totals .entry)) (now (counts .entry)) (now (times .entry)) (now (peaks .entry))) words input wanted time world ⌝ }
 {
-    let number = record::input_checks(
+    let number = inputs_checks::input_checks(
         inputs,
         input,
         time,
@@ -58,7 +46,7 @@ fn route_number(
         totals,
         counts,
         times,
-        lags,
+        peaks,
         words,
     );
     if number != 0 {
@@ -68,7 +56,7 @@ fn route_number(
         return 9;
     }
     let reader = world.reader;
-    if !opening::reader_fits(reader) {
+    if !inputs_try_open::reader_fits(reader) {
         return 10;
     }
     0
@@ -86,10 +74,10 @@ pub fn route(
     totals: &mut [u64],
     counts: &mut [u32],
     times: &mut [u64],
-    lags: &mut [u32],
+    peaks: &mut [u32],
     commands: &mut [u32],
 ) -> InputsAnswer
-    ensures { λ r. ⌜ left r (lists (now (starts .exit)) (now (totals .exit)) (now (counts .exit)) (now (times .exit)) (now (lags .exit))) (now (commands .exit)) ≡ routeReply inputs (lists (now (starts .entry)) (now (totals .entry)) (now (counts .entry)) (now (times .entry)) (now (lags .entry))) (now (commands .entry)) input wanted time world ⌝ }
+    ensures { λ r. ⌜ left r (lists (now (starts .exit)) (now (totals .exit)) (now (counts .exit)) (now (times .exit)) (now (peaks .exit))) (now (commands .exit)) ≡ routeReply inputs (lists (now (starts .entry)) (now (totals .entry)) (now (counts .entry)) (now (times .entry)) (now (peaks .entry))) (now (commands .entry)) input wanted time world ⌝ }
 {
     let number = route_number(
         inputs,
@@ -101,7 +89,7 @@ pub fn route(
         totals,
         counts,
         times,
-        lags,
+        peaks,
         commands.len(),
     );
     if number != 0 {
@@ -109,7 +97,7 @@ pub fn route(
     }
     let known = steps::enrolled_for(inputs, wanted);
     let new = steps::route_for(known, wanted);
-    let slot = slots::slot_at(known, input);
+    let slot = inputs_slots::slot_at(known, input);
     base::zero_u32(commands);
     let old = slot.route;
     if steps::equal_route(new, old) {
@@ -120,7 +108,16 @@ pub fn route(
     }
     let used = steps::announce(input, new, slot, commands);
     let changed = steps::routed_slot(new, time, slot);
-    let all = clearing::core::clear(known, input, changed, starts, totals, counts, times, lags);
+    let all = inputs_clear::core::clear(
+        known,
+        input,
+        changed,
+        starts,
+        totals,
+        counts,
+        times,
+        peaks,
+    );
     let sent = steps::open_for(new, input, time, world, all, commands, used);
     let routed = sent.inputs;
     InputsAnswer {

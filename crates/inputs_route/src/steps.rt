@@ -4,20 +4,20 @@ ghost use mathlib.Core.List.{_++_};
 ghost use Prim.Native.Nat.{_+_, _<_, _≤_, _^_};
 ghost use lib.ListN.{length};
 ghost use lib.Seq.{sets};
-ghost use Rattle.slots.specs.declared.Routed.the-variants.{Nowhere};
-ghost use Rattle.slots.specs.Inputs.{slotAt};
-ghost use Rattle.commands.specs.Commands.{Did};
-ghost use Rattle.inputs_route.specs.Route.{enrolledFor, routeFor, equalRoute, otherFlow, startsOver, forgetting, zeroing, startedOver, stateFor, routedSlot, openedFor};
-use crate::Wanted;
-use commands::Sent;
-use opening::World;
-use slots::Inode;
-use slots::Inputs;
-use slots::Proposal;
-use slots::Route;
-use slots::Routed;
-use slots::Slot;
-use slots::State;
+ghost use Rattle.rules_record.specs.declared.Routed.the-variants.{Nowhere};
+ghost use Rattle.rules_record.specs.Inputs.{slotAt};
+ghost use Rattle.rules_record.specs.Commands.{Did};
+ghost use Rattle.rules_calls.specs.Route.{enrolledFor, routeFor, equalRoute, otherFlow, startsOver, forgetting, zeroing, startedOver, stateFor, routedSlot, openedFor};
+use rules_calls::Wanted;
+use rules_record::Inode;
+use rules_record::Inputs;
+use rules_record::Proposal;
+use rules_record::Route;
+use rules_record::Routed;
+use rules_record::Sent;
+use rules_record::Slot;
+use rules_record::State;
+use rules_routing::World;
 
 // ---- the route that is wanted
 // The flow is enrolled, where one is given.
@@ -28,7 +28,7 @@ pub(crate) fn enrolled_for(inputs: Inputs, wanted: Wanted) -> Inputs
         return inputs;
     };
     let flow = source.flow;
-    flows::enrol(inputs, flow)
+    inputs_flows::enrol(inputs, flow)
 }
 
 pub(crate) fn route_for(inputs: Inputs, wanted: Wanted) -> Routed
@@ -40,7 +40,7 @@ pub(crate) fn route_for(inputs: Inputs, wanted: Wanted) -> Routed
     let flow = source.flow;
     let route = Route {
         domain: source.domain,
-        flow: flows::find(inputs, flow),
+        flow: inputs_flows::find(inputs, flow),
     };
     Routed::To(route)
 }
@@ -93,7 +93,7 @@ fn starts_over(new: Routed, slot: Slot) -> bool
     if !other_flow(new, old) {
         return false;
     }
-    if !slots::automatic(slot) {
+    if !inputs_slots::automatic(slot) {
         return false;
     }
     slot.delay != 0
@@ -104,8 +104,8 @@ fn started_over(new: Routed, time: u64, slot: Slot) -> Slot
     ensures { λ r. ⌜ r ≡ startedOver new time slot ⌝ }
 {
     if starts_over(new, slot) {
-        let zero = slots::with_delay(slot, 0, time);
-        return slots::with_proposed(zero, Proposal::Nothing);
+        let zero = inputs_slots::with_delay(slot, 0, time);
+        return inputs_slots::with_proposed(zero, Proposal::Nothing);
     }
     slot
 }
@@ -124,9 +124,9 @@ pub(crate) fn routed_slot(new: Routed, time: u64, slot: Slot) -> Slot
     ensures { λ r. ⌜ r ≡ routedSlot new time slot ⌝ }
 {
     let over = started_over(new, time, slot);
-    let there = slots::with_route(over, new);
-    let placed = slots::with_inode(there, Inode::Gone);
-    slots::with_state(placed, state_for(new))
+    let there = inputs_slots::with_route(over, new);
+    let placed = inputs_slots::with_inode(there, Inode::Gone);
+    inputs_slots::with_state(placed, state_for(new))
 }
 
 // ---- the commands
@@ -138,7 +138,7 @@ fn forget(i: usize, old: Routed, commands: &mut [u32]) -> usize
     let Routed::To(_) = old else {
         return 0;
     };
-    commands::core::send(commands, 0, commands::core::CLEAR_INPUT, i, 1)
+    inputs_commands::core::send(commands, 0, inputs_commands::core::CLEAR_INPUT, i, 1)
 }
 
 // What is sent before the new flow opens; answers how many words.
@@ -149,7 +149,7 @@ pub(crate) fn announce(i: usize, new: Routed, slot: Slot, commands: &mut [u32]) 
     let old = slot.route;
     let used = forget(i, old, commands);
     if starts_over(new, slot) {
-        return commands::core::send(commands, used, commands::core::SET_DELAY, i, 0);
+        return inputs_commands::core::send(commands, used, inputs_commands::core::SET_DELAY, i, 0);
     }
     used
 }
@@ -170,5 +170,5 @@ pub(crate) fn open_for(
     let Routed::To(_) = new else {
         return Sent { inputs, used };
     };
-    opening::core::try_open(inputs, i, time, world, commands, used)
+    inputs_try_open::core::try_open(inputs, i, time, world, commands, used)
 }

@@ -1,5 +1,3 @@
--- Laws of the calls that read one input.
-pub mod Numbers
-pub mod Replies
-pub mod Shows
-pub mod Accepted
+-- The status of an input, as the code makes it.
+pub mod ShownCases
+pub mod StatusNumbers

@@ -1,5 +1,2 @@
--- The definitions that the contracts of `inputs_status` cite.
-pub mod Checks
-pub mod Status
-pub mod Answers
-pub mod Asked
+-- What the inner functions of a status ask of their callers: no rules.
+pub mod StatusAsked

@@ -1,19 +1,23 @@
 // What the host reads of one input (document 01, "Supervision"): its status, whether it has the channels, whether its delay has settled.
 ghost use mathlib.Core.Path.{_≡_};
-ghost use Rattle.slots.specs.Sized.{Sized};
-ghost use Rattle.record.specs.Lent.{lists};
-ghost use Rattle.record.specs.declared.Commands.the-variants.{Absent};
-ghost use Rattle.record.specs.Checks.{inputNumber};
-ghost use Rattle.inputs_status.specs.Checks.{statusNumber, channelsNumber, settledNumber};
-ghost use Rattle.inputs_status.specs.Status.{noStatus, statusReply};
-ghost use Rattle.inputs_status.specs.Answers.{restedFor, settledSlot, hasChannelsReply, settledReply};
+ghost use Rattle.rules_record.specs.Sized.{Sized};
+ghost use Rattle.rules_record.specs.Lent.{lists};
+ghost use Rattle.rules_record.specs.declared.Commands.the-variants.{Absent};
+ghost use Rattle.rules_record.specs.Checks.{inputNumber};
+ghost use Rattle.rules_calls.specs.StatusChecks.{statusNumber, channelsNumber, settledNumber};
+ghost use Rattle.rules_calls.specs.Status.{noStatus, statusReply};
+ghost use Rattle.rules_calls.specs.StatusAnswers.{restedFor, settledSlot, hasChannelsReply, settledReply};
 use delay_hold::Moment;
-use record::Commands;
-use slots::AutoTag;
-use slots::ExtraDelay;
-use slots::Flow;
-use slots::Inputs;
-use slots::Slot;
+use rules_calls::Answer;
+use rules_calls::Arrival;
+use rules_calls::InputStatus;
+use rules_calls::Milliseconds;
+use rules_calls::Sourced;
+use rules_record::AutoTag;
+use rules_record::Commands;
+use rules_record::ExtraDelay;
+use rules_record::Inputs;
+use rules_record::Slot;
 
 mod shown;
 
@@ -22,62 +26,6 @@ const RUNNING: u32 = 2;
 
 // The most channels of a reader (check 10).
 const CHANNELS: u32 = 64;
-
-// The flow and the domain that an input is routed to.
-pub struct Source {
-    pub flow: Flow,
-    pub domain: u64,
-}
-
-pub enum Sourced {
-    Nowhere,
-    From(Source),
-}
-
-// Milliseconds, where there are any.
-pub enum Milliseconds {
-    None,
-    Of(f64),
-}
-
-// The quantiles 0.5, 0.99 and 0.999 of the lags, in milliseconds.
-pub struct ArrivalLag {
-    pub p50: f64,
-    pub p99: f64,
-    pub p999: f64,
-}
-
-// All three, or none.
-pub enum Arrival {
-    None,
-    Of(ArrivalLag),
-}
-
-// The status of one input. In every answer an accepted call has number 0; a refused one has the number of its check and a zero value.
-pub struct InputStatus {
-    pub number: u32,
-    pub state: u32,
-    pub source: Sourced,
-    pub channels: u32,
-    pub extra_delay: ExtraDelay,
-    // The applied delay, and with the read offset.
-    pub extra_delay_ms: f64,
-    pub effective_delay_ms: f64,
-    pub proposed_delay_ms: Milliseconds,
-    // The last lag, the quantiles, and the greatest peak.
-    pub lag_ms: f64,
-    pub arrival_lag_ms: Arrival,
-    pub worst_lag_ms: Milliseconds,
-    pub delay_changes: u64,
-    pub late_events: u64,
-    pub reopens: u64,
-}
-
-// Yes or no.
-pub struct Answer {
-    pub number: u32,
-    pub value: bool,
-}
 
 // ---- the checks
 // 1 to 7, which all three calls make.
@@ -88,18 +36,18 @@ fn input_number(
     totals: &[u64],
     counts: &[u32],
     times: &[u64],
-    lags: &[u32],
+    peaks: &[u32],
 ) -> u32
-    ensures { λ r. ⌜ r ≡ inputNumber inputs (lists (now (starts .entry)) (now (totals .entry)) (now (counts .entry)) (now (times .entry)) (now (lags .entry))) Absent input 0 ⌝ }
+    ensures { λ r. ⌜ r ≡ inputNumber inputs (lists (now (starts .entry)) (now (totals .entry)) (now (counts .entry)) (now (times .entry)) (now (peaks .entry))) Absent input 0 ⌝ }
     ensures { λ _. ⌜ Sized inputs ⌝ }
 {
-    let number = record::checks(
+    let number = inputs_checks::checks(
         inputs,
         starts,
         totals,
         counts,
         times,
-        lags,
+        peaks,
         Commands::Absent,
     );
     if number != 0 {
@@ -120,12 +68,12 @@ fn status_number(
     totals: &[u64],
     counts: &[u32],
     times: &[u64],
-    lags: &[u32],
+    peaks: &[u32],
 ) -> u32
-    ensures { λ r. ⌜ r ≡ statusNumber inputs (lists (now (starts .entry)) (now (totals .entry)) (now (counts .entry)) (now (times .entry)) (now (lags .entry))) input applied channels ⌝ }
+    ensures { λ r. ⌜ r ≡ statusNumber inputs (lists (now (starts .entry)) (now (totals .entry)) (now (counts .entry)) (now (times .entry)) (now (peaks .entry))) input applied channels ⌝ }
     ensures { λ _. ⌜ Sized inputs ⌝ }
 {
-    let number = input_number(inputs, input, starts, totals, counts, times, lags);
+    let number = input_number(inputs, input, starts, totals, counts, times, peaks);
     if number != 0 {
         return number;
     }
@@ -147,11 +95,11 @@ fn channels_number(
     totals: &[u64],
     counts: &[u32],
     times: &[u64],
-    lags: &[u32],
+    peaks: &[u32],
 ) -> u32
-    ensures { λ r. ⌜ r ≡ channelsNumber inputs (lists (now (starts .entry)) (now (totals .entry)) (now (counts .entry)) (now (times .entry)) (now (lags .entry))) input channels ⌝ }
+    ensures { λ r. ⌜ r ≡ channelsNumber inputs (lists (now (starts .entry)) (now (totals .entry)) (now (counts .entry)) (now (times .entry)) (now (peaks .entry))) input channels ⌝ }
 {
-    let number = input_number(inputs, input, starts, totals, counts, times, lags);
+    let number = input_number(inputs, input, starts, totals, counts, times, peaks);
     if number != 0 {
         return number;
     }
@@ -169,11 +117,11 @@ fn settled_number(
     totals: &[u64],
     counts: &[u32],
     times: &[u64],
-    lags: &[u32],
+    peaks: &[u32],
 ) -> u32
-    ensures { λ r. ⌜ r ≡ settledNumber inputs (lists (now (starts .entry)) (now (totals .entry)) (now (counts .entry)) (now (times .entry)) (now (lags .entry))) input time ⌝ }
+    ensures { λ r. ⌜ r ≡ settledNumber inputs (lists (now (starts .entry)) (now (totals .entry)) (now (counts .entry)) (now (times .entry)) (now (peaks .entry))) input time ⌝ }
 {
-    let number = input_number(inputs, input, starts, totals, counts, times, lags);
+    let number = input_number(inputs, input, starts, totals, counts, times, peaks);
     if number != 0 {
         return number;
     }
@@ -216,9 +164,9 @@ pub fn status(
     totals: &[u64],
     counts: &[u32],
     times: &[u64],
-    lags: &[u32],
+    peaks: &[u32],
 ) -> InputStatus
-    ensures { λ r. ⌜ r ≡ statusReply inputs (lists (now (starts .entry)) (now (totals .entry)) (now (counts .entry)) (now (times .entry)) (now (lags .entry))) input applied channels ⌝ }
+    ensures { λ r. ⌜ r ≡ statusReply inputs (lists (now (starts .entry)) (now (totals .entry)) (now (counts .entry)) (now (times .entry)) (now (peaks .entry))) input applied channels ⌝ }
 {
     let number = status_number(
         inputs,
@@ -229,7 +177,7 @@ pub fn status(
         totals,
         counts,
         times,
-        lags,
+        peaks,
     );
     if number != 0 {
         return no_status(number);
@@ -243,7 +191,7 @@ pub fn status(
         totals,
         counts,
         times,
-        lags,
+        peaks,
     )
 }
 
@@ -257,20 +205,29 @@ pub fn has_channels(
     totals: &[u64],
     counts: &[u32],
     times: &[u64],
-    lags: &[u32],
+    peaks: &[u32],
 ) -> Answer
-    ensures { λ r. ⌜ r ≡ hasChannelsReply inputs (lists (now (starts .entry)) (now (totals .entry)) (now (counts .entry)) (now (times .entry)) (now (lags .entry))) input channels wanted ⌝ }
+    ensures { λ r. ⌜ r ≡ hasChannelsReply inputs (lists (now (starts .entry)) (now (totals .entry)) (now (counts .entry)) (now (times .entry)) (now (peaks .entry))) input channels wanted ⌝ }
 {
-    let number = channels_number(inputs, input, channels, starts, totals, counts, times, lags);
+    let number = channels_number(
+        inputs,
+        input,
+        channels,
+        starts,
+        totals,
+        counts,
+        times,
+        peaks,
+    );
     if number != 0 {
         return Answer {
             number,
             value: false,
         };
     }
-    let slot = slots::slot_at(inputs, input);
+    let slot = inputs_slots::slot_at(inputs, input);
     let state = slot.state;
-    if slots::code(state) != RUNNING {
+    if inputs_slots::code(state) != RUNNING {
         return Answer {
             number,
             value: false,
@@ -296,7 +253,7 @@ fn settled_slot(slot: Slot, hold: u64, time: u64) -> bool
     ensures { λ r. ⌜ r ≡ settledSlot slot hold time ⌝ }
 {
     let state = slot.state;
-    if slots::code(state) != RUNNING {
+    if inputs_slots::code(state) != RUNNING {
         return false;
     }
     let last_set = slot.last_set;
@@ -312,18 +269,18 @@ pub fn settled(
     totals: &[u64],
     counts: &[u32],
     times: &[u64],
-    lags: &[u32],
+    peaks: &[u32],
 ) -> Answer
-    ensures { λ r. ⌜ r ≡ settledReply inputs (lists (now (starts .entry)) (now (totals .entry)) (now (counts .entry)) (now (times .entry)) (now (lags .entry))) input time ⌝ }
+    ensures { λ r. ⌜ r ≡ settledReply inputs (lists (now (starts .entry)) (now (totals .entry)) (now (counts .entry)) (now (times .entry)) (now (peaks .entry))) input time ⌝ }
 {
-    let number = settled_number(inputs, input, time, starts, totals, counts, times, lags);
+    let number = settled_number(inputs, input, time, starts, totals, counts, times, peaks);
     if number != 0 {
         return Answer {
             number,
             value: false,
         };
     }
-    let slot = slots::slot_at(inputs, input);
+    let slot = inputs_slots::slot_at(inputs, input);
     let policy = inputs.policy;
     Answer {
         number,

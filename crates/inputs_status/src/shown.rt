@@ -3,27 +3,26 @@ ghost use mathlib.Core.Path.{_≡_};
 ghost use mathlib.Core.List.{[]};
 ghost use Prim.Native.Nat.{_≤_};
 ghost use lib.ListN.{length};
-ghost use Rattle.policy.specs.Settings.{Sound};
-ghost use Rattle.lag_window.specs.Window.{lent};
-ghost use Rattle.lag_window.specs.Parts.{partOf};
-ghost use Rattle.record.specs.Lent.{lists, windowIn};
-ghost use Rattle.inputs_status.specs.Status.{sourceOf, channelsShown, proposedMs, lagMs, worstMs, arrivalOf, arrivalIn, statusOf};
-ghost use Rattle.inputs_status.specs.Asked.{Countable, Showable};
-use super::Arrival;
-use super::ArrivalLag;
-use super::InputStatus;
-use super::Milliseconds;
-use super::Source;
-use super::Sourced;
+ghost use Rattle.lag_window.specs.Lent.{lent};
+ghost use Rattle.rules_window.specs.Parts.{partOf};
+ghost use Rattle.rules_record.specs.Lent.{lists};
+ghost use Rattle.rules_calls.specs.Status.{sourceOf, channelsShown, proposedMs, lagMs, worstMs, arrivalOf, arrivalIn, statusOf};
+ghost use Rattle.inputs_status.specs.StatusAsked.{Countable, Showable};
 use delay_hold::Lag;
 use doubles::ms;
 use lag_window::LagWindow;
-use lag_window::Quantile;
-use slots::Inputs;
-use slots::Proposal;
-use slots::Routed;
-use slots::Slot;
-use slots::State;
+use rules_calls::Arrival;
+use rules_calls::ArrivalLag;
+use rules_calls::InputStatus;
+use rules_calls::Milliseconds;
+use rules_calls::Source;
+use rules_calls::Sourced;
+use rules_record::Inputs;
+use rules_record::Proposal;
+use rules_record::Routed;
+use rules_record::Slot;
+use rules_record::State;
+use rules_window::Quantile;
 
 // The peaks that are kept of an input.
 const PEAKS: usize = 600;
@@ -37,7 +36,7 @@ fn source_of(inputs: Inputs, to: Routed) -> Sourced
     let Routed::To(route) = to else {
         return Sourced::Nowhere;
     };
-    let flow = flows::flow_at(inputs, route.flow);
+    let flow = inputs_flows::flow_at(inputs, route.flow);
     let source = Source {
         flow,
         domain: route.domain,
@@ -49,7 +48,7 @@ fn source_of(inputs: Inputs, to: Routed) -> Sourced
 fn channels_shown(state: State, channels: u32) -> u32
     ensures { λ r. ⌜ r ≡ channelsShown state channels ⌝ }
 {
-    if slots::code(state) == 0 {
+    if inputs_slots::code(state) == 0 {
         return 0;
     }
     channels
@@ -74,15 +73,15 @@ fn lag_ms(lag: Lag) -> Milliseconds
 }
 
 // The greatest of an automatic input's peaks, which stand first in its lags.
-fn worst_ms(slot: Slot, lags: &[u32]) -> Milliseconds
-    requires { ⌜ slot .hold .peaks ≤ length (now lags) ⌝ }
-    ensures { λ r. ⌜ r ≡ worstMs slot (now (lags .entry)) ⌝ }
+fn worst_ms(slot: Slot, peaks: &[u32]) -> Milliseconds
+    requires { ⌜ slot .hold .peaks ≤ length (now peaks) ⌝ }
+    ensures { λ r. ⌜ r ≡ worstMs slot (now (peaks .entry)) ⌝ }
 {
-    if !slots::automatic(slot) {
+    if !inputs_slots::automatic(slot) {
         return Milliseconds::None;
     }
     let hold = slot.hold;
-    lag_ms(delay_hold::core::worst(lags, hold.peaks))
+    lag_ms(delay_hold::core::worst(peaks, hold.peaks))
 }
 
 // The quantiles, where all three are there.
@@ -111,25 +110,10 @@ fn arrival(window: LagWindow, i: usize, counts: &[u32]) -> Arrival
     requires { ⌜ Countable window i (now counts) ⌝ }
     ensures { λ r. ⌜ r ≡ arrivalIn (partOf i (lent window [] [] (now (counts .entry)))) ⌝ }
 {
-    let half = lag_window::core::quantile_upto(window, i, 0.5, NO_LIMIT, counts);
-    let high = lag_window::core::quantile_upto(window, i, 0.99, NO_LIMIT, counts);
-    let highest = lag_window::core::quantile_upto(window, i, 0.999, NO_LIMIT, counts);
+    let half = inputs_window::core::quantile_upto(window, i, 0.5, NO_LIMIT, counts);
+    let high = inputs_window::core::quantile_upto(window, i, 0.99, NO_LIMIT, counts);
+    let highest = inputs_window::core::quantile_upto(window, i, 0.999, NO_LIMIT, counts);
     arrival_of(half, high, highest)
-}
-
-// The window of the input with this slot.
-fn window_in(inputs: Inputs, slot: Slot) -> LagWindow
-    requires { ⌜ Sound (inputs .policy) ⌝ }
-    requires { ⌜ 1 ≤ inputs .width ⌝ }
-    ensures { λ r. ⌜ r ≡ windowIn inputs slot ⌝ }
-{
-    let policy = inputs.policy;
-    let buckets = lag_window::core::buckets_of(policy.read_offset, policy.delay_max, inputs.width);
-    LagWindow {
-        seconds: slot.lag_seconds,
-        buckets,
-        width: inputs.width,
-    }
 }
 
 // The status of input i.
@@ -142,12 +126,12 @@ pub(crate) fn status(
     totals: &[u64],
     counts: &[u32],
     times: &[u64],
-    lags: &[u32],
+    peaks: &[u32],
 ) -> InputStatus
-    requires { ⌜ Showable inputs (lists (now starts) (now totals) (now counts) (now times) (now lags)) i applied ⌝ }
-    ensures { λ r. ⌜ r ≡ statusOf inputs (lists (now (starts .entry)) (now (totals .entry)) (now (counts .entry)) (now (times .entry)) (now (lags .entry))) i applied channels ⌝ }
+    requires { ⌜ Showable inputs (lists (now starts) (now totals) (now counts) (now times) (now peaks)) i applied ⌝ }
+    ensures { λ r. ⌜ r ≡ statusOf inputs (lists (now (starts .entry)) (now (totals .entry)) (now (counts .entry)) (now (times .entry)) (now (peaks .entry))) i applied channels ⌝ }
 {
-    let slot = slots::slot_at(inputs, i);
+    let slot = inputs_slots::slot_at(inputs, i);
     let policy = inputs.policy;
     let config = slot.config;
     let state = slot.state;
@@ -155,15 +139,15 @@ pub(crate) fn status(
     let proposed = slot.proposed;
     let extra_delay = config.extra_delay;
     let source = source_of(inputs, to);
-    let window = window_in(inputs, slot);
+    let window = inputs_window::core::window_in(inputs, slot);
     let arrival_lag_ms = arrival(window, i, counts);
     let from = i * PEAKS;
     let end = from + PEAKS;
-    let worst_lag_ms = worst_ms(slot, &lags[from..end]);
+    let worst_lag_ms = worst_ms(slot, &peaks[from..end]);
     let proposed_delay_ms = proposed_ms(proposed);
     InputStatus {
         number: 0,
-        state: slots::code(state),
+        state: inputs_slots::code(state),
         source,
         channels: channels_shown(state, channels),
         extra_delay,

@@ -1,13 +1,63 @@
-// The tick of a supervisor (document 01, "Supervision"): the public call.
+// The tick of a supervisor (document 01, "Supervision"): its checks, and then all inputs in order.
 ghost use mathlib.Core.Path.{_≡_};
-ghost use Rattle.record.specs.Lent.{lists};
-ghost use Rattle.ticking.specs.Answer.{told};
-ghost use Rattle.inputs_tick.specs.Reply.{tickLeaves};
-use slots::Inputs;
-use ticking::Look;
-use ticking::TickAnswer;
+ghost use Rattle.rules_record.specs.Sized.{Sized};
+ghost use Rattle.rules_record.specs.Lent.{lists};
+ghost use Rattle.rules_tick.specs.TickChecks.{tickNumber};
+ghost use Rattle.rules_tick.specs.TickAnswer.{told};
+ghost use Rattle.rules_tick.specs.TickLeaves.{tickLeaves};
+use rules_record::Commands;
+use rules_record::Extra;
+use rules_record::Inputs;
+pub use rules_tick::Look;
+pub use rules_tick::TickAnswer;
 
-// All inputs in order: their lags arrive, they open or watch, and their automatic delays decide. The lags of input 0 stand first.
+mod each;
+mod fits;
+
+// The number of the first of checks 1 to 6, 8, 10 and 11 that says no, or 0. The record's tables have their places, as in every value of its type.
+fn tick_number(
+    inputs: Inputs,
+    looks: [Look; 16],
+    lags: &[u32],
+    time: u64,
+    starts: &[u64],
+    totals: &[u64],
+    counts: &[u32],
+    times: &[u64],
+    peaks: &[u32],
+    words: usize,
+) -> u32
+    ensures { λ r. ⌜ r ≡ tickNumber inputs (lists (now (starts .entry)) (now (totals .entry)) (now (counts .entry)) (now (times .entry)) (now (peaks .entry))) words looks (now (lags .entry)) time ⌝ }
+    ensures { λ _. ⌜ Sized inputs ⌝ }
+{
+    let number = inputs_checks::checks(
+        inputs,
+        starts,
+        totals,
+        counts,
+        times,
+        peaks,
+        Commands::Words(words),
+    );
+    if number != 0 {
+        return number;
+    }
+    if base::TIME_LIMIT < time {
+        return 8;
+    }
+    if !fits::looks_fit(inputs, looks) {
+        return 10;
+    }
+    if !fits::lags_fit(inputs, looks, lags) {
+        return 10;
+    }
+    if !fits::rooms_fit(inputs, looks, time, starts, totals) {
+        return 11;
+    }
+    0
+}
+
+// All inputs in order: their lags arrive, they open or watch, and their automatic delays decide. Then the instances that no input reads go, and the unsaved mark is reported and cleared. The lags of input 0 stand first.
 pub fn tick(
     inputs: Inputs,
     looks: [Look; 16],
@@ -22,7 +72,7 @@ pub fn tick(
 ) -> TickAnswer
     ensures { λ r. ⌜ told r (lists (now (starts .exit)) (now (totals .exit)) (now (counts .exit)) (now (times .exit)) (now (peaks .exit))) (now (commands .exit)) ≡ tickLeaves inputs (lists (now (starts .entry)) (now (totals .entry)) (now (counts .entry)) (now (times .entry)) (now (peaks .entry))) (now (commands .entry)) looks (now (lags .entry)) time ⌝ }
 {
-    let number = ticking::checks(
+    let number = tick_number(
         inputs,
         looks,
         lags,
@@ -41,7 +91,8 @@ pub fn tick(
             unsaved: false,
         };
     }
-    ticking::core::tick_all(
+    base::zero_u32(commands);
+    let sent = each::tick_inputs(
         inputs,
         looks,
         lags,
@@ -52,5 +103,13 @@ pub fn tick(
         times,
         peaks,
         commands,
-    )
+    );
+    let all = sent.inputs;
+    let kept = inputs_instances::prune_instances(all, Extra::Nothing);
+    let done = each::saved(kept);
+    TickAnswer {
+        number: 0,
+        inputs: done,
+        unsaved: all.unsaved,
+    }
 }

@@ -1,13 +1,13 @@
 // What the host changes of an input's delay (document 01, "Supervision"): its kind, and a proposal that is confirmed.
 ghost use mathlib.Core.Path.{_≡_};
-ghost use Rattle.record.specs.Lent.{lists};
-ghost use Rattle.inputs_update.specs.Checks.{manualFits, kindFits, updateNumber};
-ghost use Rattle.record.specs.Reply.{left};
-ghost use Rattle.inputs_update.specs.Reply.{updateReply, confirmReply};
-use record::InputsAnswer;
-use slots::ExtraDelay;
-use slots::Inputs;
-use slots::Proposal;
+ghost use Rattle.rules_record.specs.Lent.{lists};
+ghost use Rattle.rules_calls.specs.UpdateChecks.{manualFits, kindFits, updateNumber};
+ghost use Rattle.rules_record.specs.Reply.{left};
+ghost use Rattle.rules_calls.specs.UpdateReply.{updateReply, confirmReply};
+use rules_record::ExtraDelay;
+use rules_record::Inputs;
+use rules_record::InputsAnswer;
+use rules_record::Proposal;
 
 mod steps;
 
@@ -40,12 +40,12 @@ fn update_number(
     totals: &[u64],
     counts: &[u32],
     times: &[u64],
-    lags: &[u32],
+    peaks: &[u32],
     words: usize,
 ) -> u32
-    ensures { λ r. ⌜ r ≡ updateNumber inputs (lists (now (starts .entry)) (now (totals .entry)) (now (counts .entry)) (now (times .entry)) (now (lags .entry))) words input kind time ⌝ }
+    ensures { λ r. ⌜ r ≡ updateNumber inputs (lists (now (starts .entry)) (now (totals .entry)) (now (counts .entry)) (now (times .entry)) (now (peaks .entry))) words input kind time ⌝ }
 {
-    let number = record::input_checks(
+    let number = inputs_checks::input_checks(
         inputs,
         input,
         time,
@@ -53,7 +53,7 @@ fn update_number(
         totals,
         counts,
         times,
-        lags,
+        peaks,
         words,
     );
     if number != 0 {
@@ -77,10 +77,10 @@ pub fn update(
     totals: &mut [u64],
     counts: &mut [u32],
     times: &mut [u64],
-    lags: &mut [u32],
+    peaks: &mut [u32],
     commands: &mut [u32],
 ) -> InputsAnswer
-    ensures { λ r. ⌜ left r (lists (now (starts .exit)) (now (totals .exit)) (now (counts .exit)) (now (times .exit)) (now (lags .exit))) (now (commands .exit)) ≡ updateReply inputs (lists (now (starts .entry)) (now (totals .entry)) (now (counts .entry)) (now (times .entry)) (now (lags .entry))) (now (commands .entry)) input kind time ⌝ }
+    ensures { λ r. ⌜ left r (lists (now (starts .exit)) (now (totals .exit)) (now (counts .exit)) (now (times .exit)) (now (peaks .exit))) (now (commands .exit)) ≡ updateReply inputs (lists (now (starts .entry)) (now (totals .entry)) (now (counts .entry)) (now (times .entry)) (now (peaks .entry))) (now (commands .entry)) input kind time ⌝ }
 {
     let number = update_number(
         inputs,
@@ -91,16 +91,25 @@ pub fn update(
         totals,
         counts,
         times,
-        lags,
+        peaks,
         commands.len(),
     );
     if number != 0 {
         return InputsAnswer { number, inputs };
     }
-    let slot = steps::with_kind(slots::slot_at(inputs, input), kind);
+    let slot = steps::with_kind(inputs_slots::slot_at(inputs, input), kind);
     let ExtraDelay::Ms(delay) = kind else {
         base::zero_u32(commands);
-        let all = clearing::core::clear(inputs, input, slot, starts, totals, counts, times, lags);
+        let all = inputs_clear::core::clear(
+            inputs,
+            input,
+            slot,
+            starts,
+            totals,
+            counts,
+            times,
+            peaks,
+        );
         return InputsAnswer {
             number,
             inputs: all,
@@ -122,12 +131,12 @@ pub fn confirm_delay(
     totals: &[u64],
     counts: &[u32],
     times: &[u64],
-    lags: &[u32],
+    peaks: &[u32],
     commands: &mut [u32],
 ) -> InputsAnswer
-    ensures { λ r. ⌜ left r (lists (now (starts .entry)) (now (totals .entry)) (now (counts .entry)) (now (times .entry)) (now (lags .entry))) (now (commands .exit)) ≡ confirmReply inputs (lists (now (starts .entry)) (now (totals .entry)) (now (counts .entry)) (now (times .entry)) (now (lags .entry))) (now (commands .entry)) input time ⌝ }
+    ensures { λ r. ⌜ left r (lists (now (starts .entry)) (now (totals .entry)) (now (counts .entry)) (now (times .entry)) (now (peaks .entry))) (now (commands .exit)) ≡ confirmReply inputs (lists (now (starts .entry)) (now (totals .entry)) (now (counts .entry)) (now (times .entry)) (now (peaks .entry))) (now (commands .entry)) input time ⌝ }
 {
-    let number = record::input_checks(
+    let number = inputs_checks::input_checks(
         inputs,
         input,
         time,
@@ -135,13 +144,13 @@ pub fn confirm_delay(
         totals,
         counts,
         times,
-        lags,
+        peaks,
         commands.len(),
     );
     if number != 0 {
         return InputsAnswer { number, inputs };
     }
-    let slot = slots::slot_at(inputs, input);
+    let slot = inputs_slots::slot_at(inputs, input);
     let proposed = slot.proposed;
     let Proposal::Pending(delay) = proposed else {
         return InputsAnswer { number: 13, inputs };

@@ -3,20 +3,20 @@ ghost use mathlib.Core.Path.{_≡_};
 ghost use Prim.Native.Nat.{_<_, _≤_};
 ghost use lib.ListN.{length};
 ghost use Rattle.base.specs.Lists.{padded};
-ghost use Rattle.inputs_update.specs.Update.{kindStored, taken, delaySet};
-use slots::ExtraDelay;
-use slots::InputConfig;
-use slots::Inputs;
-use slots::Proposal;
-use slots::Slot;
+ghost use Rattle.rules_calls.specs.Update.{kindStored, taken, delaySet};
+use rules_record::ExtraDelay;
+use rules_record::InputConfig;
+use rules_record::Inputs;
+use rules_record::Proposal;
+use rules_record::Slot;
 
 // The kind is stored, the proposal goes.
 pub(crate) fn with_kind(slot: Slot, kind: ExtraDelay) -> Slot
     ensures { λ r. ⌜ r ≡ kindStored slot kind ⌝ }
 {
     let config = InputConfig { extra_delay: kind };
-    let stored = slots::with_config(slot, config);
-    slots::with_proposed(stored, Proposal::Nothing)
+    let stored = inputs_slots::with_config(slot, config);
+    inputs_slots::with_proposed(stored, Proposal::Nothing)
 }
 
 // The proposal is taken: one delay change more.
@@ -24,8 +24,8 @@ pub(crate) fn taken(slot: Slot) -> Slot
     requires { ⌜ slot .«delay_changes» < 9223372036854775808 ⌝ }
     ensures { λ r. ⌜ r ≡ taken slot ⌝ }
 {
-    let rest = slots::with_proposed(slot, Proposal::Nothing);
-    slots::with_delay_changes(rest, slot.delay_changes + 1)
+    let rest = inputs_slots::with_proposed(slot, Proposal::Nothing);
+    inputs_slots::with_delay_changes(rest, slot.delay_changes + 1)
 }
 
 // Input i has this slot, and then its delay is set; the whole list of commands is written.
@@ -41,7 +41,7 @@ pub(crate) fn delay_set(
     ensures { λ r. ⌜ (r ≡ delaySet i slot delay time inputs .inputs) × (now (commands .exit) ≡ padded (length (now (commands .entry))) (delaySet i slot delay time inputs .words)) ⌝ }
 {
     base::zero_u32(commands);
-    let all = slots::put_slot(inputs, i, slot);
-    let sent = set_delay::core::set_delay(all, i, delay, time, commands, 0);
+    let all = inputs_slots::put_slot(inputs, i, slot);
+    let sent = inputs_set_delay::core::set_delay(all, i, delay, time, commands, 0);
     sent.inputs
 }

@@ -1,18 +1,4 @@
-pub mod Stales
-pub mod WholeAt
-pub mod Keeps
-pub mod Padding
-pub mod InUse
-pub mod Pushing
-pub mod Checking
-pub mod Wholes
-pub mod Sums
-pub mod Tallies
-pub mod Totals
-pub mod Reaching
-pub mod Numbers
+-- Laws of a push and of an emptied window, as the code makes them.
 pub mod PushCalls
-pub mod Ticks
-pub mod Parting
-pub mod Laws
-pub mod Answers
+pub mod Pushing
+pub mod Emptied

@@ -8,13 +8,14 @@ use lib.ListN.{length, getD}
 use Rattle.base.specs.Lists.{sumFrom, rowSum}
 use Rattle.base.proofs.Points.{sum-at-le}
 use Rattle.lag_window.specs.declared.LagWindow.{LagWindow}
-use Rattle.lag_window.specs.Window.{Window, lent, opens, bucketOf, counted, pushed}
-use Rattle.lag_window.specs.Whole.{Sound}
-use Rattle.lag_window.specs.InPlace.{droppedInPlace, openedInPlace, pushedInPlace}
-use Rattle.lag_window.specs.Checks.{newest}
-use Rattle.lag_window.proofs.WholeAt.{Whole, whole-of}
-use Rattle.lag_window.proofs.Keeps.{dropped-whole, opened-whole, open-fits, near, opened-pos, room-dropped, room-opened, bucket-lt}
-use Rattle.lag_window.proofs.InUse.{in-place}
+use Rattle.rules_window.specs.Window.{Window, opens, bucketOf, counted, pushed}
+use Rattle.lag_window.specs.Lent.{lent}
+use Rattle.rules_window.specs.Whole.{Sound}
+use Rattle.rules_window.specs.InPlace.{droppedInPlace, openedInPlace, pushedInPlace}
+use Rattle.rules_window.specs.Checks.{newest}
+use Rattle.rules_window.proofs.WholeAt.{Whole, whole-of}
+use Rattle.rules_window.proofs.Keeps.{dropped-whole, opened-whole, open-fits, near, opened-pos, room-dropped, room-opened, bucket-lt}
+use Rattle.rules_window.proofs.InUse.{in-place}
 
 -- an element is at most the sum of its row
 at-most-row : (B : ℕ) (cs : List ℕ) (r b : ℕ) → b < B → getD cs (r * B + b) 0 ≤ rowSum B cs r

@@ -1,10 +1,10 @@
 -- The steps of a push and the room check, as the code makes them. Assumes nothing.
-use Prim.Native.Nat.{ℕ, zero, suc, _+_, _-_, _*_, _/_, _<_, _≤_, _^_}
+use Prim.Native.Nat.{ℕ, zero, suc, _+_, _-_, _*_, _<_, _≤_, _^_}
 use mathlib.Core.Bool.{Bool, true, false}
 use mathlib.Core.Path.{_≡_, refl, sym, ap, _∙_}
 use mathlib.Core.List.{List}
 use native.Mathlib.Omega.{arith}
-use native.Mathlib.Nat.{div-le-self, sub-zero, zero-mul}
+use native.Mathlib.Nat.{sub-zero, zero-mul}
 use borrow.Author.Tests.{le-leb, lt-leb}
 use mir.Syntax.{w32, w64}
 use mir.Val.{Fits}
@@ -15,10 +15,11 @@ use Rattle.base.proofs.Choices.{by-le}
 use Rattle.base.proofs.Flat.{row-le, flat-lt}
 use Rattle.base.proofs.Toward.{shifted-zero}
 use Rattle.lag_window.specs.declared.LagWindow.{LagWindow}
-use Rattle.lag_window.specs.Window.{lent, stale, opens, bucketOf, counted}
-use Rattle.lag_window.specs.InPlace.{droppedInPlace, openedInPlace}
-use Rattle.lag_window.specs.Checks.{newestOf, roomOf}
-use Rattle.lag_window.proofs.Stales.{stale-le}
+use Rattle.rules_window.specs.Window.{stale, opens, bucketOf, counted}
+use Rattle.lag_window.specs.Lent.{lent}
+use Rattle.rules_window.specs.InPlace.{droppedInPlace, openedInPlace}
+use Rattle.rules_window.specs.Checks.{newestOf, roomOf}
+use Rattle.rules_window.proofs.Stales.{stale-le}
 
 -- ---- old seconds go: k of them
 module _ (t n : ℕ) (xs : List ℕ) (k : ℕ) (e : k ≡ stale t n xs) where
@@ -96,16 +97,3 @@ pub room-some : (time lags n : ℕ) (starts totals : List ℕ) (total : ℕ) →
 room-some time lags n starts totals total e h = by-le lags (4294967295 - total)
     (λ l. le-leb lags (4294967295 - total) l ∙ sym (le-leb (newestOf time n starts totals + lags) 4294967295 (omega arith)))
     (λ l. lt-leb lags (4294967295 - total) l ∙ sym (lt-leb (newestOf time n starts totals + lags) 4294967295 (omega arith)))
-
--- ---- the bucket of a lag
-pub div-fits : (m w : ℕ) → Fits w32 m → Fits w64 (m / w)
-div-fits m w h = omega (arith, div-le-self m w)
-
-pub div-next-fits : (m w : ℕ) → Fits w32 m → Fits w64 (m / w + 1)
-div-next-fits m w h = omega (arith, div-le-self m w)
-
-pub buckets-cast : (a b w : ℕ) → a ≤ 96000 → b ≤ 96000 → Fits w64 ((a + b + 4800) / w)
-buckets-cast a b w h k = omega (arith, div-le-self (a + b + 4800) w)
-
-pub buckets-fit : (a b w : ℕ) → a ≤ 96000 → b ≤ 96000 → Fits w64 ((a + b + 4800) / w + 2)
-buckets-fit a b w h k = omega (arith, div-le-self (a + b + 4800) w)

@@ -1,7 +1,2 @@
--- The definitions that the contracts of `lag_window` cite.
-pub mod Window
-pub mod Quantile
-pub mod Whole
-pub mod Checks
-pub mod InPlace
-pub mod Parts
+-- The definitions that speak of the type `LagWindow`; the rules of a window stand in rules_window.
+pub mod Lent

@@ -1,17 +1,14 @@
 // The lateness of one input's lags: a histogram for each of the last seconds, over lent lists (document 01, "LagWindow").
 ghost use mathlib.Core.Path.{_≡_};
 ghost use Prim.Native.Nat.{_*_};
-ghost use Rattle.lag_window.specs.Window.{lent, fresh, cleared};
-ghost use Rattle.lag_window.specs.Whole.{Shaped};
-ghost use Rattle.lag_window.specs.Checks.{checked, fromZeroToOne, newNumber, pushNumber, quantileNumber, left, newReply, pushReply, clearReply, spanReply, quantileUptoReply, quantileReply};
-use base::zero_u32;
-use base::zero_u64;
+ghost use Rattle.lag_window.specs.Lent.{lent};
+ghost use Rattle.rules_window.specs.Checks.{checked, fromZeroToOne, newNumber, pushNumber, quantileNumber, newReply, pushReply, clearReply, spanReply, quantileUptoReply, quantileReply};
+ghost use Rattle.lag_window.specs.Lent.{left};
+use rules_window::Quantile;
+use rules_window::SpanAnswer;
 
-mod checks;
 // Functions that ask something of their caller; the crates above use them after their checks.
 pub mod core;
-mod rows;
-mod steps;
 
 // How many seconds are in use, how many buckets a second has, and a bucket's width in samples.
 // The lent lists hold, oldest first, the starts and totals of 11 seconds and 11 rows of counts; unused places are zero.
@@ -27,30 +24,11 @@ pub struct WindowAnswer {
     pub window: LagWindow,
 }
 
-// The number of the check that refuses, or 0, and the span in nanoseconds.
-pub struct SpanAnswer {
-    pub number: u32,
-    pub span: u64,
-}
-
-// The end of the bucket that holds a quantile, none where no lag counts, or the number of the check that refuses.
-pub enum Quantile {
-    End(u32),
-    None,
-    Refused(u32),
-}
-
-// A bucket that was searched for.
-pub(crate) enum Found {
-    At(usize),
-    Nowhere,
-}
-
 impl LagWindow {
     pub const SECONDS: usize = 11;
 
     // A second goes once it is older than this: 10 s.
-    pub const LIMIT: u64 = 10_000_000_000;
+    pub const LAG_WINDOW: u64 = 10_000_000_000;
 
     // A second opens once the newest is this old: 1 s.
     pub const SECOND: u64 = base::NANOS;
@@ -61,9 +39,6 @@ impl LagWindow {
     pub(crate) const WIDEST: u32 = 4_800;
 
     pub(crate) const MOST_BUCKETS: usize = 4_096;
-
-    // The samples of a tenth of a second: how far the buckets reach beyond offset and maximum.
-    pub(crate) const TENTH: u32 = 4_800;
 
     // The latest time that the calls admit (check 8).
     pub(crate) const LATEST: u64 = base::TIME_LIMIT;
@@ -94,7 +69,7 @@ impl LagWindow {
         if LagWindow::WIDEST < width {
             return 2;
         }
-        let buckets = core::buckets_of(offset, maximum, width);
+        let buckets = lag_rows::core::buckets_of(offset, maximum, width);
         if LagWindow::MOST_BUCKETS < buckets {
             return 2;
         }
@@ -139,34 +114,14 @@ impl LagWindow {
                 },
             };
         }
-        let buckets = core::buckets_of(offset, maximum, width);
+        let buckets = lag_rows::core::buckets_of(offset, maximum, width);
         let made = LagWindow {
             seconds: 0,
             buckets,
             width,
         };
-        let window = made.emptied(starts, totals, counts);
+        let window = core::emptied(made, starts, totals, counts);
         WindowAnswer { number, window }
-    }
-
-    // The window without seconds: every lent place becomes zero.
-    pub(crate) fn emptied(
-        self,
-        starts: &mut [u64],
-        totals: &mut [u64],
-        counts: &mut [u32],
-    ) -> LagWindow
-        requires { ⌜ Shaped (lent self (now starts) (now totals) (now counts)) ⌝ }
-        ensures { λ r. ⌜ lent r (now (starts .exit)) (now (totals .exit)) (now (counts .exit)) ≡ cleared (lent self (now (starts .entry)) (now (totals .entry)) (now (counts .entry))) ⌝ }
-    {
-        zero_u64(starts);
-        zero_u64(totals);
-        zero_u32(counts);
-        LagWindow {
-            seconds: 0,
-            buckets: self.buckets,
-            width: self.width,
-        }
     }
 
     // The checks that every call on a window makes: 2, 5 and 6.
@@ -194,7 +149,7 @@ impl LagWindow {
         if counts.len() != LagWindow::SECONDS * self.buckets {
             return 5;
         }
-        if !checks::whole(self, starts, totals, counts) {
+        if !core::whole(self, starts, totals, counts) {
             return 6;
         }
         0
@@ -211,7 +166,7 @@ impl LagWindow {
         if LagWindow::LATEST < time {
             return 8;
         }
-        if !steps::room(self.seconds, time, 1, starts, totals) {
+        if !core::room(self.seconds, time, 1, starts, totals) {
             return 11;
         }
         0
@@ -235,7 +190,7 @@ impl LagWindow {
                 window: self,
             };
         }
-        let window = steps::push(self, lag, time, starts, totals, counts);
+        let window = core::push(self, lag, time, starts, totals, counts);
         WindowAnswer { number, window }
     }
 
@@ -250,7 +205,7 @@ impl LagWindow {
                 window: self,
             };
         }
-        let window = self.emptied(starts, totals, counts);
+        let window = core::emptied(self, starts, totals, counts);
         WindowAnswer { number, window }
     }
 
@@ -312,6 +267,6 @@ impl LagWindow {
         if number != 0 {
             return Quantile::Refused(number);
         }
-        rows::quantile_upto(self, q, limit, counts)
+        lag_rows::core::quantile_upto(self.seconds, self.buckets, self.width, q, limit, counts)
     }
 }

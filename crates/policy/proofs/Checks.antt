@@ -1,6 +1,6 @@
 -- What the checks of a policy say, as facts, and what `need_of` answers for each. Assumes nothing.
 use Prim.Native.Nat.{ℕ, zero, suc, _≤_}
-use mathlib.Core.Bool.{Bool, true, false}
+use mathlib.Core.Bool.{true, false}
 use mathlib.Core.Path.{_≡_, refl, sym, ap, _∙_}
 use lib.IntN.{pos}
 use lib.Ieee.{Float, fin}
@@ -11,7 +11,6 @@ use Rattle.base.proofs.Choices.{yes-ask, no-ask}
 use Rattle.base.proofs.Points.{both-true}
 use Rattle.doubles.proofs.Values.{is}
 use Rattle.policy.specs.declared.DelayPolicy.{DelayPolicy}
-use Rattle.policy.specs.declared.Need.{Need}
 use Rattle.policy.specs.declared.Need.the-variants.{Of, Refused}
 use Rattle.policy.specs.declared.Share.{Share}
 use Rattle.policy.specs.declared.Share.the-variants as Share

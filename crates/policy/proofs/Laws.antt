@@ -1,6 +1,5 @@
 -- Laws of the need: it is at most the maximum, covers what lies above the offset, and grows with the lag. Assumes nothing.
-use mathlib.Core.Path.{_≡_}
-use Prim.Native.Nat.{ℕ, _+_, _-_, _^_, _≤_, _<_, min}
+use Prim.Native.Nat.{ℕ, _-_, _^_, _≤_, _<_, min}
 use native.Mathlib.Omega.{arith}
 use Rattle.doubles.proofs.Products.{share-mono}
 use Rattle.policy.specs.declared.DelayPolicy.{DelayPolicy}

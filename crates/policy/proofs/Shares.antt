@@ -1,12 +1,11 @@
 -- A percent from 0 to 1,000 is a share from 0 to 10. Assumes nothing.
-use mathlib.Core.Path.{_≡_}
 use mathlib.Core.Bool.{false}
-use Prim.Native.Nat.{ℕ, _*_, _^_, _≤_, _<_}
+use Prim.Native.Nat.{_<_}
 use native.Mathlib.Omega.{arith}
 use lib.Dec.{T, leb→le}
 use lib.IntN.{pos}
 use lib.Ieee.{Float, fin, binary64, div, le}
-use Rattle.doubles.proofs.Bounds.{Upto, upto-trans, upto-low, upto-high, div-upto}
+use Rattle.doubles.proofs.Bounds.{upto-trans, upto-low, upto-high, div-upto}
 use Rattle.policy.specs.Settings.{shareOfPercent}
 
 one : 0 < 1

@@ -9,11 +9,11 @@ use Rattle.policy.specs.declared.Need.the-variants.{Of, Refused}
 use Rattle.policy.specs.Settings.{reachesAllowed, marginsAllowed}
 
 -- "above times share, rounded as before": the product as a double, rounded once, then to a whole number with halves away from zero
-unfoldable pub shareOf : DelayPolicy → ℕ → ℕ
+unfoldable pub shareOf : (p : DelayPolicy) (above : ℕ) → ℕ
 shareOf p above = halfAway (mul binary64 (double above) (p .«margin_share»))
 
 -- "above = lag − read offset, or 0. need = the smaller of maximum delay and above + margin + (above times share ..), added as whole numbers"
-unfoldable pub needOf : DelayPolicy → ℕ → ℕ
+unfoldable pub needOf : (p : DelayPolicy) (lag : ℕ) → ℕ
 unfolding shareOf
 needOf p lag = let above = lag - p .«read_offset» in min (p .«delay_max») (above + p .margin + shareOf p above)
 
@@ -22,7 +22,7 @@ unfoldable pub needNumber : DelayPolicy → ℕ
 needNumber p = ask 2 (reachesAllowed p) (ask 4 (marginsAllowed p) 0)
 
 -- the answer for a number and a value
-abbrev pub needAnswer : ℕ → ℕ → Need
+abbrev pub needAnswer : ℕ → (value : ℕ) → Need
 needAnswer zero value = Of value
 needAnswer (suc k) value = Refused (suc k)
 
@@ -36,5 +36,5 @@ valueOf (Of value) = value
 valueOf (Refused number) = 0
 
 -- what `need_of` answers
-unfoldable pub needReply : DelayPolicy → ℕ → Need
+unfoldable pub needReply : (p : DelayPolicy) (lag : ℕ) → Need
 needReply p lag = needAnswer (needNumber p) (needOf p lag)

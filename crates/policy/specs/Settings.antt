@@ -43,7 +43,7 @@ unfoldable pub shareNumber : Float → ℕ
 shareNumber percent = ask 4 (percentAllowed percent) 0
 
 -- the answer for a number and a value
-abbrev pub shareAnswer : ℕ → Float → Share
+abbrev pub shareAnswer : ℕ → (value : Float) → Share
 shareAnswer zero value = Of value
 shareAnswer (suc k) value = Refused (suc k)
 

@@ -1,43 +1,41 @@
 -- An input's delay in the record that an accepted call leaves is the samples of the last SetDelay among its commands, or where there is none
 -- the delay that it had before: of `new`, `route`, `update`, `confirm_delay` and `tick`. Assumes nothing.
-use Prim.Native.Nat.{ℕ, _≤_, _<_}
-use mathlib.Core.Bool.{true}
+use Prim.Native.Nat.{ℕ, _<_}
 use mathlib.Core.Path.{_≡_, refl, sym, ap, subst, _∙_}
 use mathlib.Core.List.{List}
 use lib.ListN.{length}
-use borrow.Author.Tests.{leb-true}
 use Rattle.base.specs.Choice.{accepted}
 use Rattle.base.specs.Lists.{padded}
-use Rattle.base.proofs.Choices.{asked, refused-old, accepted-new, accepted-all}
-use Rattle.base.proofs.Points.{both-true}
-use Rattle.slots.specs.declared.ExtraDelay.{ExtraDelay}
-use Rattle.slots.specs.declared.Inputs.{Inputs}
-use Rattle.slots.specs.Inputs.{slotAt}
-use Rattle.slots.specs.Sized.{Sized}
-use Rattle.opening.specs.declared.World.{World}
-use Rattle.record.specs.Lent.{Lists}
-use Rattle.record.specs.Effects.{Effect}
-use Rattle.record.specs.Checks.{inputsAllowed, recordNumber}
-use Rattle.record.specs.Reply.{Reply, replied}
-use Rattle.record.proofs.Numbers.{call-low}
+use Rattle.base.proofs.Choices.{refused-old, accepted-new, accepted-all}
+use Rattle.rules_record.specs.declared.ExtraDelay.{ExtraDelay}
+use Rattle.rules_record.specs.declared.Inputs.{Inputs}
+use Rattle.rules_record.specs.declared.Commands.the-variants.{Words}
+use Rattle.rules_record.specs.Inputs.{slotAt}
+use Rattle.rules_record.specs.Sized.{Sized}
+use Rattle.rules_routing.specs.declared.World.{World}
+use Rattle.rules_record.specs.Lent.{Lists}
+use Rattle.rules_record.specs.Effects.{Effect}
+use Rattle.rules_record.specs.Reply.{Reply, replied}
+use Rattle.rules_record.proofs.Checked.{settings-told}
+use Rattle.rules_record.proofs.Numbers.{call-low}
 use Rattle.base.proofs.Choices.{by-zero}
-use Rattle.inputs_new.specs.declared.Settings.{Settings}
-use Rattle.inputs_new.specs.Fresh.{blankFor, noInputs}
-use Rattle.inputs_new.specs.Checks.{newNumber}
-use Rattle.inputs_new.proofs.Accepted.{accepted-of}
-use Rattle.inputs_new.specs.Start.{started}
-use Rattle.inputs_new.specs.Reply.{newReply}
-use Rattle.inputs_route.specs.declared.Wanted.{Wanted}
-use Rattle.inputs_route.specs.Checks.{routeNumber}
-use Rattle.inputs_route.specs.Route.{routed}
-use Rattle.inputs_route.specs.Reply.{routeReply}
-use Rattle.inputs_update.specs.Checks.{updateNumber, confirmNumber}
-use Rattle.inputs_update.specs.Update.{updated, confirmed}
-use Rattle.inputs_update.specs.Reply.{updateReply, confirmReply}
-use Rattle.ticking.specs.declared.Look.{Look}
-use Rattle.ticking.specs.Checks.{tickNumber}
-use Rattle.ticking.specs.Tick.{ticked}
-use Rattle.ticking.specs.Reply.{tickReply}
+use Rattle.rules_calls.specs.declared.Settings.{Settings}
+use Rattle.rules_calls.specs.NewRecord.{blankFor, noInputs}
+use Rattle.rules_calls.specs.NewChecks.{newNumber}
+use Rattle.rules_calls.proofs.NewAccepted.{accepted-of}
+use Rattle.rules_calls.specs.NewStart.{started}
+use Rattle.rules_calls.specs.NewReply.{newReply}
+use Rattle.rules_calls.specs.declared.Wanted.{Wanted}
+use Rattle.rules_calls.specs.RouteChecks.{routeNumber}
+use Rattle.rules_calls.specs.Route.{routed}
+use Rattle.rules_calls.specs.RouteReply.{routeReply}
+use Rattle.rules_calls.specs.UpdateChecks.{updateNumber, confirmNumber}
+use Rattle.rules_calls.specs.Update.{updated, confirmed}
+use Rattle.rules_calls.specs.UpdateReply.{updateReply, confirmReply}
+use Rattle.rules_tick.specs.declared.Look.{Look}
+use Rattle.rules_tick.specs.TickChecks.{tickNumber}
+use Rattle.rules_tick.specs.Tick.{ticked}
+use Rattle.rules_tick.specs.TickReply.{tickReply}
 use Rattle.sent_delays.specs.Last.{lastDelay}
 use Rattle.sent_delays.proofs.Words.{last-padded}
 use Rattle.sent_delays.proofs.Steps.{TellsEffect}
@@ -80,10 +78,6 @@ module _ (number : ℕ) (s : Inputs) (l : Lists) (commands : List ℕ) (effect :
   }
 
 -- ---- the calls on a record, accepted or refused
-allowed-most : (n : ℕ) → inputsAllowed n ≡ true → n ≤ 16
-unfolding inputsAllowed
-allowed-most n h = leb-true _ _ (both-true _ _ h .1)
-
 module _ (s : Inputs) (sized : Sized s) (l : Lists) (commands : List ℕ) where
   pub route-told : (input : ℕ) (wanted : Wanted) (time : ℕ) (world : World) → Told s (routeReply s l commands input wanted time world)
   unfolding routeReply routeNumber
@@ -104,10 +98,10 @@ module _ (s : Inputs) (sized : Sized s) (l : Lists) (commands : List ℕ) where
       (λ e. tells-confirmed input (call-low s l (length commands) input time _ e) time s l sized)
 
   pub tick-told : (looks : List Look) (lags : List ℕ) (time : ℕ) → Told s (tickReply s l commands looks lags time)
-  unfolding tickReply tickNumber recordNumber
+  unfolding tickReply tickNumber
   tick-told looks lags time =
       reply-told (tickNumber s l (length commands) looks lags time) s l commands (ticked looks lags time s l) sized
-      (λ e. tells-ticked looks lags time s l sized (allowed-most (s .count) (asked 0 _ _ e .0)))
+      (λ e. tells-ticked looks lags time s l sized (settings-told s l (Words (length commands)) _ e .0 .allowed .most))
 
   -- ---- .. and accepted: the delay is the samples of the last SetDelay among the commands
   module _ (j : ℕ) (low : j < 16) where

@@ -4,27 +4,27 @@ use mathlib.Core.Path.{_≡_, refl, ap}
 use mathlib.Core.List.{[]}
 use Rattle.base.proofs.Choices.{by-bool, pick-all}
 use Rattle.doubles.specs.Doubles.{samplesOf}
-use Rattle.slots.specs.declared.ExtraDelay.{ExtraDelay}
-use Rattle.slots.specs.declared.ExtraDelay.the-variants.{Auto, Ms}
-use Rattle.slots.specs.declared.Proposal.{Proposal}
-use Rattle.slots.specs.declared.Proposal.the-variants.{Nothing, Pending}
-use Rattle.slots.specs.declared.Routed.{Routed}
-use Rattle.slots.specs.declared.Routed.the-variants.{Nowhere, To}
-use Rattle.slots.specs.declared.Flow.{Flow}
-use Rattle.slots.specs.declared.Slot.{Slot}
-use Rattle.slots.specs.declared.Inputs.{Inputs}
-use Rattle.slots.specs.Inputs.{slotAt, putSlot}
-use Rattle.slots.specs.Sized.{Sized}
-use Rattle.flows.specs.Flows.{enrolled}
-use Rattle.flows.proofs.Table.{enrolled-rest, enrolled-sized}
-use Rattle.opening.specs.declared.World.{World}
-use Rattle.record.specs.Lent.{Lists}
-use Rattle.record.specs.Effects.{followedBy}
-use Rattle.clearing.specs.Clearing.{clearedSlot, cleared}
-use Rattle.inputs_route.specs.declared.Wanted.{Wanted}
-use Rattle.inputs_route.specs.declared.Wanted.the-variants as Wanted
-use Rattle.inputs_route.specs.Route.{enrolledFor, routeFor, equalRoute, startsOver, forgetting, zeroing, startedOver, routedSlot, openedFor, moved, rerouted, routedTo, routed}
-use Rattle.inputs_update.specs.Update.{kindStored, delaySet, updated, taken, confirmedBy, confirmed}
+use Rattle.rules_record.specs.declared.ExtraDelay.{ExtraDelay}
+use Rattle.rules_record.specs.declared.ExtraDelay.the-variants.{Auto, Ms}
+use Rattle.rules_record.specs.declared.Proposal.{Proposal}
+use Rattle.rules_record.specs.declared.Proposal.the-variants.{Nothing, Pending}
+use Rattle.rules_record.specs.declared.Routed.{Routed}
+use Rattle.rules_record.specs.declared.Routed.the-variants.{Nowhere, To}
+use Rattle.rules_record.specs.declared.Flow.{Flow}
+use Rattle.rules_record.specs.declared.Slot.{Slot}
+use Rattle.rules_record.specs.declared.Inputs.{Inputs}
+use Rattle.rules_record.specs.Inputs.{slotAt, putSlot}
+use Rattle.rules_record.specs.Sized.{Sized}
+use Rattle.rules_record.specs.Flows.{enrolled}
+use Rattle.rules_record.proofs.FlowTable.{enrolled-rest, enrolled-sized}
+use Rattle.rules_routing.specs.declared.World.{World}
+use Rattle.rules_record.specs.Lent.{Lists}
+use Rattle.rules_record.specs.Effects.{followedBy}
+use Rattle.rules_routing.specs.Clear.{clearedSlot, cleared}
+use Rattle.rules_calls.specs.declared.Wanted.{Wanted}
+use Rattle.rules_calls.specs.declared.Wanted.the-variants as Wanted
+use Rattle.rules_calls.specs.Route.{enrolledFor, routeFor, equalRoute, startsOver, forgetting, zeroing, startedOver, routedSlot, openedFor, moved, rerouted, routedTo, routed}
+use Rattle.rules_calls.specs.Update.{kindStored, delaySet, updated, taken, confirmedBy, confirmed}
 use Rattle.sent_delays.proofs.Steps.{Tells, TellsDone, TellsEffect, tells-then, tells-same, tells-none, tells-quiet, tells-put, tells-put-delay, tells-clear-input, tells-set, tells-open}
 
 -- enrolling a flow changes no slot

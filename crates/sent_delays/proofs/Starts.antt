@@ -7,22 +7,22 @@ use lib.Dec.{ltb}
 use lib.ListN.{length, getD, length-set, length-replicate, getD-replicate}
 use Rattle.base.proofs.Choices.{pick-all, lt-yes}
 use Rattle.doubles.specs.Doubles.{samplesOf}
-use Rattle.slots.specs.declared.ExtraDelay.{ExtraDelay}
-use Rattle.slots.specs.declared.ExtraDelay.the-variants.{Auto, Ms}
-use Rattle.slots.specs.declared.Flow.{Flow}
-use Rattle.slots.specs.declared.Slot.{Slot}
-use Rattle.slots.specs.declared.Inputs.{Inputs}
-use Rattle.slots.specs.Slots.{emptySlot}
-use Rattle.slots.specs.Inputs.{slotAt}
-use Rattle.slots.specs.Sized.{Sized}
-use Rattle.flows.specs.Flows.{emptyEntry, enrolled, placeOf, kept}
-use Rattle.instances.specs.Instances.{noKey}
-use Rattle.commands.specs.Commands.{quiet}
-use Rattle.record.specs.Lent.{Lists}
-use Rattle.inputs_new.specs.declared.Settings.{Settings}
-use Rattle.inputs_new.specs.Fresh.{blank, blankFor}
-use Rattle.inputs_new.specs.Loading.{loadedFlow, loadedOne, loadedBelow}
-use Rattle.inputs_new.specs.Start.{kindAt, madeAt, startedOne, startedBelow, loaded, started}
+use Rattle.rules_record.specs.declared.ExtraDelay.{ExtraDelay}
+use Rattle.rules_record.specs.declared.ExtraDelay.the-variants.{Auto, Ms}
+use Rattle.rules_record.specs.declared.Flow.{Flow}
+use Rattle.rules_record.specs.declared.Slot.{Slot}
+use Rattle.rules_record.specs.declared.Inputs.{Inputs}
+use Rattle.rules_record.specs.Slots.{emptySlot}
+use Rattle.rules_record.specs.Inputs.{slotAt}
+use Rattle.rules_record.specs.Sized.{Sized}
+use Rattle.rules_record.specs.Flows.{emptyEntry, enrolled, placeOf, kept}
+use Rattle.rules_record.specs.Instances.{noKey}
+use Rattle.rules_record.specs.Commands.{quiet}
+use Rattle.rules_record.specs.Lent.{Lists}
+use Rattle.rules_calls.specs.declared.Settings.{Settings}
+use Rattle.rules_calls.specs.NewRecord.{blank, blankFor}
+use Rattle.rules_calls.specs.NewLoading.{loadedFlow, loadedOne, loadedBelow}
+use Rattle.rules_calls.specs.NewStart.{kindAt, madeAt, startedOne, startedBelow, loaded, started}
 use Rattle.sent_delays.proofs.Steps.{Tells, TellsDone, TellsEffect, tells-then, tells-first, tells-same, tells-none, tells-put, tells-set}
 use Rattle.sent_delays.proofs.OneInput.{tells-enrolled}
 

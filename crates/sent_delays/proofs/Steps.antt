@@ -6,27 +6,27 @@ use mathlib.Core.List.{List, [], _++_}
 use lib.Dec.{eqb}
 use borrow.Author.Tests.{eqb-true, eqb-false}
 use Rattle.base.proofs.Choices.{by-bool, pick-all}
-use Rattle.slots.specs.declared.Slot.{Slot}
-use Rattle.slots.specs.declared.Inputs.{Inputs}
-use Rattle.slots.specs.declared.Inode.{Inode}
-use Rattle.slots.specs.declared.State.the-variants.{Stalled}
-use Rattle.slots.specs.Slots.{stateNumber, withState}
-use Rattle.slots.specs.Inputs.{slotAt, putSlot}
-use Rattle.slots.proofs.Frame.{slot-same, slot-other}
-use Rattle.slots.proofs.Sized.{sized-put}
-use Rattle.slots.specs.Sized.{Sized}
-use Rattle.commands.specs.Commands.{Done, setInput, clearInput, setDelay, quiet, first}
-use Rattle.set_delay.specs.SetDelay.{setDelayOf}
-use Rattle.set_delay.proofs.Stored.{stored-same, stored-other, stored-sized}
-use Rattle.opening.specs.declared.World.{World}
-use Rattle.opening.specs.Opening.{runningSlot, openedSlot, tryOpenOf}
-use Rattle.opening.proofs.Frame.{open-leaves}
-use Rattle.opening.proofs.Outcomes.{open-outcomes}
-use Rattle.watching.specs.Watching.{lostSlot, movedSlot, watchOf}
-use Rattle.watching.proofs.Frame.{watch-leaves}
-use Rattle.watching.proofs.Outcomes.{watch-outcomes}
-use Rattle.record.specs.Lent.{Lists}
-use Rattle.record.specs.Effects.{Effect, followedBy}
+use Rattle.rules_record.specs.declared.Slot.{Slot}
+use Rattle.rules_record.specs.declared.Inputs.{Inputs}
+use Rattle.rules_record.specs.declared.Inode.{Inode}
+use Rattle.rules_record.specs.declared.State.the-variants.{Stalled}
+use Rattle.rules_record.specs.Slots.{stateNumber, withState}
+use Rattle.rules_record.specs.Inputs.{slotAt, putSlot}
+use Rattle.rules_record.proofs.SlotFrame.{slot-same, slot-other}
+use Rattle.rules_record.proofs.Sized.{sized-put}
+use Rattle.rules_record.specs.Sized.{Sized}
+use Rattle.rules_record.specs.Commands.{Done, setInput, clearInput, setDelay, quiet, first}
+use Rattle.rules_routing.specs.SetDelay.{setDelayOf}
+use Rattle.rules_routing.proofs.SetDelayStored.{stored-same, stored-other, stored-sized}
+use Rattle.rules_routing.specs.declared.World.{World}
+use Rattle.rules_routing.specs.TryOpen.{runningSlot, openedSlot, tryOpenOf}
+use Rattle.rules_routing.proofs.TryOpenFrame.{open-leaves}
+use Rattle.rules_routing.proofs.TryOpenOutcomes.{open-outcomes}
+use Rattle.rules_routing.specs.Watch.{lostSlot, movedSlot, watchOf}
+use Rattle.rules_routing.proofs.WatchFrame.{watch-leaves}
+use Rattle.rules_routing.proofs.WatchOutcomes.{watch-outcomes}
+use Rattle.rules_record.specs.Lent.{Lists}
+use Rattle.rules_record.specs.Effects.{Effect, followedBy}
 use Rattle.sent_delays.specs.Last.{lastDelay}
 use Rattle.sent_delays.proofs.Words.{WholeCommands, whole-append, last-append, last-set-input, last-clear-input, last-own, last-other}
 

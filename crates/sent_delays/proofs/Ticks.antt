@@ -9,23 +9,23 @@ use Rattle.delay_hold.specs.declared.Lag.{Lag}
 use Rattle.delay_hold.specs.declared.Change.{Change}
 use Rattle.delay_hold.specs.declared.Change.the-variants.{Keep, To}
 use Rattle.delay_hold.specs.Next.{Decided}
-use Rattle.slots.specs.declared.Slot.{Slot}
-use Rattle.slots.specs.declared.Inputs.{Inputs}
-use Rattle.slots.specs.Slots.{stateNumber, withHold}
-use Rattle.slots.specs.Inputs.{slotAt}
-use Rattle.slots.specs.Sized.{Sized}
-use Rattle.commands.specs.Commands.{quiet}
-use Rattle.instances.specs.declared.Extra.{Extra}
-use Rattle.instances.specs.declared.Extra.the-variants.{Nothing}
-use Rattle.instances.specs.Instances.{pruned}
-use Rattle.instances.proofs.Keys.{pruned-sized, pruned-rest}
-use Rattle.record.specs.Lent.{Lists}
-use Rattle.record.specs.Effects.{beside}
-use Rattle.auto_delay.specs.Arrival.{arrived, largestOf, lateEvent}
-use Rattle.auto_delay.specs.Auto.{nextFor, changing, answered, decidedFor, goesOn, autoDelayed}
-use Rattle.ticking.specs.declared.Look.{Look}
-use Rattle.ticking.specs.Looks.{lookAt, lagsOf}
-use Rattle.ticking.specs.Tick.{heard, looked, tickedInput, tickedBelow, tickedAll, saved, lastly, ticked}
+use Rattle.rules_record.specs.declared.Slot.{Slot}
+use Rattle.rules_record.specs.declared.Inputs.{Inputs}
+use Rattle.rules_record.specs.Slots.{stateNumber, withHold}
+use Rattle.rules_record.specs.Inputs.{slotAt}
+use Rattle.rules_record.specs.Sized.{Sized}
+use Rattle.rules_record.specs.Commands.{quiet}
+use Rattle.rules_record.specs.declared.Extra.{Extra}
+use Rattle.rules_record.specs.declared.Extra.the-variants.{Nothing}
+use Rattle.rules_record.specs.Instances.{pruned}
+use Rattle.rules_record.proofs.InstanceKeys.{pruned-sized, pruned-rest}
+use Rattle.rules_record.specs.Lent.{Lists}
+use Rattle.rules_record.specs.Effects.{beside}
+use Rattle.rules_tick.specs.Arrival.{arrived, largestOf, lateEvent}
+use Rattle.rules_tick.specs.AutoDelay.{nextFor, changing, answered, decidedFor, goesOn, autoDelayed}
+use Rattle.rules_tick.specs.declared.Look.{Look}
+use Rattle.rules_tick.specs.Looks.{lookAt, lagsOf}
+use Rattle.rules_tick.specs.Tick.{heard, looked, tickedInput, tickedBelow, tickedAll, saved, lastly, ticked}
 use Rattle.sent_delays.proofs.Steps.{Tells, TellsDone, TellsEffect, tells-then, tells-followed, tells-changed, tells-same, tells-none, tells-quiet, tells-put, tells-set, tells-open, tells-watch}
 
 -- ---- one input

@@ -7,7 +7,7 @@ use borrow.Author.Tests.{eq-eqb, ne-eqb}
 use Rattle.base.specs.Choice.{both}
 use Rattle.base.specs.Lists.{padded}
 use Rattle.base.proofs.Choices.{yes-pick, no-pick}
-use Rattle.commands.specs.Commands.{setInput, clearInput, setDelay}
+use Rattle.rules_record.specs.Commands.{setInput, clearInput, setDelay}
 use Rattle.sent_delays.specs.Last.{delayTold, lastDelay}
 
 -- "three u32 words a command": no command lacks a word

@@ -1,10 +1,9 @@
 -- No call on a `Schedule` breaks a whole record, and a whole record is not refused by 6. Assumes nothing.
-use Prim.Native.Nat.{ℕ, zero, suc, _+_, _≤_}
+use Prim.Native.Nat.{ℕ, _+_, _≤_}
 use mathlib.Core.Bool.{true}
 use mathlib.Core.Path.{_≡_, refl}
 use native.Mathlib.Omega.{arith}
 use borrow.Author.Tests.{le-leb}
-use Rattle.base.specs.Choice.{accepted}
 use Rattle.base.proofs.Choices.{accepted-all}
 use Rattle.base.proofs.Points.{true-both}
 use Rattle.base.specs.Limits.{timeLimit, spanLimit}

@@ -32,19 +32,19 @@ unfoldable pub wholeSchedule : Schedule → Bool
 wholeSchedule schedule = wholeDown (schedule .«query_down»)
 
 -- the checks of both calls: 6 and 8
-unfoldable pub scheduleNumber : Schedule → ℕ → ℕ
+unfoldable pub scheduleNumber : (schedule : Schedule) (time : ℕ) → ℕ
 scheduleNumber schedule time = callNumber (wholeSchedule schedule) time
 
 -- `query_up`: "yes if never down, or now is at or past the end of the wait"
-unfoldable pub isUp : QueryDown → ℕ → Bool
+unfoldable pub isUp : QueryDown → (time : ℕ) → Bool
 isUp Never time = true
 isUp (Until until wait) time = leb until time
 
 -- an answer: its number, and yes or no; refused: no
-abbrev pub answerBy : ℕ → Bool → Answer
+abbrev pub answerBy : (number : ℕ) (answer : Bool) → Answer
 answerBy number answer = record { number = number; value = accepted number false answer }
 
-unfoldable pub queryUpOf : Schedule → ℕ → Answer
+unfoldable pub queryUpOf : (schedule : Schedule) (time : ℕ) → Answer
 queryUpOf schedule time = answerBy (scheduleNumber schedule time) (isUp (schedule .«query_down») time)
 
 -- `query_failed`: "waits 5 s at first, then twice the wait before, at most 60 s"
@@ -53,9 +53,9 @@ nextWait Never = firstWait
 nextWait (Until until wait) = min (wait * 2) waitLimit
 
 -- a failure at a time: its number, the wait, and the record down for that wait; refused: no wait, and the record as it came
-abbrev pub failureBy : ℕ → ℕ → ℕ → Schedule → Failure
+abbrev pub failureBy : (number wait time : ℕ) (schedule : Schedule) → Failure
 failureBy number wait time schedule =
     record { number = number; value = accepted number 0 wait; schedule = accepted number schedule (record { «query_down» = Until (time + wait) wait }) }
 
-unfoldable pub queryFailedOf : Schedule → ℕ → Failure
+unfoldable pub queryFailedOf : (schedule : Schedule) (time : ℕ) → Failure
 queryFailedOf schedule time = failureBy (scheduleNumber schedule time) (nextWait (schedule .«query_down»)) time schedule

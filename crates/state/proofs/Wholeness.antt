@@ -1,10 +1,10 @@
 -- No call on a `Coalesce` breaks a whole record, and a whole record is not refused by 6. Assumes nothing.
-use Prim.Native.Nat.{ℕ, zero, suc, _+_, _≤_}
+use Prim.Native.Nat.{ℕ, _+_, _≤_}
 use mathlib.Core.Bool.{Bool, true}
 use mathlib.Core.Path.{_≡_, refl, sym, _∙_}
 use native.Mathlib.Omega.{arith}
 use borrow.Author.Tests.{le-leb, lt-leb, leb-true}
-use Rattle.base.specs.Choice.{pick, accepted}
+use Rattle.base.specs.Choice.{pick}
 use Rattle.base.proofs.Choices.{yes-ask, no-ask, asked, accepted-all, by-le, pick-all}
 use Rattle.base.specs.Limits.{timeLimit, spanLimit}
 use Rattle.base.specs.Limits.{callNumber}

@@ -25,19 +25,19 @@ unfoldable pub wholeCoalesce : Coalesce → Bool
 wholeCoalesce coalesce = wholeDue (coalesce .due)
 
 -- "`changed` sets due to now + delay where none is set"
-unfoldable pub dueAfterChange : Due → ℕ → ℕ → Due
+unfoldable pub dueAfterChange : Due → (time delay : ℕ) → Due
 dueAfterChange Unset time delay = At (time + delay)
 dueAfterChange (At due) time delay = At due
 
 -- its checks: "A delay above 600 s gets number 3", then 6 and 8
-unfoldable pub changedNumber : Coalesce → ℕ → ℕ → ℕ
+unfoldable pub changedNumber : (coalesce : Coalesce) (time delay : ℕ) → ℕ
 changedNumber coalesce time delay = ask 3 (leb delay spanLimit) (callNumber (wholeCoalesce coalesce) time)
 
 -- a change: its number, and the record with this due time; refused: the record as it came
-abbrev pub changeBy : ℕ → Due → Coalesce → Change
+abbrev pub changeBy : (number : ℕ) (due : Due) (coalesce : Coalesce) → Change
 changeBy number due coalesce = record { number = number; coalesce = accepted number coalesce (record { due = due }) }
 
-unfoldable pub changedOf : Coalesce → ℕ → ℕ → Change
+unfoldable pub changedOf : (coalesce : Coalesce) (time delay : ℕ) → Change
 changedOf coalesce time delay = changeBy (changedNumber coalesce time delay) (dueAfterChange (coalesce .due) time delay) coalesce
 
 -- "`pending` tells if one is"
@@ -50,24 +50,24 @@ unfoldable pub recordNumber : Coalesce → ℕ
 recordNumber coalesce = ask 6 (wholeCoalesce coalesce) 0
 
 -- an answer: its number, and yes or no; refused: no
-abbrev pub answerBy : ℕ → Bool → Answer
+abbrev pub answerBy : (number : ℕ) (answer : Bool) → Answer
 answerBy number answer = record { number = number; value = accepted number false answer }
 
 unfoldable pub pendingOf : Coalesce → Answer
 pendingOf coalesce = answerBy (recordNumber coalesce) (isSet (coalesce .due))
 
 -- "`take_due` is yes from due on"
-unfoldable pub isDue : Due → ℕ → Bool
+unfoldable pub isDue : Due → (time : ℕ) → Bool
 isDue Unset time = false
 isDue (At due) time = leb due time
 
 -- a take: its number, yes or no, and after a yes the record with its due time cleared; refused: no, and the record as it came
-abbrev pub takenBy : ℕ → Bool → Coalesce → Taken
+abbrev pub takenBy : (number : ℕ) (answer : Bool) (coalesce : Coalesce) → Taken
 takenBy number answer coalesce =
     record { number = number; value = accepted number false answer; coalesce = accepted number coalesce (pick answer freshCoalesce coalesce) }
 
 -- ".. and clears it"; its checks are 6 and 8
-unfoldable pub takeDueOf : Coalesce → ℕ → Taken
+unfoldable pub takeDueOf : (coalesce : Coalesce) (time : ℕ) → Taken
 takeDueOf coalesce time = takenBy (callNumber (wholeCoalesce coalesce) time) (isDue (coalesce .due) time) coalesce
 
 -- "`take` clears it and tells if one was set"

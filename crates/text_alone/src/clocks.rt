@@ -1,24 +1,25 @@
 // `Coalesce`, and the schedule of the Query API.
-use crate::accepted;
-use crate::bad_line;
-use crate::bit_or_refused;
-use crate::done;
-use crate::end;
-use crate::refused;
-use protocol::print::put_bit_after;
-use protocol::print::put_decimal_after;
-use protocol::print::put_none_after;
-use protocol::scan::ends;
-use protocol::words::MaybePair;
-use protocol::words::MaybeWord;
-use protocol::words::maybe_pair_word;
-use protocol::words::maybe_u64_word;
-use protocol::words::u64_word;
 use sources::QueryDown;
 use sources::Schedule;
 use state::Coalesce;
 use state::Due;
 use state::Taken;
+use text_answers::accepted;
+use text_answers::bad_line;
+use text_answers::bit_or_refused;
+use text_answers::done;
+use text_answers::end;
+use text_answers::refused;
+use text_lending::Out;
+use text_protocol::print::put_bit_after;
+use text_protocol::print::put_decimal_after;
+use text_protocol::print::put_none_after;
+use text_protocol::scan::ends;
+use text_protocol::words::MaybePair;
+use text_protocol::words::MaybeWord;
+use text_protocol::words::maybe_pair_word;
+use text_protocol::words::maybe_u64_word;
+use text_protocol::words::u64_word;
 
 // The record after a call, and the place after the answer.
 pub struct CoalesceDone {
@@ -39,7 +40,7 @@ fn due(w: MaybeWord) -> Due {
     Due::Unset
 }
 
-fn show_due(out: &mut [u8], place: usize, coalesce: Coalesce) -> usize {
+fn show_due(out: &mut Out, place: usize, coalesce: Coalesce) -> usize {
     let due = coalesce.due;
     let Due::At(time) = due else {
         return put_none_after(out, place, b' ');
@@ -51,7 +52,7 @@ pub fn co_set(
     coalesce: Coalesce,
     s: &[u8],
     at: usize,
-    out: &mut [u8],
+    out: &mut Out,
     place: usize,
 ) -> CoalesceDone {
     let w = maybe_u64_word(s, at, b' ');
@@ -72,7 +73,7 @@ pub fn co_changed(
     coalesce: Coalesce,
     s: &[u8],
     at: usize,
-    out: &mut [u8],
+    out: &mut Out,
     place: usize,
 ) -> CoalesceDone {
     let time = u64_word(s, at, b' ');
@@ -103,7 +104,7 @@ pub fn co_pending(
     coalesce: Coalesce,
     s: &[u8],
     at: usize,
-    out: &mut [u8],
+    out: &mut Out,
     place: usize,
 ) -> CoalesceDone {
     if !ends(s, at) {
@@ -119,7 +120,7 @@ pub fn co_pending(
     }
 }
 
-fn taken(coalesce: Coalesce, r: Taken, out: &mut [u8], place: usize) -> CoalesceDone {
+fn taken(coalesce: Coalesce, r: Taken, out: &mut Out, place: usize) -> CoalesceDone {
     if r.number != 0 {
         return CoalesceDone {
             coalesce,
@@ -140,7 +141,7 @@ pub fn co_take(
     coalesce: Coalesce,
     s: &[u8],
     at: usize,
-    out: &mut [u8],
+    out: &mut Out,
     place: usize,
 ) -> CoalesceDone {
     if !ends(s, at) {
@@ -156,7 +157,7 @@ pub fn co_take_due(
     coalesce: Coalesce,
     s: &[u8],
     at: usize,
-    out: &mut [u8],
+    out: &mut Out,
     place: usize,
 ) -> CoalesceDone {
     let time = u64_word(s, at, b' ');
@@ -180,7 +181,7 @@ fn down(w: MaybePair) -> QueryDown {
     QueryDown::Never
 }
 
-fn show_down(out: &mut [u8], place: usize, schedule: Schedule) -> usize {
+fn show_down(out: &mut Out, place: usize, schedule: Schedule) -> usize {
     let down = schedule.query_down;
     let QueryDown::Until { until, wait } = down else {
         return put_none_after(out, place, b' ');
@@ -189,13 +190,7 @@ fn show_down(out: &mut [u8], place: usize, schedule: Schedule) -> usize {
     put_decimal_after(out, a, b':', wait)
 }
 
-pub fn q_set(
-    schedule: Schedule,
-    s: &[u8],
-    at: usize,
-    out: &mut [u8],
-    place: usize,
-) -> ScheduleDone {
+pub fn q_set(schedule: Schedule, s: &[u8], at: usize, out: &mut Out, place: usize) -> ScheduleDone {
     let w = maybe_pair_word(s, at, b' ', 18_446_744_073_709_551_615);
     if !ends(s, w.next) {
         return ScheduleDone {
@@ -212,7 +207,7 @@ pub fn q_set(
     }
 }
 
-pub fn q_up(schedule: Schedule, s: &[u8], at: usize, out: &mut [u8], place: usize) -> ScheduleDone {
+pub fn q_up(schedule: Schedule, s: &[u8], at: usize, out: &mut Out, place: usize) -> ScheduleDone {
     let time = u64_word(s, at, b' ');
     if !ends(s, time.next) {
         return ScheduleDone {
@@ -231,7 +226,7 @@ pub fn q_failed(
     schedule: Schedule,
     s: &[u8],
     at: usize,
-    out: &mut [u8],
+    out: &mut Out,
     place: usize,
 ) -> ScheduleDone {
     let time = u64_word(s, at, b' ');

@@ -1,22 +1,23 @@
 // A hold alone, over two lists.
-use crate::accepted;
-use crate::bad_line;
-use crate::done;
-use crate::end;
 use crate::numbers::share;
-use crate::refused;
 use delay_hold::Answer;
 use delay_hold::DelayHold;
 use delay_hold::Lag;
 use policy::DelayPolicy;
-use protocol::print::put_decimal_after;
-use protocol::print::put_none_after;
-use protocol::scan::ends;
-use protocol::words::MaybeSmallWord;
-use protocol::words::hex_word;
-use protocol::words::maybe_u32_word;
-use protocol::words::u32_word;
-use protocol::words::u64_word;
+use text_answers::accepted;
+use text_answers::bad_line;
+use text_answers::done;
+use text_answers::end;
+use text_answers::refused;
+use text_lending::Out;
+use text_protocol::print::put_decimal_after;
+use text_protocol::print::put_none_after;
+use text_protocol::scan::ends;
+use text_protocol::words::MaybeSmallWord;
+use text_protocol::words::hex_word;
+use text_protocol::words::maybe_u32_word;
+use text_protocol::words::u32_word;
+use text_protocol::words::u64_word;
 
 // The hold after a call, and the place after the answer.
 pub struct HoldDone {
@@ -39,7 +40,7 @@ pub fn hnew(
     hold: DelayHold,
     s: &[u8],
     at: usize,
-    out: &mut [u8],
+    out: &mut Out,
     place: usize,
     times: &mut [u64],
     lags: &mut [u32],
@@ -68,7 +69,7 @@ pub fn hset(
     hold: DelayHold,
     s: &[u8],
     at: usize,
-    out: &mut [u8],
+    out: &mut Out,
     place: usize,
     times: &mut [u64],
     lags: &mut [u32],
@@ -125,7 +126,7 @@ fn read_next(s: &[u8], at: usize) -> Asked {
     }
 }
 
-fn show_change(out: &mut [u8], place: usize, answer: Answer) -> usize {
+fn show_change(out: &mut Out, place: usize, answer: Answer) -> usize {
     let a = accepted(out, place);
     let Answer::Changed(delay) = answer else {
         return put_none_after(out, a, b' ');
@@ -145,7 +146,7 @@ pub fn next(
     hold: DelayHold,
     s: &[u8],
     at: usize,
-    out: &mut [u8],
+    out: &mut Out,
     place: usize,
     times: &mut [u64],
     lags: &mut [u32],

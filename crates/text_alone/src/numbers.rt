@@ -1,21 +1,23 @@
 // Milliseconds, samples, needs, and the block clock.
-use crate::accepted;
-use crate::bad_line;
-use crate::end;
-use crate::number_answer;
-use crate::number_or_refused;
-use crate::refused;
 use policy::DelayPolicy;
 use policy::Need;
-use protocol::bits::bits_of;
-use protocol::bits::double;
-use protocol::print::put_hex_after;
-use protocol::scan::ends;
-use protocol::words::hex_word;
-use protocol::words::u32_word;
-use protocol::words::u64_word;
+use policy::Share;
+use text_answers::accepted;
+use text_answers::bad_line;
+use text_answers::end;
+use text_answers::number_answer;
+use text_answers::number_or_refused;
+use text_answers::refused;
+use text_lending::Out;
+use text_protocol::bits::bits_of;
+use text_protocol::bits::double;
+use text_protocol::print::put_hex_after;
+use text_protocol::scan::ends;
+use text_protocol::words::hex_word;
+use text_protocol::words::u32_word;
+use text_protocol::words::u64_word;
 
-pub fn ms(s: &[u8], at: usize, out: &mut [u8], place: usize) -> usize {
+pub fn ms(s: &[u8], at: usize, out: &mut Out, place: usize) -> usize {
     let n = u32_word(s, at, b' ');
     if !ends(s, n.next) {
         return bad_line(out, place);
@@ -25,7 +27,7 @@ pub fn ms(s: &[u8], at: usize, out: &mut [u8], place: usize) -> usize {
     end(out, b)
 }
 
-pub fn samples(s: &[u8], at: usize, out: &mut [u8], place: usize) -> usize {
+pub fn samples(s: &[u8], at: usize, out: &mut Out, place: usize) -> usize {
     let m = hex_word(s, at, b' ');
     if !ends(s, m.next) {
         return bad_line(out, place);
@@ -33,12 +35,19 @@ pub fn samples(s: &[u8], at: usize, out: &mut [u8], place: usize) -> usize {
     number_answer(out, place, doubles::samples(double(m.value)) as u64)
 }
 
-// A policy's share of a percent, whatever the percent is: the call that gets it checks it.
+// A share that check 4 refuses.
+const NO_SHARE: f64 = -1.0;
+
+// A policy's share of a percent, which is asked itself. One that is not from 0 to 1,000 gives a share that check 4 refuses: the call makes
+// that check in its own order.
 pub(crate) fn share(percent: u64) -> f64 {
-    double(percent) / 100.0
+    let Share::Of(share) = policy::share_of(double(percent)) else {
+        return NO_SHARE;
+    };
+    share
 }
 
-pub fn need(s: &[u8], at: usize, out: &mut [u8], place: usize) -> usize {
+pub fn need(s: &[u8], at: usize, out: &mut Out, place: usize) -> usize {
     let offset = u32_word(s, at, b' ');
     let most = u32_word(s, offset.next, b' ');
     let margin = u32_word(s, most.next, b' ');
@@ -62,7 +71,7 @@ pub fn need(s: &[u8], at: usize, out: &mut [u8], place: usize) -> usize {
     }
 }
 
-pub fn index_at(s: &[u8], at: usize, out: &mut [u8], place: usize) -> usize {
+pub fn index_at(s: &[u8], at: usize, out: &mut Out, place: usize) -> usize {
     let time = u64_word(s, at, b' ');
     if !ends(s, time.next) {
         return bad_line(out, place);
@@ -71,7 +80,7 @@ pub fn index_at(s: &[u8], at: usize, out: &mut [u8], place: usize) -> usize {
     number_or_refused(out, place, r.number, r.value)
 }
 
-pub fn time_of(s: &[u8], at: usize, out: &mut [u8], place: usize) -> usize {
+pub fn time_of(s: &[u8], at: usize, out: &mut Out, place: usize) -> usize {
     let index = u64_word(s, at, b' ');
     if !ends(s, index.next) {
         return bad_line(out, place);

@@ -1,19 +1,21 @@
 // A window alone, over three lists.
-use crate::accepted;
-use crate::bad_line;
-use crate::done;
-use crate::end;
-use crate::number_answer;
-use crate::number_or_refused;
-use crate::refused;
 use lag_window::LagWindow;
-use lag_window::Quantile;
-use protocol::bits::double;
-use protocol::print::put_none_after;
-use protocol::scan::ends;
-use protocol::words::hex_word;
-use protocol::words::u32_word;
-use protocol::words::u64_word;
+use rules_window::Quantile;
+use text_answers::accepted;
+use text_answers::bad_line;
+use text_answers::done;
+use text_answers::end;
+use text_answers::number_answer;
+use text_answers::number_or_refused;
+use text_answers::refused;
+use text_lending::Out;
+use text_lending::buckets;
+use text_protocol::bits::double;
+use text_protocol::print::put_none_after;
+use text_protocol::scan::ends;
+use text_protocol::words::hex_word;
+use text_protocol::words::u32_word;
+use text_protocol::words::u64_word;
 
 // The window after a call, and the place after the answer.
 pub struct WindowDone {
@@ -28,19 +30,6 @@ pub struct Asked {
     pub width: u32,
     pub buckets: usize,
     pub next: usize,
-}
-
-// The buckets of these settings, or more than any window has.
-pub fn buckets(offset: u32, most: u32, width: u32) -> usize {
-    if width == 0 {
-        return 4_097;
-    }
-    let reach = offset as u64 + most as u64 + 4_800;
-    let n = reach / width as u64;
-    if 4_094 < n {
-        return 4_097;
-    }
-    n as usize + 2
 }
 
 pub fn read_new(s: &[u8], at: usize) -> Asked {
@@ -61,7 +50,7 @@ pub fn wnew(
     window: LagWindow,
     s: &[u8],
     asked: Asked,
-    out: &mut [u8],
+    out: &mut Out,
     place: usize,
     starts: &mut [u64],
     totals: &mut [u64],
@@ -98,7 +87,7 @@ pub fn wset(
     window: LagWindow,
     s: &[u8],
     at: usize,
-    out: &mut [u8],
+    out: &mut Out,
     place: usize,
     starts: &mut [u64],
     totals: &mut [u64],
@@ -122,7 +111,7 @@ pub fn wpush(
     window: LagWindow,
     s: &[u8],
     at: usize,
-    out: &mut [u8],
+    out: &mut Out,
     place: usize,
     starts: &mut [u64],
     totals: &mut [u64],
@@ -156,7 +145,7 @@ pub fn wclear(
     window: LagWindow,
     s: &[u8],
     at: usize,
-    out: &mut [u8],
+    out: &mut Out,
     place: usize,
     starts: &mut [u64],
     totals: &mut [u64],
@@ -186,7 +175,7 @@ pub fn wspan(
     window: LagWindow,
     s: &[u8],
     at: usize,
-    out: &mut [u8],
+    out: &mut Out,
     place: usize,
     starts: &[u64],
     totals: &[u64],
@@ -199,7 +188,7 @@ pub fn wspan(
     number_or_refused(out, place, r.number, r.span)
 }
 
-fn show_quantile(out: &mut [u8], place: usize, q: Quantile) -> usize {
+fn show_quantile(out: &mut Out, place: usize, q: Quantile) -> usize {
     match q {
         Quantile::End(lag) => number_answer(out, place, lag as u64),
         Quantile::None => {
@@ -215,7 +204,7 @@ pub fn wquant(
     window: LagWindow,
     s: &[u8],
     at: usize,
-    out: &mut [u8],
+    out: &mut Out,
     place: usize,
     starts: &[u64],
     totals: &[u64],

@@ -2,19 +2,19 @@
 use crate::kind_of;
 use base::product_usize;
 use base::sum_usize;
-use inputs_new::Settings;
-use protocol::bits::double;
-use protocol::words::LOST;
-use protocol::words::bit_word;
-use protocol::words::flow_word;
-use protocol::words::hex_word;
-use protocol::words::kind_word;
-use protocol::words::u32_word;
-use protocol::words::u64_word;
-use slots::AutoTag;
-use slots::ExtraDelay;
+use rules_calls::Settings;
+use rules_record::AutoTag;
+use rules_record::ExtraDelay;
 use text_parts::lists::put_u8;
 use text_parts::lists::put_u32;
+use text_protocol::bits::double;
+use text_protocol::words::LOST;
+use text_protocol::words::bit_word;
+use text_protocol::words::flow_word;
+use text_protocol::words::hex_word;
+use text_protocol::words::kind_word;
+use text_protocol::words::u32_word;
+use text_protocol::words::u64_word;
 
 // The bytes of a flow.
 pub const FLOW_BYTES: usize = 16;

@@ -1,19 +1,19 @@
 // The words of `tick`: what it brings for each input, and the lags of all.
 use crate::inode_of;
 use crate::reader_of;
-use opening::Reader;
-use opening::World;
-use protocol::scan::ends;
-use protocol::words::LOST;
-use protocol::words::bit_word;
-use protocol::words::maybe_u32_word;
-use protocol::words::maybe_u64_word;
-use protocol::words::text_end;
-use protocol::words::u32_word;
-use protocol::words::u64_word;
-use slots::Inode;
+use rules_record::Inode;
+use rules_routing::Reader;
+use rules_routing::World;
+use rules_tick::Look;
 use text_parts::lists::put_u32;
-use ticking::Look;
+use text_protocol::scan::ends;
+use text_protocol::words::LOST;
+use text_protocol::words::bit_word;
+use text_protocol::words::maybe_u32_word;
+use text_protocol::words::maybe_u64_word;
+use text_protocol::words::text_end;
+use text_protocol::words::u32_word;
+use text_protocol::words::u64_word;
 
 struct LookWord {
     look: Look,

@@ -5,16 +5,16 @@ use base::place_u32;
 use base::place_u64;
 use base::sum_usize;
 use lag_window::LagWindow;
-use lines::room;
-use protocol::print::put_decimal;
-use protocol::print::put_decimal_after;
-use protocol::print::put_none_after;
-use protocol::print::put_text;
-use protocol::scan::ends;
-use protocol::scan::is_at;
-use protocol::words::LOST;
-use protocol::words::u32_word;
-use protocol::words::u64_word;
+use text_lines::room;
+use text_protocol::print::put_decimal;
+use text_protocol::print::put_decimal_after;
+use text_protocol::print::put_none_after;
+use text_protocol::print::put_text;
+use text_protocol::scan::ends;
+use text_protocol::scan::is_at;
+use text_protocol::words::LOST;
+use text_protocol::words::u32_word;
+use text_protocol::words::u64_word;
 
 // Whether a line's rows could be read, and the window that they make.
 pub struct Crafted {

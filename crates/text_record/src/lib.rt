@@ -4,22 +4,22 @@ use base::product_usize;
 use base::sum_usize;
 use delay_hold::DelayHold;
 use lag_window::LagWindow;
-use lines::room;
-use protocol::print::put_bit_after;
-use protocol::print::put_decimal;
-use protocol::print::put_decimal_after;
-use protocol::print::put_flow_after;
-use protocol::print::put_hex;
-use protocol::print::put_none_after;
-use protocol::print::put_text;
-use slots::ExtraDelay;
-use slots::Inode;
-use slots::Inputs;
-use slots::Proposal;
-use slots::Routed;
-use slots::Slot;
+use rules_record::ExtraDelay;
+use rules_record::Inode;
+use rules_record::Inputs;
+use rules_record::Proposal;
+use rules_record::Routed;
+use rules_record::Slot;
+use text_lines::room;
 use text_parts::lists::part_u32;
 use text_parts::lists::part_u64;
+use text_protocol::print::put_bit_after;
+use text_protocol::print::put_decimal;
+use text_protocol::print::put_decimal_after;
+use text_protocol::print::put_flow_after;
+use text_protocol::print::put_hex;
+use text_protocol::print::put_none_after;
+use text_protocol::print::put_text;
 
 pub mod status;
 mod tables;
@@ -71,14 +71,14 @@ pub(crate) fn show_kind(out: &mut [u8], place: usize, kind: ExtraDelay) -> usize
         return put_text(out, place, b" A");
     };
     let a = put_text(out, place, b" M");
-    put_hex(out, a, protocol::bits::bits_of(delay))
+    put_hex(out, a, text_protocol::bits::bits_of(delay))
 }
 
 fn show_route(out: &mut [u8], place: usize, inputs: Inputs, to: Routed) -> usize {
     let Routed::To(route) = to else {
         return put_none_after(out, place, b' ');
     };
-    let flow = flows::flow_at(inputs, route.flow);
+    let flow = inputs_flows::flow_at(inputs, route.flow);
     let a = put_flow_after(out, place, b' ', flow.high, flow.low);
     put_decimal_after(out, a, b'/', route.domain)
 }
@@ -103,7 +103,7 @@ fn show_slot(out: &mut [u8], place: usize, inputs: Inputs, i: usize, slot: Slot)
     let b = put_text(out, a, b" | ");
     let c = put_decimal(out, b, i as u64);
     let state = slot.state;
-    let d = put_decimal_after(out, c, b' ', slots::code(state) as u64);
+    let d = put_decimal_after(out, c, b' ', inputs_slots::code(state) as u64);
     let config = slot.config;
     let kind = config.extra_delay;
     let e = show_kind(out, d, kind);
@@ -183,7 +183,7 @@ pub fn show_input(
     times: &[u64],
     lags: &[u32],
 ) -> usize {
-    let slot = slots::slot_at(inputs, i);
+    let slot = inputs_slots::slot_at(inputs, i);
     let a = show_slot(out, place, inputs, i, slot);
     let hold = slot.hold;
     let b = show_hold(out, a, full, i, hold, times, lags);

@@ -1,15 +1,15 @@
 // The status of one input.
 use crate::show_kind;
-use inputs_status::Arrival;
-use inputs_status::InputStatus;
-use inputs_status::Milliseconds;
-use inputs_status::Sourced;
-use lines::room;
-use protocol::bits::bits_of;
-use protocol::print::put_decimal_after;
-use protocol::print::put_flow_after;
-use protocol::print::put_hex_after;
-use protocol::print::put_none_after;
+use rules_calls::Arrival;
+use rules_calls::InputStatus;
+use rules_calls::Milliseconds;
+use rules_calls::Sourced;
+use text_lines::room;
+use text_protocol::bits::bits_of;
+use text_protocol::print::put_decimal_after;
+use text_protocol::print::put_flow_after;
+use text_protocol::print::put_hex_after;
+use text_protocol::print::put_none_after;
 
 fn show_source(out: &mut [u8], place: usize, source: Sourced) -> usize {
     let Sourced::From(from) = source else {

@@ -1,42 +1,29 @@
-// The calls on a supervisor (compare/README.md): each reads its words, is made on the part of the lists that it asks for, and its answer is
-// written. The lists have room for 16 inputs; `at` is the place after the call's name.
+// What the calls on a supervisor share: the record before the first `new`, and their answers (compare/README.md).
 use base::product_usize;
 use policy::DelayPolicy;
-use protocol::words::LOST;
-use record::InputsAnswer;
-use slots::Flow;
-use slots::FlowEntry;
-use slots::Inputs;
-use slots::Instance;
-use slots::Remembered;
-use text_alone::accepted;
-use text_alone::bad_line;
-use text_alone::end;
-use text_alone::refused;
-use text_alone::windows::buckets;
+use rules_record::Flow;
+use rules_record::FlowEntry;
+use rules_record::Inputs;
+use rules_record::InputsAnswer;
+use rules_record::Instance;
+use rules_record::Remembered;
+use text_answers::accepted;
+use text_answers::end;
+use text_answers::refused;
+use text_lending::Out;
+use text_lending::buckets;
 use text_parts::lists::part_u32;
+use text_protocol::words::LOST;
 
-pub mod asking;
-pub mod changing;
-pub mod crafting;
-pub mod making;
-pub mod ticks;
-
-// The supervisor, once one was made.
-pub struct Supervisor {
-    pub made: bool,
-    pub inputs: Inputs,
-}
-
-// What a call leaves, and the place after its answer.
+// The record that a call leaves, and the place after its answer.
 pub struct Done {
-    pub supervisor: Supervisor,
+    pub inputs: Inputs,
     pub place: usize,
 }
 
-// Before the first `new`.
-pub fn begin() -> Supervisor {
-    let slot = slots::empty_slot();
+// Before the first `new`: a record of no inputs.
+pub fn begin() -> Inputs {
+    let slot = inputs_slots::empty_slot();
     let slots = [slot; 16];
     let flow = Flow { high: 0, low: 0 };
     let remembered = Remembered::Never;
@@ -52,7 +39,7 @@ pub fn begin() -> Supervisor {
         margin: 0,
         margin_share: 0.0,
     };
-    let inputs = Inputs {
+    Inputs {
         count: 0,
         policy,
         width: 0,
@@ -64,15 +51,11 @@ pub fn begin() -> Supervisor {
         unsaved: false,
         instances,
         instance_count: 0,
-    };
-    Supervisor {
-        made: false,
-        inputs,
     }
 }
 
 // The buckets a second of a record.
-pub(crate) fn buckets_in(inputs: Inputs) -> usize {
+pub fn buckets_in(inputs: Inputs) -> usize {
     let policy = inputs.policy;
     buckets(policy.read_offset, policy.delay_max, inputs.width)
 }
@@ -80,7 +63,7 @@ pub(crate) fn buckets_in(inputs: Inputs) -> usize {
 // ---- answers
 // One input where `only` is not LOST, else all.
 fn show_some(
-    out: &mut [u8],
+    out: &mut Out,
     place: usize,
     full: bool,
     inputs: Inputs,
@@ -122,8 +105,8 @@ fn show_some(
 }
 
 // The commands, the tables and the inputs.
-pub(crate) fn show_record(
-    out: &mut [u8],
+pub fn show_record(
+    out: &mut Out,
     place: usize,
     full: bool,
     inputs: Inputs,
@@ -151,20 +134,12 @@ pub(crate) fn show_record(
     end(out, b)
 }
 
-pub(crate) fn unread(supervisor: Supervisor, out: &mut [u8], place: usize) -> Done {
-    Done {
-        supervisor,
-        place: bad_line(out, place),
-    }
-}
-
-// The answer of a call that leaves a record: that of one input, or of all.
-pub(crate) fn answered(
-    supervisor: Supervisor,
+// The answer of a call that leaves a record: its refusal, or the record of one input, or of all.
+pub fn answered(
     answer: InputsAnswer,
     only: usize,
     full: bool,
-    out: &mut [u8],
+    out: &mut Out,
     place: usize,
     starts: &[u64],
     totals: &[u64],
@@ -172,17 +147,14 @@ pub(crate) fn answered(
     times: &[u64],
     lags: &[u32],
     commands: &[u32],
-) -> Done {
+) -> usize {
     if answer.number != 0 {
-        return Done {
-            supervisor,
-            place: refused(out, place, answer.number),
-        };
+        return refused(out, place, answer.number);
     }
     let inputs = answer.inputs;
     let a = accepted(out, place);
     let words = part_u32(commands, 0, product_usize(inputs.count, 12));
-    let b = show_record(
+    show_record(
         out,
         a,
         full,
@@ -194,10 +166,5 @@ pub(crate) fn answered(
         times,
         lags,
         words,
-    );
-    let left = Supervisor { made: true, inputs };
-    Done {
-        supervisor: left,
-        place: b,
-    }
+    )
 }

@@ -9,29 +9,29 @@ use Rattle.base.proofs.Choices.{by-bool}
 use Rattle.delay_hold.specs.declared.Lag.{Lag}
 use Rattle.delay_hold.specs.Decide.{timerOff, withLower}
 use Rattle.delay_hold.specs.Next.{held, Decided, nextOf, delayAfter, oneMillisecond, alwaysLower}
-use Rattle.slots.specs.declared.Proposal.{Proposal}
-use Rattle.slots.specs.declared.Proposal.the-variants.{Nothing, Pending}
-use Rattle.slots.specs.declared.Slot.{Slot}
-use Rattle.slots.specs.declared.Inputs.{Inputs}
-use Rattle.slots.specs.Slots.{stateNumber, isAuto, withHold, withProposed, withDelayChanges, withDelay}
-use Rattle.slots.specs.Inputs.{slotAt, putSlot}
-use Rattle.slots.proofs.Frame.{slot-same}
-use Rattle.slots.proofs.Sized.{sized-put}
-use Rattle.slots.specs.Sized.{Sized}
+use Rattle.rules_record.specs.declared.Proposal.{Proposal}
+use Rattle.rules_record.specs.declared.Proposal.the-variants.{Nothing, Pending}
+use Rattle.rules_record.specs.declared.Slot.{Slot}
+use Rattle.rules_record.specs.declared.Inputs.{Inputs}
+use Rattle.rules_record.specs.Slots.{stateNumber, isAuto, withHold, withProposed, withDelayChanges, withDelay}
+use Rattle.rules_record.specs.Inputs.{slotAt, putSlot}
+use Rattle.rules_record.proofs.SlotFrame.{slot-same}
+use Rattle.rules_record.proofs.Sized.{sized-put}
+use Rattle.rules_record.specs.Sized.{Sized}
 use Rattle.base.proofs.Tests.{not-both}
-use Rattle.commands.specs.Commands.{quiet, first}
-use Rattle.set_delay.specs.SetDelay.{delayStored, setDelayOf}
-use Rattle.set_delay.proofs.Stored.{stored-same}
-use Rattle.record.specs.Lent.{Lists, windowOf, heldFor, heldOf}
-use Rattle.record.specs.Effects.{Effect}
-use Rattle.keeping.proofs.Settings.{settings-put}
-use Rattle.auto_delay.specs.Arrival.{largestOf}
-use Rattle.auto_delay.specs.Auto.{p999Of, proposedOr, currentOf, nextFor, changing, goesOn, autoDelayed}
-use Rattle.auto_delay.specs.Auto as auto
-use Rattle.auto_delay.specs.Asked.{Ready}
-use Rattle.auto_delay.proofs.Readiness.{ready-low}
-use Rattle.auto_delay.proofs.AutoKeeps.{auto-rule}
-use Rattle.auto_delay.proofs.Views.{window-kept, auto-window, auto-held, auto-delay}
+use Rattle.rules_record.specs.Commands.{quiet, first}
+use Rattle.rules_routing.specs.SetDelay.{delayStored, setDelayOf}
+use Rattle.rules_routing.proofs.SetDelayStored.{stored-same}
+use Rattle.rules_record.specs.Lent.{Lists, windowOf, heldFor, heldOf}
+use Rattle.rules_record.specs.Effects.{Effect}
+use Rattle.rules_routing.proofs.SettingsKept.{settings-put}
+use Rattle.rules_tick.specs.Arrival.{largestOf}
+use Rattle.rules_tick.specs.AutoDelay.{p999Of, proposedOr, currentOf, nextFor, changing, goesOn, autoDelayed}
+use Rattle.rules_tick.specs.AutoDelay as auto
+use Rattle.rules_tick.specs.InputReady.{Ready}
+use Rattle.rules_tick.proofs.Readiness.{ready-low}
+use Rattle.rules_tick.proofs.AutoDelayKeeps.{auto-rule}
+use Rattle.rules_tick.proofs.InputViews.{window-kept, auto-window, auto-held, auto-delay}
 use Rattle.history.specs.View.{rulesOf, InputView, Tick, decidedAt, tickedView}
 use Rattle.history.specs.Events.{ticks, rests, after}
 use Rattle.third_demand.proofs.Lifted.{viewOf}
@@ -74,7 +74,7 @@ module _ (i : ℕ) (largest : Lag) (time : ℕ) (s : Inputs) (l : Lists) (low : 
   unfolding goesOn
   auto-goes = λ t. both (eqb (stateNumber (auto-state t)) 2) (isAuto (auto-config t .«extra_delay»))
 
-module _ (i : ℕ) (tick : Tick) (s : Inputs) (l : Lists) (r : Ready s l i) (sized : Sized s) (soon : tick .time ≤ timeLimit) (off : s .confirm ≡ false) (none : slotAt s i .proposed ≡ Nothing)
+module _ (i : ℕ) (tick : Tick) (s : Inputs) (l : Lists) (r : Ready s l i) (sized : Sized s) (soon : tick .time ≤ timeLimit) (lowers : tick .mayLower ≡ alwaysLower) (off : s .confirm ≡ false) (none : slotAt s i .proposed ≡ Nothing)
     (view : InputView) (is : pushedView tick view ≡ viewOf s l i) where
   abbrev answer : Effect
   answer = autoDelayed i (largestOf (tick .lags)) (tick .time) s l
@@ -86,7 +86,7 @@ module _ (i : ℕ) (tick : Tick) (s : Inputs) (l : Lists) (r : Ready s l i) (siz
   decision-is : decidedAt (rulesOf (s .policy)) view tick ≡ nextFor i (largestOf (tick .lags)) (tick .time) s l
   unfolding nextFor
   decision-is =
-      (λ t. nextOf oneMillisecond alwaysLower (s .policy) (is t .held) (p999Of (s .policy) (is t .window)) (largestOf (tick .lags)) (is t .delay) (tick .time))
+      (λ t. nextOf oneMillisecond (lowers t) (s .policy) (is t .held) (p999Of (s .policy) (is t .window)) (largestOf (tick .lags)) (is t .delay) (tick .time))
       ∙ ap (λ (x : ℕ). nextOf oneMillisecond alwaysLower (s .policy) (heldOf s l i) (p999Of (s .policy) (windowOf s l i)) (largestOf (tick .lags)) x (tick .time)) current-is
 
   abbrev Ends : Effect → Type 0

@@ -1,58 +1,57 @@
--- On a whole record with lists of their lengths a call is refused only by a number above 6. Assumes nothing.
-use Prim.Native.Nat.{ℕ, zero, suc, _*_, _≤_, _<_}
+-- On a whole record with lists of their lengths no call is refused by a check of the record. Assumes nothing.
+use Prim.Native.Nat.{ℕ, zero, suc, _*_, _≤_}
 use mathlib.Core.Bool.{Bool, true, false}
 use mathlib.Core.Path.{_≡_, refl, sym, ap, subst, _∙_}
 use mathlib.Core.List.{List}
-use native.Mathlib.Omega.{arith}
 use lib.ListN.{length}
 use borrow.Author.Tests.{eq-eqb, le-leb}
 use Rattle.base.specs.Limits.{timeLimit}
 use Rattle.base.proofs.Choices.{yes-ask}
 use Rattle.base.specs.Choice.{ask}
-use Rattle.slots.specs.declared.Inputs.{Inputs}
-use Rattle.record.specs.declared.Commands.the-variants.{Words}
-use Rattle.record.specs.Lent.{Lists}
-use Rattle.record.specs.Effects.{Effect}
-use Rattle.record.specs.Reply.{Reply, replied}
-use Rattle.record.specs.Checks.{commandsFit, recordNumber, inputNumber, timedNumber}
-use Rattle.record.proofs.Checked.{of-checked}
-use Rattle.record.specs.Facts.{Checked}
-use Rattle.inputs_update.specs.Checks.{updateNumber}
-use Rattle.inputs_update.specs.Update.{updated}
-use Rattle.inputs_update.specs.Reply.{updateReply}
-use Rattle.inputs_route.specs.Checks.{routeNumber}
-use Rattle.inputs_route.specs.Route.{routed}
-use Rattle.inputs_route.specs.Reply.{routeReply}
-use Rattle.ticking.specs.declared.Look.{Look}
-use Rattle.ticking.specs.Checks.{looksFit, lagsFit, roomsFit, tickNumber}
-use Rattle.ticking.specs.Tick.{ticked}
-use Rattle.ticking.specs.Reply.{tickReply}
-use Rattle.inputs_new.specs.declared.Settings.{Settings}
-use Rattle.inputs_new.specs.Fresh.{blankFor, blank}
+use Rattle.rules_record.specs.declared.Inputs.{Inputs}
+use Rattle.rules_record.specs.declared.Commands.the-variants.{Words}
+use Rattle.rules_record.specs.Lent.{Lists}
+use Rattle.rules_record.specs.Effects.{Effect}
+use Rattle.rules_record.specs.Reply.{Reply, replied}
+use Rattle.rules_record.specs.Checks.{commandsFit, recordNumber, ownNumber, inputNumber, timedNumber}
+use Rattle.rules_record.proofs.Checked.{of-checked}
+use Rattle.rules_calls.specs.UpdateChecks.{updateNumber}
+use Rattle.rules_calls.specs.Update.{updated}
+use Rattle.rules_calls.specs.UpdateReply.{updateReply}
+use Rattle.rules_calls.specs.RouteChecks.{routeNumber}
+use Rattle.rules_calls.specs.Route.{routed}
+use Rattle.rules_calls.specs.RouteReply.{routeReply}
+use Rattle.rules_tick.specs.declared.Look.{Look}
+use Rattle.rules_tick.specs.TickChecks.{looksFit, lagsFit, roomsFit, tickNumber}
+use Rattle.rules_tick.specs.Tick.{ticked}
+use Rattle.rules_tick.specs.TickReply.{tickReply}
+use Rattle.rules_calls.specs.declared.Settings.{Settings}
+use Rattle.rules_calls.specs.NewRecord.{blankFor, blank}
 use Rattle.third_demand.specs.Calls.{Call, routes, updates, ticks, after, Accepted}
-use Rattle.third_demand.proofs.Good.{Good}
+use Rattle.third_demand.proofs.Good.{Sure}
 
--- a number at most 6 is 0
-abbrev Own : ℕ → Type 0
-Own number = number ≤ 6 → number ≡ 0
+-- a number that is none of the record's own
+abbrev Beyond : (number : ℕ) → Type 0
+Beyond number = ownNumber number ≡ false
 
-own-ask : (k : ℕ) (b : Bool) (rest : ℕ) → 6 < k → Own rest → Own (ask k b rest)
+beyond-ask : (k : ℕ) (b : Bool) (rest : ℕ) → Beyond k → Beyond rest → Beyond (ask k b rest)
 unfolding ask
-own-ask k true rest beyond own = own
-own-ask k false rest beyond own = λ le. absurd (omega (arith, beyond, le))
+beyond-ask k true rest here later = later
+beyond-ask k false rest here later = here
 
-own-zero : Own 0
-own-zero = λ le. refl
+beyond-zero : Beyond 0
+unfolding ownNumber
+beyond-zero = refl
 
-reply-own : (s : Inputs) (l : Lists) (commands : List ℕ) (effect : Effect) (number : ℕ) → Own number → Own (replied number s l commands effect .number)
-reply-own s l commands effect zero own = own
-reply-own s l commands effect (suc n) own = own
+reply-beyond : (s : Inputs) (l : Lists) (commands : List ℕ) (effect : Effect) (number : ℕ) → Beyond number → Beyond (replied number s l commands effect .number)
+reply-beyond s l commands effect zero here = here
+reply-beyond s l commands effect (suc n) here = here
 
 reply-passed : (s : Inputs) (l : Lists) (commands : List ℕ) (effect : Effect) (number : ℕ) → number ≡ 0 → replied number s l commands effect .number ≡ 0
 reply-passed s l commands effect zero e = e
 reply-passed s l commands effect (suc n) e = e
 
-module _ (settings : Settings) (n : ℕ) (r : Reply) (g : Good settings n r) where
+module _ (settings : Settings) (n : ℕ) (r : Reply) (g : Sure settings n r) where
   counted : r .inputs .count ≡ settings .count
   unfolding blankFor blank
   counted = ap (λ (s : Inputs). s .count) (g .same)
@@ -60,24 +59,24 @@ module _ (settings : Settings) (n : ℕ) (r : Reply) (g : Good settings n r) whe
   fits : commandsFit (r .inputs .count) (Words (length (r .commands))) ≡ true
   fits = eq-eqb _ _ (g .long ∙ ap (λ (x : ℕ). x * 12) (sym counted))
 
-  own-record : (rest : ℕ) → Own rest → Own (recordNumber (r .inputs) (r .lists) (Words (length (r .commands))) rest)
-  own-record rest own = subst Own (sym (of-checked (r .inputs) (r .lists) (Words (length (r .commands))) (g .checked) fits rest)) own
+  beyond-record : (rest : ℕ) → Beyond rest → Beyond (recordNumber (r .inputs) (r .lists) (Words (length (r .commands))) rest)
+  beyond-record rest later = subst Beyond (sym (of-checked (r .inputs) (r .lists) (Words (length (r .commands))) (g .checked) fits rest)) later
 
-  own-input : (input time rest : ℕ) → Own rest → Own (timedNumber (r .inputs) (r .lists) (length (r .commands)) input time rest)
-  unfolding timedNumber inputNumber
-  own-input input time rest own = own-record _ (own-ask 7 _ _ (omega arith) (own-ask 8 _ _ (omega arith) own))
+  beyond-input : (input time rest : ℕ) → Beyond rest → Beyond (timedNumber (r .inputs) (r .lists) (length (r .commands)) input time rest)
+  unfolding timedNumber inputNumber ownNumber
+  beyond-input input time rest later = beyond-record _ (beyond-ask 7 _ _ refl (beyond-ask 8 _ _ refl later))
 
-  pub beyond : (call : Call) → after r call .number ≤ 6 → Accepted r call
-  unfolding after routeReply updateReply tickReply routeNumber updateNumber tickNumber
+  pub beyond : (call : Call) → Beyond (after r call .number)
+  unfolding ownNumber after routeReply updateReply tickReply routeNumber updateNumber tickNumber
   beyond (routes input wanted time world) =
-      reply-own (r .inputs) (r .lists) (r .commands) (routed input wanted time world (r .inputs) (r .lists)) (routeNumber (r .inputs) (r .lists) (length (r .commands)) input wanted time world)
-      (own-input input time _ (own-ask 9 _ _ (omega arith) (own-ask 10 _ _ (omega arith) own-zero)))
+      reply-beyond (r .inputs) (r .lists) (r .commands) (routed input wanted time world (r .inputs) (r .lists)) (routeNumber (r .inputs) (r .lists) (length (r .commands)) input wanted time world)
+      (beyond-input input time _ (beyond-ask 9 _ _ refl (beyond-ask 10 _ _ refl beyond-zero)))
   beyond (updates input kind time) =
-      reply-own (r .inputs) (r .lists) (r .commands) (updated input kind time (r .inputs) (r .lists)) (updateNumber (r .inputs) (r .lists) (length (r .commands)) input kind time)
-      (own-input input time _ (own-ask 12 _ _ (omega arith) own-zero))
+      reply-beyond (r .inputs) (r .lists) (r .commands) (updated input kind time (r .inputs) (r .lists)) (updateNumber (r .inputs) (r .lists) (length (r .commands)) input kind time)
+      (beyond-input input time _ (beyond-ask 12 _ _ refl beyond-zero))
   beyond (ticks looks lags time) =
-      reply-own (r .inputs) (r .lists) (r .commands) (ticked looks lags time (r .inputs) (r .lists)) (tickNumber (r .inputs) (r .lists) (length (r .commands)) looks lags time)
-      (own-record _ (own-ask 8 _ _ (omega arith) (own-ask 10 _ _ (omega arith) (own-ask 10 _ _ (omega arith) (own-ask 11 _ _ (omega arith) own-zero)))))
+      reply-beyond (r .inputs) (r .lists) (r .commands) (ticked looks lags time (r .inputs) (r .lists)) (tickNumber (r .inputs) (r .lists) (length (r .commands)) looks lags time)
+      (beyond-record _ (beyond-ask 8 _ _ refl (beyond-ask 10 _ _ refl (beyond-ask 10 _ _ refl (beyond-ask 11 _ _ refl beyond-zero)))))
 
   -- a tick that passes 8, 10 and 11
   pub takes :

@@ -1,18 +1,15 @@
--- What an accepted `new` without confirmation leaves. Assumes nothing.
-use Prim.Native.Nat.{ℕ, _*_, _≤_, _<_}
-use mathlib.Core.Bool.{false}
-use mathlib.Core.Path.{_≡_, refl, sym, ap, subst, _∙_}
-use mathlib.Core.List.{List, []}
+-- What an accepted `new` leaves, with confirmation or without. Assumes nothing.
+use Prim.Native.Nat.{ℕ, _*_, _<_}
+use mathlib.Core.Path.{_≡_, refl, ap, _∙_}
+use mathlib.Core.List.{[]}
 use native.Mathlib.Omega.{arith}
 use lib.ListN.{length}
-use Rattle.slots.specs.Inputs.{slotAt}
-use Rattle.record.specs.Reply.{Reply}
-use Rattle.inputs_new.specs.Fresh.{policyOf, noInputs}
-use Rattle.inputs_new.specs.Checks.{newNumber}
-use Rattle.inputs_new.specs.Start.{started, startedBelow, loaded}
-use Rattle.inputs_new.specs.Reply.{newReply}
-use Rattle.inputs_new.proofs.Accepted.{accepted-of}
-use Rattle.history.specs.View.{rulesOf}
+use Rattle.rules_record.specs.Reply.{Reply}
+use Rattle.rules_calls.specs.NewRecord.{policyOf, noInputs}
+use Rattle.rules_calls.specs.NewChecks.{newNumber}
+use Rattle.rules_calls.specs.NewStart.{started, startedBelow, loaded}
+use Rattle.rules_calls.specs.NewReply.{newReply}
+use Rattle.rules_calls.proofs.NewAccepted.{accepted-of}
 use Rattle.history.specs.Events.{freshView, history}
 use Rattle.third_demand.specs.Calls.{Night, fresh}
 use Rattle.third_demand.proofs.Given.{passed-of, given-input}
@@ -42,12 +39,15 @@ module _ (night : Night) (is-new : fresh night .number ≡ 0) where
 
   good : Good (night .settings) 0 (fresh night)
   good = record {
-    checked = begun .checked;
-    same = begun .given;
-    long = long;
-    plain = λ i h.
-        let slot = begun .slot i h in
-        record { proposed = slot .proposed; reopens = omega (arith, slot .reopens); changes = omega (arith, slot .changes); lates = omega (arith, slot .lates) };
+    sure = record {
+      checked = begun .checked;
+      same = begun .given;
+      long = long;
+      counted = λ i h.
+          let slot = begun .slot i h in
+          record { reopens = omega (arith, slot .reopens); changes = omega (arith, slot .changes); lates = omega (arith, slot .lates) };
+    };
+    unproposed = λ i h. begun .slot i h .proposed;
   }
 
   lived : (i : ℕ) → i < night .settings .count → Lived (night .settings) 0 (seenAt (fresh night) i)

@@ -7,19 +7,20 @@ use lib.ListN.{length, length-replicate}
 use borrow.Author.Tests.{eqb-true, eqb-false}
 use Rattle.base.proofs.Choices.{by-bool}
 use Rattle.policy.specs.declared.DelayPolicy.{DelayPolicy}
-use Rattle.lag_window.specs.Window.{lent, bucketsOf, fresh}
-use Rattle.lag_window.specs.Parts.{partOf}
+use Rattle.rules_window.specs.Window.{bucketsOf, fresh}
+use Rattle.rules_window.specs.Window.{windowed}
+use Rattle.rules_window.specs.Parts.{partOf}
 use Rattle.delay_hold.specs.Next.{clearedHold}
-use Rattle.slots.specs.declared.Slot.{Slot}
-use Rattle.slots.specs.declared.Proposal.the-variants.{Nothing}
-use Rattle.slots.specs.declared.Inputs.{Inputs}
-use Rattle.slots.specs.Inputs.{slotAt}
-use Rattle.record.specs.Lent.{Lists, bucketsIn, windowFor, heldFor, heldOf, withWindow, withHeld}
-use Rattle.record.specs.Checks.{Fitting}
-use Rattle.record.proofs.Beside.{Beside, beside-window, window-same, held-same}
-use Rattle.record.proofs.Shapes.{held-times, held-lags}
-use Rattle.clearing.specs.Clearing.{clearedSlot, clearedLists}
-use Rattle.keeping.proofs.Settings.{SameSettings, settings-then}
+use Rattle.rules_record.specs.declared.Slot.{Slot}
+use Rattle.rules_record.specs.declared.Proposal.the-variants.{Nothing}
+use Rattle.rules_record.specs.declared.Inputs.{Inputs}
+use Rattle.rules_record.specs.Inputs.{slotAt}
+use Rattle.rules_record.specs.Lent.{Lists, bucketsIn, windowFor, heldFor, heldOf, withWindow, withHeld}
+use Rattle.rules_record.specs.Checks.{Fitting}
+use Rattle.rules_record.proofs.Beside.{Beside, beside-window, window-same, held-same}
+use Rattle.rules_record.proofs.Shapes.{held-times, held-lags}
+use Rattle.rules_routing.specs.Clear.{clearedSlot, clearedLists}
+use Rattle.rules_routing.proofs.SettingsKept.{SameSettings, settings-then}
 use Rattle.history.specs.View.{InputView}
 use Rattle.history.specs.Events.{history}
 use Rattle.third_demand.proofs.Lifted.{viewOf, Lifted}
@@ -46,7 +47,7 @@ module _ (s z : Inputs) (same : SameSettings s z) where
   view-own m i slot is-slot = λ t. record {
     window =
         partOf i
-        (lent (record { seconds = is-slot t .«lag_seconds»; buckets = bucketsOf (same-policy t .«read_offset») (same-policy t .«delay_max») (same-width t); width = same-width t })
+        (windowed (is-slot t .«lag_seconds») (bucketsOf (same-policy t .«read_offset») (same-policy t .«delay_max») (same-width t)) (same-width t)
         (m .starts) (m .totals) (m .counts));
     held = heldFor m i (is-slot t);
     delay = is-slot t .delay;
@@ -83,20 +84,20 @@ module _ (s : Inputs) (l : Lists) (i : ℕ) (f : Fitting s l) (h : i < s .count)
   unfolding fresh
   view-cleared slot none = λ t. record { window = window t; held = record { hold = slot .hold; times = hold t .times; lags = hold t .lags }; delay = slot .delay }
     where
-      windowed : Lists
-      windowed = withWindow (bucketsIn s) i (fresh (bucketsIn s) (s .width)) l
+      emptied : Lists
+      emptied = withWindow (bucketsIn s) i (fresh (bucketsIn s) (s .width)) l
 
-      beside : Beside (s .count) (bucketsIn s) i l windowed
+      beside : Beside (s .count) (bucketsIn s) i l emptied
       beside = beside-window (s .count) (bucketsIn s) i l (f .long) h (fresh (bucketsIn s) (s .width)) (length-replicate {A = ℕ} 11 0) (length-replicate {A = ℕ} 11 0) (length-replicate {A = ℕ} _ 0)
 
       window : windowFor s (clearedLists i s l) i slot ≡ fresh (bucketsIn s) (s .width)
       window =
-          (λ t. partOf i (lent (record { seconds = none t; buckets = bucketsIn s; width = s .width }) (windowed .starts) (windowed .totals) (windowed .counts)))
+          (λ t. partOf i (windowed (none t) (bucketsIn s) (s .width) (emptied .starts) (emptied .totals) (emptied .counts)))
           ∙ window-same (s .count) (bucketsIn s) i l (f .long) h (fresh (bucketsIn s) (s .width)) (length-replicate {A = ℕ} 11 0) (length-replicate {A = ℕ} 11 0) (length-replicate {A = ℕ} _ 0) (s .width)
 
-      hold : heldFor (withHeld i (clearedHold (heldOf s l i)) windowed) i (clearedSlot slot) ≡ clearedHold (heldOf s l i)
+      hold : heldFor (withHeld i (clearedHold (heldOf s l i)) emptied) i (clearedSlot slot) ≡ clearedHold (heldOf s l i)
       hold =
-          held-same (s .count) (bucketsIn s) i windowed (beside .long) h (clearedHold (heldOf s l i))
+          held-same (s .count) (bucketsIn s) i emptied (beside .long) h (clearedHold (heldOf s l i))
           (length-replicate {A = ℕ} (length (heldOf s l i .times)) 0 ∙ held-times s l f i h)
           (length-replicate {A = ℕ} (length (heldOf s l i .lags)) 0 ∙ held-lags s l f i h)
 

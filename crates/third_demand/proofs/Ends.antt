@@ -1,14 +1,14 @@
 -- A tick as events of one input's history: seeded perhaps, and then the event of its lags. Assumes nothing.
 use Prim.Native.Nat.{ℕ, _≤_}
 use mathlib.Core.Bool.{Bool, true, false}
-use mathlib.Core.Path.{_≡_, refl, sym, ap, subst, _∙_}
+use mathlib.Core.Path.{_≡_, refl, ap, _∙_}
 use mathlib.Core.List.{List, [], _∷_, _++_}
 use native.Mathlib.Omega.{arith}
 use lib.ListN.{length}
 use Rattle.base.specs.Limits.{timeLimit}
 use Rattle.policy.specs.declared.DelayPolicy.{DelayPolicy}
-use Rattle.lag_window.specs.Window.{Window, pushedAll}
-use Rattle.lag_window.specs.Checks.{roomFor}
+use Rattle.rules_window.specs.Window.{Window, pushedAll}
+use Rattle.rules_window.specs.Checks.{roomFor}
 use Rattle.base.proofs.Tests.{not-both}
 use Rattle.history.specs.View.{Rules, rulesOf, InputView, Tick}
 use Rattle.history.specs.Events.{Event, ticks, seeds, after, history, timeOf, Fits, Room, Lawful, clock}

@@ -1,15 +1,14 @@
 -- The settings of `new`, which every call keeps, and the number of an accepted call. Assumes nothing.
-use Prim.Native.Nat.{ℕ, zero, suc, _≤_, _<_}
+use Prim.Native.Nat.{ℕ, zero, suc, _<_}
 use mathlib.Core.Path.{_≡_, sym, ap, subst}
 use mathlib.Core.List.{List}
-use Rattle.policy.specs.declared.DelayPolicy.{DelayPolicy}
-use Rattle.slots.specs.declared.Inputs.{Inputs}
-use Rattle.record.specs.Lent.{Lists}
-use Rattle.record.specs.Effects.{Effect}
-use Rattle.record.specs.Reply.{replied}
-use Rattle.keeping.proofs.Settings.{SameSettings}
-use Rattle.inputs_new.specs.declared.Settings.{Settings}
-use Rattle.inputs_new.specs.Fresh.{policyOf, blank, blankFor}
+use Rattle.rules_record.specs.declared.Inputs.{Inputs}
+use Rattle.rules_record.specs.Lent.{Lists}
+use Rattle.rules_record.specs.Effects.{Effect}
+use Rattle.rules_record.specs.Reply.{replied}
+use Rattle.rules_routing.proofs.SettingsKept.{SameSettings}
+use Rattle.rules_calls.specs.declared.Settings.{Settings}
+use Rattle.rules_calls.specs.NewRecord.{policyOf, blank, blankFor}
 
 -- ---- "All calls keep the settings of `new`."
 module _ (settings : Settings) (z : Inputs) (given : SameSettings (blankFor settings) z) where

@@ -1,31 +1,31 @@
 -- What the tick of one input makes of it, as events of its history: seeded perhaps, then the event of its lags. Assumes nothing.
 use Prim.Native.Nat.{ℕ, _≤_, _<_}
 use mathlib.Core.Bool.{Bool, true, false}
-use mathlib.Core.Path.{_≡_, sym, ap, subst, _∙_}
+use mathlib.Core.Path.{_≡_, refl, sym, ap, subst, _∙_}
 use mathlib.Core.List.{List}
 use lib.Dec.{eqb}
 use lib.ListN.{length}
 use Rattle.base.specs.Limits.{timeLimit}
 use Rattle.policy.specs.declared.DelayPolicy.{DelayPolicy}
-use Rattle.lag_window.specs.Checks.{roomFor}
-use Rattle.slots.specs.declared.State.{State}
-use Rattle.slots.specs.declared.Proposal.the-variants.{Nothing}
-use Rattle.slots.specs.declared.Inputs.{Inputs}
-use Rattle.slots.specs.Slots.{stateNumber}
-use Rattle.slots.specs.Inputs.{slotAt}
-use Rattle.slots.specs.Sized.{Sized}
-use Rattle.record.specs.Lent.{Lists, windowOf}
-use Rattle.record.specs.Effects.{Effect, followedBy}
-use Rattle.auto_delay.specs.Arrival.{largestOf}
-use Rattle.auto_delay.specs.Auto.{goesOn, autoDelayed}
-use Rattle.auto_delay.specs.Asked.{Ready}
-use Rattle.auto_delay.proofs.Readiness.{ready-low}
-use Rattle.ticking.specs.declared.Look.{Look}
-use Rattle.ticking.specs.Tick.{heard, looked, tickedInput}
-use Rattle.ticking.proofs.Looked.{looked-slot}
-use Rattle.ticking.proofs.Frames.{heard-settings, heard-sized, between-settings, between-sized, between-ready}
-use Rattle.ticking.proofs.Proposals.{heard-proposed}
-use Rattle.history.specs.View.{rulesOf, InputView, Tick}
+use Rattle.rules_window.specs.Checks.{roomFor}
+use Rattle.rules_record.specs.declared.State.{State}
+use Rattle.rules_record.specs.declared.Proposal.the-variants.{Nothing}
+use Rattle.rules_record.specs.declared.Inputs.{Inputs}
+use Rattle.rules_record.specs.Slots.{stateNumber}
+use Rattle.rules_record.specs.Inputs.{slotAt}
+use Rattle.rules_record.specs.Sized.{Sized}
+use Rattle.rules_record.specs.Lent.{Lists, windowOf}
+use Rattle.rules_record.specs.Effects.{Effect, followedBy}
+use Rattle.rules_tick.specs.Arrival.{largestOf}
+use Rattle.rules_tick.specs.AutoDelay.{goesOn, autoDelayed}
+use Rattle.rules_tick.specs.InputReady.{Ready}
+use Rattle.rules_tick.proofs.Readiness.{ready-low}
+use Rattle.rules_tick.specs.declared.Look.{Look}
+use Rattle.rules_tick.specs.Tick.{heard, looked, tickedInput}
+use Rattle.rules_tick.proofs.Looked.{looked-slot}
+use Rattle.rules_tick.proofs.TickFrames.{heard-settings, heard-sized, between-settings, between-sized, between-ready}
+use Rattle.rules_tick.proofs.TickProposals.{heard-proposed}
+use Rattle.history.specs.View.{rulesOf, InputView, Tick, tickOf}
 use Rattle.history.specs.Events.{history}
 use Rattle.third_demand.proofs.Lifted.{viewOf, TickLifted}
 use Rattle.third_demand.proofs.Ends.{Seeded, Last, seeded-then}
@@ -34,7 +34,7 @@ use Rattle.third_demand.proofs.AutoViews.{auto-state, auto-config, auto
 
 module _ (i : ℕ) (look : Look) (lags : List ℕ) (time : ℕ) (s : Inputs) (l : Lists) where
   abbrev tick : Tick
-  tick = record { time = time; lags = lags }
+  tick = tickOf time lags
 
   -- the record and the lists between the steps
   abbrev before : Inputs
@@ -84,7 +84,7 @@ module _ (i : ℕ) (look : Look) (lags : List ℕ) (time : ℕ) (s : Inputs) (l 
     ended =
         subst (λ (x : DelayPolicy). Last x tick (goesOn (slotAt (answer .inputs) i)) from (viewOf (answer .inputs) (answer .lists) i)) (ap (λ (x : Inputs). x .policy) (between-settings i look lags time s l))
         (subst (λ (x : Bool). Last (between .policy) tick x from (viewOf (answer .inputs) (answer .lists) i)) (sym (auto-goes i (largestOf lags) time between left input (between-sized i look lags time s l sized)))
-        (auto-last i tick between left (between-ready i look lags time s l r sized soon room) (between-sized i look lags time s l sized) soon
+        (auto-last i tick between left (between-ready i look lags time s l r sized soon room) (between-sized i look lags time s l sized) soon refl
         (ap (λ (x : Inputs). x .confirm) (between-settings i look lags time s l) ∙ off) (between-proposed input sized ∙ none) from (begun .leads)))
 
     pub input-lifted :

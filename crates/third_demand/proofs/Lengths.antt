@@ -1,46 +1,43 @@
 -- How many words a call sends: they fit into the lent commands, whose length stays. Assumes nothing.
 use Prim.Native.Nat.{ℕ, zero, suc, _+_, _*_, _≤_, _<_, zero-le}
-use mathlib.Core.Bool.{Bool, true, false}
-use mathlib.Core.Path.{_≡_, refl, sym, ap, subst, _∙_}
-use mathlib.Core.List.{List, [], _∷_, _++_}
+use mathlib.Core.Path.{_≡_}
+use mathlib.Core.List.{List, [], _++_}
 use native.Mathlib.Omega.{arith}
 use lib.ListN.{length, length-append}
-use Rattle.base.specs.Choice.{pick}
 use Rattle.base.specs.Lists.{padded}
 use Rattle.base.proofs.Choices.{pick-all}
 use Rattle.base.proofs.Pads.{length-padded}
 use Rattle.delay_hold.specs.declared.Lag.{Lag}
-use Rattle.delay_hold.specs.declared.Change.{Change}
-use Rattle.delay_hold.specs.declared.Change.the-variants.{Keep, To}
-use Rattle.slots.specs.declared.ExtraDelay.{ExtraDelay}
-use Rattle.slots.specs.declared.ExtraDelay.the-variants.{Auto, Ms}
-use Rattle.slots.specs.declared.Routed.{Routed}
-use Rattle.slots.specs.declared.Routed.the-variants.{Nowhere, To}
-use Rattle.slots.specs.declared.Slot.{Slot}
-use Rattle.slots.specs.declared.Inputs.{Inputs}
-use Rattle.slots.specs.Inputs.{slotAt}
-use Rattle.slots.proofs.Sized.{sized-put}
-use Rattle.slots.specs.Sized.{Sized}
-use Rattle.commands.specs.Commands.{Done, quiet, first}
-use Rattle.set_delay.specs.SetDelay.{setDelayOf}
-use Rattle.opening.specs.declared.World.{World}
-use Rattle.opening.specs.Opening.{tryOpenOf}
-use Rattle.opening.proofs.Outcomes.{open-outcomes}
-use Rattle.record.specs.Lent.{Lists}
-use Rattle.record.specs.Effects.{Effect, beside, followedBy}
-use Rattle.clearing.specs.Clearing.{cleared}
-use Rattle.auto_delay.specs.Arrival.{arrived, largestOf}
-use Rattle.auto_delay.specs.Auto.{answered, decidedFor, autoDelayed}
-use Rattle.auto_delay.proofs.AutoKeeps.{auto-rule}
-use Rattle.inputs_update.specs.Update.{delaySet, updated}
-use Rattle.inputs_route.specs.declared.Wanted.{Wanted}
-use Rattle.inputs_route.specs.Route.{enrolledFor, routeFor, equalRoute, startsOver, forgetting, zeroing, routedSlot, openedFor, moved, rerouted, routedTo, routed}
-use Rattle.ticking.specs.declared.Look.{Look}
-use Rattle.ticking.specs.Looks.{lookAt, lagsOf}
-use Rattle.ticking.specs.Tick.{heard, looked, tickedInput, tickedBelow, tickedAll, ticked}
-use Rattle.ticking.proofs.Frames.{heard-sized, below-sized}
-use Rattle.ticking.proofs.Looked.{looked-outcomes}
-use Rattle.inputs_new.specs.Start.{kindAt, startedOne, startedBelow}
+use Rattle.delay_hold.specs.declared.Change.the-variants.{To}
+use Rattle.rules_record.specs.declared.ExtraDelay.{ExtraDelay}
+use Rattle.rules_record.specs.declared.ExtraDelay.the-variants.{Auto, Ms}
+use Rattle.rules_record.specs.declared.Routed.{Routed}
+use Rattle.rules_record.specs.declared.Routed.the-variants.{Nowhere, To}
+use Rattle.rules_record.specs.declared.Slot.{Slot}
+use Rattle.rules_record.specs.declared.Inputs.{Inputs}
+use Rattle.rules_record.specs.Inputs.{slotAt}
+use Rattle.rules_record.proofs.Sized.{sized-put}
+use Rattle.rules_record.specs.Sized.{Sized}
+use Rattle.rules_record.specs.Commands.{quiet, first}
+use Rattle.rules_routing.specs.SetDelay.{setDelayOf}
+use Rattle.rules_routing.specs.declared.World.{World}
+use Rattle.rules_routing.specs.TryOpen.{tryOpenOf}
+use Rattle.rules_routing.proofs.TryOpenOutcomes.{open-outcomes}
+use Rattle.rules_record.specs.Lent.{Lists}
+use Rattle.rules_record.specs.Effects.{Effect, beside, followedBy}
+use Rattle.rules_routing.specs.Clear.{cleared}
+use Rattle.rules_tick.specs.Arrival.{arrived, largestOf}
+use Rattle.rules_tick.specs.AutoDelay.{autoDelayed}
+use Rattle.rules_tick.proofs.AutoDelayKeeps.{auto-rule}
+use Rattle.rules_calls.specs.Update.{delaySet, updated}
+use Rattle.rules_calls.specs.declared.Wanted.{Wanted}
+use Rattle.rules_calls.specs.Route.{enrolledFor, routeFor, equalRoute, startsOver, forgetting, zeroing, routedSlot, openedFor, moved, rerouted, routedTo, routed}
+use Rattle.rules_tick.specs.declared.Look.{Look}
+use Rattle.rules_tick.specs.Looks.{lookAt, lagsOf}
+use Rattle.rules_tick.specs.Tick.{heard, looked, tickedInput, tickedBelow, tickedAll, ticked}
+use Rattle.rules_tick.proofs.TickFrames.{heard-sized, below-sized}
+use Rattle.rules_tick.proofs.Looked.{looked-outcomes}
+use Rattle.rules_calls.specs.NewStart.{kindAt, startedOne, startedBelow}
 use Rattle.sent_delays.proofs.OneInput.{tells-wanted}
 
 -- at most so many words

@@ -21,3 +21,5 @@ pub mod Steps
 pub mod Theorem
 pub mod Birth
 pub mod ThirdDemand
+pub mod Opened
+pub mod Examples

@@ -4,9 +4,9 @@ use mathlib.Core.Bool.{Bool, true}
 use mathlib.Core.Path.{_≡_}
 use mathlib.Core.List.{List, [], _∷_, _++_}
 use Rattle.policy.specs.declared.DelayPolicy.{DelayPolicy}
-use Rattle.slots.specs.declared.Inputs.{Inputs}
-use Rattle.slots.specs.Inputs.{slotAt}
-use Rattle.record.specs.Lent.{Lists, windowOf, heldOf}
+use Rattle.rules_record.specs.declared.Inputs.{Inputs}
+use Rattle.rules_record.specs.Inputs.{slotAt}
+use Rattle.rules_record.specs.Lent.{Lists, windowOf, heldOf}
 use Rattle.history.specs.View.{rulesOf, InputView, Tick}
 use Rattle.history.specs.Events.{Event, ticks, history, Lawful, clock}
 

@@ -1,26 +1,25 @@
 -- What an accepted `new` leaves of every input: a fresh one, whose delay is set where it is manual. Assumes nothing.
-use Prim.Native.Nat.{ℕ, _<_, _≤_}
-use mathlib.Core.Path.{_≡_, refl, sym, subst}
+use Prim.Native.Nat.{ℕ, _<_}
+use mathlib.Core.Path.{_≡_, sym, subst}
 use mathlib.Core.List.{List, [], _∷_}
 use native.Mathlib.Omega.{arith}
 use lib.ListN.{length}
-use Rattle.base.specs.Limits.{timeLimit}
 use Rattle.base.proofs.Choices.{accepted-new}
-use Rattle.slots.specs.declared.ExtraDelay.{ExtraDelay}
-use Rattle.slots.specs.declared.ExtraDelay.the-variants.{Auto, Ms}
-use Rattle.slots.specs.declared.Inputs.{Inputs}
-use Rattle.slots.specs.Inputs.{slotAt}
-use Rattle.record.specs.Lent.{Lists, bucketsIn}
-use Rattle.record.specs.Effects.{Effect}
-use Rattle.record.specs.Reply.{Reply, carriedOut}
-use Rattle.record.specs.Facts.{Checked}
-use Rattle.keeping.proofs.Settings.{SameSettings}
-use Rattle.inputs_new.specs.declared.Settings.{Settings}
-use Rattle.inputs_new.specs.Fresh.{policyOf, blank, blankFor}
-use Rattle.inputs_new.specs.Start.{kindAt, started}
-use Rattle.inputs_new.specs.Checks.{newNumber}
-use Rattle.inputs_new.specs.Reply.{newReply}
-use Rattle.inputs_new.proofs.Accepted.{startedDelay, AsStarted, new-checked, new-settings, new-started, new-window, new-held}
+use Rattle.rules_record.specs.declared.ExtraDelay.{ExtraDelay}
+use Rattle.rules_record.specs.declared.ExtraDelay.the-variants.{Auto, Ms}
+use Rattle.rules_record.specs.declared.Inputs.{Inputs}
+use Rattle.rules_record.specs.Inputs.{slotAt}
+use Rattle.rules_record.specs.Lent.{Lists, bucketsIn}
+use Rattle.rules_record.specs.Effects.{Effect}
+use Rattle.rules_record.specs.Reply.{Reply, carriedOut}
+use Rattle.rules_record.specs.Facts.{Checked}
+use Rattle.rules_routing.proofs.SettingsKept.{SameSettings}
+use Rattle.rules_calls.specs.declared.Settings.{Settings}
+use Rattle.rules_calls.specs.NewRecord.{policyOf, blank, blankFor}
+use Rattle.rules_calls.specs.NewStart.{kindAt, started}
+use Rattle.rules_calls.specs.NewChecks.{newNumber}
+use Rattle.rules_calls.specs.NewReply.{newReply}
+use Rattle.rules_calls.proofs.NewAccepted.{startedDelay, AsStarted, new-checked, new-settings, new-started, new-window, new-held}
 use Rattle.history.specs.View.{InputView}
 use Rattle.history.specs.Events.{sets, freshView, after, history}
 use Rattle.third_demand.proofs.Lifted.{viewOf, Lifted}

@@ -3,19 +3,19 @@ use Prim.Native.Nat.{ℕ, zero, suc}
 use mathlib.Core.Path.{_≡_, refl}
 use mathlib.Core.List.{List}
 use lib.ListN.{length}
-use Rattle.slots.specs.declared.Inputs.{Inputs}
-use Rattle.record.specs.Lent.{Lists}
-use Rattle.record.specs.Effects.{Effect}
-use Rattle.record.specs.Reply.{Reply, replied}
-use Rattle.inputs_update.specs.Checks.{updateNumber}
-use Rattle.inputs_update.specs.Update.{updated}
-use Rattle.inputs_update.specs.Reply.{updateReply}
-use Rattle.inputs_route.specs.Checks.{routeNumber}
-use Rattle.inputs_route.specs.Route.{routed}
-use Rattle.inputs_route.specs.Reply.{routeReply}
-use Rattle.ticking.specs.Checks.{tickNumber}
-use Rattle.ticking.specs.Tick.{ticked}
-use Rattle.ticking.specs.Reply.{tickReply}
+use Rattle.rules_record.specs.declared.Inputs.{Inputs}
+use Rattle.rules_record.specs.Lent.{Lists}
+use Rattle.rules_record.specs.Effects.{Effect}
+use Rattle.rules_record.specs.Reply.{Reply, replied}
+use Rattle.rules_calls.specs.UpdateChecks.{updateNumber}
+use Rattle.rules_calls.specs.Update.{updated}
+use Rattle.rules_calls.specs.UpdateReply.{updateReply}
+use Rattle.rules_calls.specs.RouteChecks.{routeNumber}
+use Rattle.rules_calls.specs.Route.{routed}
+use Rattle.rules_calls.specs.RouteReply.{routeReply}
+use Rattle.rules_tick.specs.TickChecks.{tickNumber}
+use Rattle.rules_tick.specs.Tick.{ticked}
+use Rattle.rules_tick.specs.TickReply.{tickReply}
 use Rattle.third_demand.specs.Calls.{Call, routes, updates, ticks, after, Accepted}
 
 -- record, lists and commands are as they were

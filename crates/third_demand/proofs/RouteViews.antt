@@ -9,37 +9,37 @@ use lib.ListN.{length}
 use Rattle.base.specs.Choice.{pick}
 use Rattle.base.specs.Limits.{timeLimit}
 use Rattle.base.proofs.Choices.{accepted-new, pick-all}
-use Rattle.lag_window.specs.Window.{fresh}
+use Rattle.rules_window.specs.Window.{fresh}
 use Rattle.delay_hold.specs.Next.{clearedHold}
-use Rattle.slots.specs.declared.Route.{Route}
-use Rattle.slots.specs.declared.Routed.{Routed}
-use Rattle.slots.specs.declared.Routed.the-variants.{Nowhere, To}
-use Rattle.slots.specs.declared.Proposal.the-variants.{Nothing}
-use Rattle.slots.specs.declared.Slot.{Slot}
-use Rattle.slots.specs.declared.Inputs.{Inputs}
-use Rattle.slots.specs.Inputs.{slotAt, putSlot}
-use Rattle.slots.proofs.Frame.{slot-same}
-use Rattle.slots.proofs.Sized.{sized-put}
-use Rattle.slots.specs.Sized.{Sized}
-use Rattle.commands.specs.Commands.{quiet}
-use Rattle.flows.proofs.Table.{enrolled-rest, enrolled-sized}
-use Rattle.opening.specs.declared.World.{World}
-use Rattle.opening.specs.Opening.{runningSlot, openedSlot}
-use Rattle.opening.proofs.Frame.{Frame, frame-put, frame-then, open-leaves}
-use Rattle.opening.proofs.Outcomes.{startedSlot, open-outcomes}
-use Rattle.record.specs.Lent.{Lists, bucketsIn, heldOf}
-use Rattle.record.specs.Checks.{Fitting}
-use Rattle.record.specs.Effects.{Effect, followedBy}
-use Rattle.record.specs.Reply.{Reply, carriedOut}
-use Rattle.record.proofs.Numbers.{input-told, call-fitting, call-low}
-use Rattle.clearing.specs.Clearing.{clearedSlot, clearedLists, cleared}
-use Rattle.clearing.proofs.Frames.{cleared-beside}
-use Rattle.keeping.proofs.Settings.{SameSettings, settings-put, settings-frame}
-use Rattle.inputs_route.specs.declared.Wanted.{Wanted}
-use Rattle.inputs_route.specs.declared.Wanted.the-variants as Wanted
-use Rattle.inputs_route.specs.Checks.{routeNumber}
-use Rattle.inputs_route.specs.Route.{enrolledFor, routeFor, equalRoute, startsOver, startedOver, routedSlot, openedFor, moved, rerouted, routedTo, routed}
-use Rattle.inputs_route.specs.Reply.{routeReply}
+use Rattle.rules_record.specs.declared.Route.{Route}
+use Rattle.rules_record.specs.declared.Routed.{Routed}
+use Rattle.rules_record.specs.declared.Routed.the-variants.{Nowhere, To}
+use Rattle.rules_record.specs.declared.Proposal.the-variants.{Nothing}
+use Rattle.rules_record.specs.declared.Slot.{Slot}
+use Rattle.rules_record.specs.declared.Inputs.{Inputs}
+use Rattle.rules_record.specs.Inputs.{slotAt, putSlot}
+use Rattle.rules_record.proofs.SlotFrame.{slot-same}
+use Rattle.rules_record.proofs.Sized.{sized-put}
+use Rattle.rules_record.specs.Sized.{Sized}
+use Rattle.rules_record.specs.Commands.{quiet}
+use Rattle.rules_record.proofs.FlowTable.{enrolled-rest, enrolled-sized}
+use Rattle.rules_routing.specs.declared.World.{World}
+use Rattle.rules_routing.specs.TryOpen.{runningSlot, openedSlot}
+use Rattle.rules_routing.proofs.TryOpenFrame.{Frame, frame-put, frame-then, open-leaves}
+use Rattle.rules_routing.proofs.TryOpenOutcomes.{startedSlot, open-outcomes}
+use Rattle.rules_record.specs.Lent.{Lists, bucketsIn, heldOf}
+use Rattle.rules_record.specs.Checks.{Fitting}
+use Rattle.rules_record.specs.Effects.{Effect, followedBy}
+use Rattle.rules_record.specs.Reply.{Reply, carriedOut}
+use Rattle.rules_record.proofs.Numbers.{input-told, call-fitting, call-low}
+use Rattle.rules_routing.specs.Clear.{clearedSlot, clearedLists, cleared}
+use Rattle.rules_routing.proofs.ClearFrames.{cleared-beside}
+use Rattle.rules_routing.proofs.SettingsKept.{SameSettings, settings-put, settings-frame}
+use Rattle.rules_calls.specs.declared.Wanted.{Wanted}
+use Rattle.rules_calls.specs.declared.Wanted.the-variants as Wanted
+use Rattle.rules_calls.specs.RouteChecks.{routeNumber}
+use Rattle.rules_calls.specs.Route.{enrolledFor, routeFor, equalRoute, startsOver, startedOver, routedSlot, openedFor, moved, rerouted, routedTo, routed}
+use Rattle.rules_calls.specs.RouteReply.{routeReply}
 use Rattle.history.specs.View.{InputView, rulesOf}
 use Rattle.history.specs.Events.{Event, seeds, clears, after, history}
 use Rattle.third_demand.proofs.Lifted.{viewOf, Lifted}

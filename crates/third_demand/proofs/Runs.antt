@@ -1,29 +1,29 @@
 -- What every list of calls keeps: the record, and each input's history. Assumes nothing.
-use Prim.Native.Nat.{ℕ, zero, suc, _+_, _≤_, _<_}
+use Prim.Native.Nat.{ℕ, _+_, _≤_, _<_}
 use mathlib.Core.Path.{_≡_, refl, sym, ap, subst, _∙_}
 use mathlib.Core.List.{List, [], _∷_, _++_}
 use native.Mathlib.Omega.{arith}
 use lib.ListN.{length}
-use Rattle.base.specs.Choice.{accepted}
 use Rattle.base.proofs.Choices.{accepted-new, refused-old}
-use Rattle.slots.specs.declared.Slot.{Slot}
-use Rattle.slots.specs.declared.Inputs.{Inputs}
-use Rattle.slots.specs.Inputs.{slotAt}
-use Rattle.record.specs.Lent.{Lists}
-use Rattle.record.specs.Reply.{Reply}
-use Rattle.record.specs.Facts.{Checked}
+use Rattle.rules_record.specs.declared.Slot.{Slot}
+use Rattle.rules_record.specs.declared.Inputs.{Inputs}
+use Rattle.rules_record.specs.Inputs.{slotAt}
+use Rattle.rules_record.specs.Lent.{Lists}
+use Rattle.rules_record.specs.Reply.{Reply}
+use Rattle.rules_record.specs.Facts.{Checked}
 use Rattle.base.proofs.Choices.{by-zero}
-use Rattle.keeping.proofs.Settings.{SameSettings}
-use Rattle.inputs_new.specs.declared.Settings.{Settings}
-use Rattle.inputs_new.specs.Fresh.{policyOf, blankFor}
+use Rattle.rules_routing.proofs.SettingsKept.{SameSettings}
+use Rattle.rules_calls.specs.declared.Settings.{Settings}
+use Rattle.rules_calls.specs.NewRecord.{policyOf, blankFor}
 use Rattle.sent_delays.specs.Last.{lastDelay}
 use Rattle.history.specs.View.{Rules, rulesOf, InputView}
 use Rattle.history.specs.Events.{Event, freshView, history, Lawful, clock}
 use Rattle.history.specs.Events as events
 use Rattle.history.proofs.Demand.{history-append}
-use Rattle.third_demand.specs.Calls.{Call, timeOf, after, run, Accepted, clockAfter, Orderly, toldBy, told}
+use Rattle.third_demand.specs.Calls.{Call, timeOf, after, run, clockAfter, Orderly, toldBy, told}
 use Rattle.third_demand.proofs.Lifted.{viewOf, Lifted}
-use Rattle.third_demand.proofs.Good.{Plain, Good, most, seenAt, Step, Laws}
+use Rattle.third_demand.proofs.Good.{Counted, Sure, Good, most, seenAt, Laws}
+use Rattle.third_demand.proofs.Steps.{sure-step}
 use Rattle.third_demand.proofs.Refused.{Unchanged, refused-after}
 
 -- ---- one list of calls after another
@@ -91,22 +91,59 @@ module _ (settings : Settings) where
   lived-later before time view le life = record { past = life .past; leads = life .leads; lawful = life .lawful; clocked = omega (arith, life .clocked, le) }
 
 -- ---- a refused call
-plain-more : (n : ℕ) (slot : Slot) → Plain n slot → Plain (n + 1) slot
-plain-more n slot p = record { proposed = p .proposed; reopens = omega (arith, p .reopens); changes = omega (arith, p .changes); lates = omega (arith, p .lates) }
+counted-more : (n : ℕ) (slot : Slot) → Counted n slot → Counted (n + 1) slot
+counted-more n slot c = record { reopens = omega (arith, c .reopens); changes = omega (arith, c .changes); lates = omega (arith, c .lates) }
 
-good-unchanged : (settings : Settings) (n : ℕ) (r z : Reply) → Unchanged r z → Good settings n r → Good settings (n + 1) z
-good-unchanged settings n r z u g =
+sure-unchanged : (settings : Settings) (n : ℕ) (r z : Reply) → Unchanged r z → Sure settings n r → Sure settings (n + 1) z
+sure-unchanged settings n r z u g =
     record {
       checked = subst (λ (l : Lists). Checked (z .inputs) l) (sym (u .lists)) (subst (λ (s : Inputs). Checked s (r .lists)) (sym (u .inputs)) (g .checked));
       same = subst (λ (s : Inputs). SameSettings (blankFor settings) s) (sym (u .inputs)) (g .same);
       long = ap length (u .commands) ∙ g .long;
-      plain = λ i h. subst (λ (s : Inputs). Plain (n + 1) (slotAt s i)) (sym (u .inputs)) (plain-more n (slotAt (r .inputs) i) (g .plain i h));
+      counted = λ i h. subst (λ (s : Inputs). Counted (n + 1) (slotAt s i)) (sym (u .inputs)) (counted-more n (slotAt (r .inputs) i) (g .counted i h));
+    }
+
+good-unchanged : (settings : Settings) (n : ℕ) (r z : Reply) → Unchanged r z → Good settings n r → Good settings (n + 1) z
+good-unchanged settings n r z u g =
+    record {
+      sure = sure-unchanged settings n r z u (g .sure);
+      unproposed = λ i h. ap (λ (s : Inputs). slotAt s i .proposed) (u .inputs) ∙ g .unproposed i h;
     }
 
 pub seen-unchanged : (r z : Reply) (i : ℕ) → Unchanged r z → seenAt z i ≡ seenAt r i
 seen-unchanged r z i u = λ t. viewOf (u .inputs t) (u .lists t) i
 
--- ---- every list of calls
+-- ---- every list of calls, with confirmation or without
+module _ (settings : Settings) where
+  pub sure-after : (n : ℕ) (r : Reply) (call : Call) → n < most → Sure settings n r → Sure settings (n + 1) (after r call)
+  sure-after n r call few g =
+      by-zero (after r call .number) (λ took. sure-step settings n r call few g took .sure) (λ refused. sure-unchanged settings n r (after r call) (refused-after r call refused) g)
+
+  pub sure-run : (n : ℕ) (r : Reply) (calls : List Call) → n + length calls < most → Sure settings n r → Sure settings (n + length calls) (run r calls)
+  unfolding run
+  sure-run n r [] few g = subst (λ (x : ℕ). Sure settings x r) (omega arith) g
+  sure-run n r (call ∷ calls) few g =
+      subst (λ (x : ℕ). Sure settings x (run (after r call) calls)) (omega arith)
+      (sure-run (n + 1) (after r call) calls (omega (arith, few)) (sure-after n r call (omega (arith, few)) g))
+
+  pub told-run :
+      (n : ℕ) (r : Reply) (calls : List Call) (i before : ℕ) → n + length calls < most → i < settings .count → Sure settings n r → before ≡ slotAt (r .inputs) i .delay →
+      told i before r calls ≡ slotAt (run r calls .inputs) i .delay
+  unfolding run told toldBy
+  told-run n r [] i before few h g e = e
+  told-run n r (call ∷ calls) i before few h g e =
+      told-run (n + 1) (after r call) calls i (toldBy i before r call) (omega (arith, few)) h (sure-after n r call (omega (arith, few)) g)
+      (by-zero (after r call .number)
+      (λ took.
+      accepted-new (after r call .number) before (lastDelay i before (after r call .commands)) took
+      ∙ ap (λ (x : ℕ). lastDelay i x (after r call .commands)) e
+      ∙ sym (sure-step settings n r call (omega (arith, few)) g took .told i h))
+      (λ refused.
+      refused-old (after r call .number) before _ refused
+      ∙ e
+      ∙ sym (ap (λ (s : Inputs). slotAt s i .delay) (refused-after r call refused .inputs))))
+
+-- ---- every list of calls, without confirmation
 module _ (settings : Settings) (laws : Laws settings) where
   pub good-after : (n : ℕ) (r : Reply) (call : Call) → n < most → Good settings n r → Good settings (n + 1) (after r call)
   good-after n r call few g =
@@ -133,20 +170,3 @@ module _ (settings : Settings) (laws : Laws settings) where
       (λ refused.
       subst (λ (x : ℕ). Lived settings x (seenAt (after r call) i)) (sym (refused-old (after r call .number) clock (timeOf call) refused))
       (subst (Lived settings clock) (sym (seen-unchanged r (after r call) i (refused-after r call refused))) life)))
-
-  pub told-run :
-      (n : ℕ) (r : Reply) (calls : List Call) (i before : ℕ) → n + length calls < most → i < settings .count → Good settings n r → before ≡ slotAt (r .inputs) i .delay →
-      told i before r calls ≡ slotAt (run r calls .inputs) i .delay
-  unfolding run told toldBy
-  told-run n r [] i before few h g e = e
-  told-run n r (call ∷ calls) i before few h g e =
-      told-run (n + 1) (after r call) calls i (toldBy i before r call) (omega (arith, few)) h (good-after n r call (omega (arith, few)) g)
-      (by-zero (after r call .number)
-      (λ took.
-      accepted-new (after r call .number) before (lastDelay i before (after r call .commands)) took
-      ∙ ap (λ (x : ℕ). lastDelay i x (after r call .commands)) e
-      ∙ sym (laws .step n r call (omega (arith, few)) g took .told i h))
-      (λ refused.
-      refused-old (after r call .number) before _ refused
-      ∙ e
-      ∙ sym (ap (λ (s : Inputs). slotAt s i .delay) (refused-after r call refused .inputs))))

@@ -11,33 +11,33 @@ use Rattle.base.specs.Limits.{timeLimit}
 use Rattle.base.specs.Lists.{part}
 use Rattle.base.proofs.Choices.{pick-all}
 use Rattle.base.proofs.Points.{both-true}
-use Rattle.lag_window.specs.Window.{lent}
-use Rattle.lag_window.specs.Parts.{partOf}
-use Rattle.lag_window.specs.Checks.{roomFor}
+use Rattle.rules_window.specs.Window.{windowed}
+use Rattle.rules_window.specs.Parts.{partOf}
+use Rattle.rules_window.specs.Checks.{roomFor}
 use Rattle.delay_hold.specs.Next.{held, seededHold}
-use Rattle.slots.specs.declared.State.the-variants.{Stalled}
-use Rattle.slots.specs.declared.Slot.{Slot}
-use Rattle.slots.specs.declared.Inputs.{Inputs}
-use Rattle.slots.specs.Slots.{stateNumber, withState}
-use Rattle.slots.specs.Inputs.{slotAt}
-use Rattle.slots.specs.Sized.{Sized}
-use Rattle.opening.specs.Opening.{runningSlot, openedSlot, startsAnew}
-use Rattle.opening.proofs.Outcomes.{startedSlot}
-use Rattle.watching.specs.Watching.{lostSlot, movedSlot}
-use Rattle.record.specs.Lent.{Lists, bucketsIn, windowFor, windowOf, heldFor, heldOf}
-use Rattle.record.specs.Effects.{Effect, followedBy}
-use Rattle.keeping.proofs.Opening.{opened-seconds, opened-hold}
-use Rattle.keeping.proofs.Watching.{moved-seconds, moved-hold}
-use Rattle.auto_delay.specs.Arrival.{windowAfter, lastLag, arrivedSlot, arrived, largestOf, lateSlot}
-use Rattle.auto_delay.specs.Asked.{Ready}
-use Rattle.auto_delay.proofs.Arriving.{arrived-slot}
-use Rattle.auto_delay.proofs.LateKeeps.{late-slot}
-use Rattle.auto_delay.proofs.Views.{arrived-window, arrived-held, late-window, late-held}
-use Rattle.ticking.specs.declared.Look.{Look}
-use Rattle.ticking.specs.Tick.{heard, looked}
-use Rattle.ticking.proofs.Looked.{looked-settings, looked-outcomes}
-use Rattle.ticking.proofs.Frames.{arrived-sized}
-use Rattle.history.specs.View.{InputView, Tick}
+use Rattle.rules_record.specs.declared.State.the-variants.{Stalled}
+use Rattle.rules_record.specs.declared.Slot.{Slot}
+use Rattle.rules_record.specs.declared.Inputs.{Inputs}
+use Rattle.rules_record.specs.Slots.{stateNumber, withState}
+use Rattle.rules_record.specs.Inputs.{slotAt}
+use Rattle.rules_record.specs.Sized.{Sized}
+use Rattle.rules_routing.specs.TryOpen.{runningSlot, openedSlot, startsAnew}
+use Rattle.rules_routing.proofs.TryOpenOutcomes.{startedSlot}
+use Rattle.rules_routing.specs.Watch.{lostSlot, movedSlot}
+use Rattle.rules_record.specs.Lent.{Lists, bucketsIn, windowFor, windowOf, heldFor, heldOf}
+use Rattle.rules_record.specs.Effects.{Effect, followedBy}
+use Rattle.rules_routing.proofs.TryOpenKeeps.{opened-seconds, opened-hold}
+use Rattle.rules_routing.proofs.WatchKeeps.{moved-seconds, moved-hold}
+use Rattle.rules_tick.specs.Arrival.{windowAfter, lastLag, arrivedSlot, arrived, largestOf, lateSlot}
+use Rattle.rules_tick.specs.InputReady.{Ready}
+use Rattle.rules_tick.proofs.ArrivalKeeps.{arrived-slot}
+use Rattle.rules_tick.proofs.LateKeeps.{late-slot}
+use Rattle.rules_tick.proofs.InputViews.{arrived-window, arrived-held, late-window, late-held}
+use Rattle.rules_tick.specs.declared.Look.{Look}
+use Rattle.rules_tick.specs.Tick.{heard, looked}
+use Rattle.rules_tick.proofs.Looked.{looked-settings, looked-outcomes}
+use Rattle.rules_tick.proofs.TickFrames.{arrived-sized}
+use Rattle.history.specs.View.{InputView, Tick, tickOf}
 use Rattle.history.specs.Events.{after}
 use Rattle.third_demand.proofs.Lifted.{viewOf}
 use Rattle.third_demand.proofs.Ends.{pushedView, Seeded, seeded-none, seeded-once}
@@ -72,7 +72,7 @@ module _ (i : ℕ) (look : Look) (lags : List ℕ) (time : ℕ) (s : Inputs) (l 
   heard-delay = ap (λ (x : Slot). x .delay) heard-slot
 
   pub heard-view : Ready s l i → time ≤ timeLimit → roomFor time (length lags) (windowOf s l i) ≡ true
-      → pushedView (record { time = time; lags = lags }) (viewOf s l i) ≡ viewOf (heard i look lags time s l .inputs) (heard i look lags time s l .lists) i
+      → pushedView (tickOf time lags) (viewOf s l i) ≡ viewOf (heard i look lags time s l .inputs) (heard i look lags time s l .lists) i
   unfolding heard followedBy windowAfter
   heard-view r soon room = sym (λ t. record {
     window = (late-window i (look .applied) (largestOf lags) (pushed .inputs) (pushed .lists) low pushed-long ∙ arrived-window i time lags s l r (sized .slots) soon room) t;
@@ -110,7 +110,7 @@ module _ (i : ℕ) (look : Look) (s : Inputs) (l : Lists) (tick : Tick) (input :
     -- a slot whose seconds, hold and delay stay
     same : (new : Slot) → new .«lag_seconds» ≡ slotAt s i .«lag_seconds» → new .hold ≡ slotAt s i .hold → new .delay ≡ slotAt s i .delay → viewFor s l i new ≡ viewOf s l i
     same new seconds hold delay = λ t. record {
-      window = partOf i (lent (record { seconds = seconds t; buckets = bucketsIn s; width = s .width }) (l .starts) (l .totals) (l .counts));
+      window = partOf i (windowed (seconds t) (bucketsIn s) (s .width) (l .starts) (l .totals) (l .counts));
       held = held (hold t) (part (i * 600) 600 (l .times)) (part (i * 600) 600 (l .lags));
       delay = delay t;
     }
@@ -125,7 +125,7 @@ module _ (i : ℕ) (look : Look) (s : Inputs) (l : Lists) (tick : Tick) (input :
     starts new delay seconds hold anew most =
         seeded-once (s .policy) tick _ view (viewFor s l i (startedSlot new delay (tick .time))) delay soon most (anew-rested anew)
         (λ t. record {
-          window = (ap (λ (x : InputView). x .window) is ∙ (λ k. partOf i (lent (record { seconds = sym seconds k; buckets = bucketsIn s; width = s .width }) (l .starts) (l .totals) (l .counts)))) t;
+          window = (ap (λ (x : InputView). x .window) is ∙ (λ k. partOf i (windowed (sym seconds k) (bucketsIn s) (s .width) (l .starts) (l .totals) (l .counts)))) t;
           held = (ap (λ (x : InputView). held (seededHold (x .held .hold) delay (tick .time)) (x .held .times) (x .held .lags)) is ∙ (λ k. held (seededHold (sym hold k) delay (tick .time)) (part (i * 600) 600 (l .times)) (part (i * 600) 600 (l .lags)))) t;
           delay = delay;
         })
@@ -158,7 +158,7 @@ module _ (i : ℕ) (look : Look) (s : Inputs) (l : Lists) (tick : Tick) (input :
     view-under : viewFor s l i (slotAt seen i) ≡ viewOf seen l i
     unfolding bucketsIn
     view-under = sym (λ t. record {
-      window = partOf i (lent (record { seconds = slotAt seen i .«lag_seconds»; buckets = bucketsIn (looked-settings i look (tick .time) s t); width = looked-settings i look (tick .time) s t .width }) (l .starts) (l .totals) (l .counts));
+      window = partOf i (windowed (slotAt seen i .«lag_seconds») (bucketsIn (looked-settings i look (tick .time) s t)) (looked-settings i look (tick .time) s t .width) (l .starts) (l .totals) (l .counts));
       held = heldOf seen l i;
       delay = slotAt seen i .delay;
     })

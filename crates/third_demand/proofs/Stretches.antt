@@ -9,22 +9,18 @@ use lib.ListN.{length}
 use Rattle.base.specs.Limits.{nanos}
 use Rattle.base.proofs.Choices.{accepted-new, refused-old}
 use Rattle.base.proofs.Points.{both-true}
-use Rattle.slots.specs.declared.ExtraDelay.{ExtraDelay}
-use Rattle.slots.specs.declared.Slot.{Slot}
-use Rattle.slots.specs.declared.Inputs.{Inputs}
-use Rattle.slots.specs.Slots.{stateNumber, isAuto}
-use Rattle.slots.specs.Inputs.{slotAt}
-use Rattle.opening.specs.declared.World.{World}
-use Rattle.record.specs.Reply.{Reply}
+use Rattle.rules_record.specs.declared.Slot.{Slot}
+use Rattle.rules_record.specs.declared.Inputs.{Inputs}
+use Rattle.rules_record.specs.Slots.{stateNumber, isAuto}
+use Rattle.rules_record.specs.Inputs.{slotAt}
+use Rattle.rules_record.specs.Reply.{Reply}
 use Rattle.base.proofs.Choices.{by-zero}
-use Rattle.auto_delay.specs.Auto.{goesOn}
-use Rattle.inputs_new.specs.declared.Settings.{Settings}
-use Rattle.inputs_new.specs.Fresh.{policyOf}
-use Rattle.inputs_route.specs.declared.Wanted.{Wanted}
-use Rattle.ticking.specs.declared.Look.{Look}
-use Rattle.ticking.specs.Looks.{lagsOf}
-use Rattle.history.specs.View.{Rules, rulesOf, InputView, Tick}
-use Rattle.history.specs.Events.{Event, history, Lawful}
+use Rattle.rules_tick.specs.AutoDelay.{goesOn}
+use Rattle.rules_calls.specs.declared.Settings.{Settings}
+use Rattle.rules_calls.specs.NewRecord.{policyOf}
+use Rattle.rules_tick.specs.Looks.{lagsOf}
+use Rattle.history.specs.View.{Rules, rulesOf, InputView, Tick, tickOf}
+use Rattle.history.specs.Events.{history, Lawful}
 use Rattle.history.specs.Events as events
 use Rattle.history.specs.Stretch.{runningTicks}
 use Rattle.history.specs.Stretch as stretches
@@ -61,10 +57,10 @@ module _ (settings : Settings) (laws : Laws settings) (i L : ℕ) (h : i < setti
   -- one tick, then the others
   joined :
       (before : ℕ) (view : InputView) (tick : Tick) (mid next : InputView) (end : ℕ) → TickLifted (policyOf settings) tick true true view mid → before ≤ tick .time →
-      tick .time ≤ before + 5 * nanos → stretches.NonEmpty (tick .lags) → stretches.NoneAbove L (tick .lags) → Steadily settings L (tick .time) mid next end →
+      tick .time ≤ before + 5 * nanos → tick .mayLower ≡ true → stretches.NonEmpty (tick .lags) → stretches.NoneAbove L (tick .lags) → Steadily settings L (tick .time) mid next end →
       Steadily settings L before view next end
   unfolding history
-  joined before view tick mid next end lift le soon some none-above st =
+  joined before view tick mid next end lift le soon may some none-above st =
       let is-one : lift .seeding ++ (lift .last ∷ []) ≡ events.ticks tick ∷ [] = (λ t. lift .unseeded refl t ++ (lift .runs-on refl t ∷ [])) in
       let leads : history rules view (events.ticks tick ∷ []) ≡ mid = ap (history rules view) (sym is-one) ∙ lift .leads in
       let law : Lawful rules before view (events.ticks tick ∷ []) = subst (Lawful rules before view) is-one (lift .lawful before le) in
@@ -72,7 +68,7 @@ module _ (settings : Settings) (laws : Laws settings) (i L : ℕ) (h : i < setti
         passed = tick ∷ st .passed;
         leads = ap (λ (x : InputView). history rules x (runningTicks (st .passed))) leads ∙ st .leads;
         lawful = (law .0, law .1, law .2, law .3, subst (λ (x : InputView). Lawful rules (tick .time) x (runningTicks (st .passed))) (sym leads) (st .lawful));
-        stretch = (soon, some, none-above, st .stretch);
+        stretch = (soon, may, some, none-above, st .stretch);
         ends = st .ends;
       }
 
@@ -98,14 +94,14 @@ module _ (settings : Settings) (laws : Laws settings) (i L : ℕ) (h : i < setti
 
     onward-taken : (call : Call) → Accepted r call → clock ≤ timeOf call → Goes i L before r call → Onward settings i L before (seenAt r i) (after r call) (lastTick before r call) (clockAfter clock r call)
     onward-taken (routes input wanted time world) took order goes =
-        still (routes input wanted time world) (laws .route-other n r input wanted time world i g took h goes) (accepted-last _ took order)
+        still (routes input wanted time world) (laws .route-other n r input wanted time world i (g .sure) took h goes) (accepted-last _ took order)
         (subst (λ (x : ℕ). before ≤ x) (sym (accepted-clock (routes input wanted time world) took order)) (omega (arith, le, order)))
     onward-taken (updates input kind time) took order goes =
-        still (updates input kind time) (laws .update-other n r input kind time i g took h goes) (accepted-last _ took order)
+        still (updates input kind time) (laws .update-other n r input kind time i (g .sure) took h goes) (accepted-last _ took order)
         (subst (λ (x : ℕ). before ≤ x) (sym (accepted-clock (updates input kind time) took order)) (omega (arith, le, order)))
     onward-taken (ticks looks lags time) took order goes =
         let call : Call = ticks looks lags time in
-        let tick : Tick = record { time = time; lags = lagsOf looks lags i } in
+        let tick : Tick = tickOf time (lagsOf looks lags i) in
         let lift : TickLifted (policyOf settings) tick true true (seenAt r i) (seenAt (after r call) i) =
         subst (λ (b : Bool). TickLifted (policyOf settings) tick true b (seenAt r i) (seenAt (after r call) i)) (goes .runs)
         (subst (λ (b : Bool). TickLifted (policyOf settings) tick b (goesOn (slotAt (after r call .inputs) i)) (seenAt r i) (seenAt (after r call) i)) (ran-of (slotAt (r .inputs) i) runs)
@@ -117,7 +113,7 @@ module _ (settings : Settings) (laws : Laws settings) (i L : ℕ) (h : i < setti
               subst (λ (x : ℕ). x ≤ clockAfter clock r call) (sym (accepted-last call took order))
               (subst (λ (x : ℕ). time ≤ x) (sym (accepted-clock call took order)) (omega arith));
           prefix = λ {next} {end} st.
-              joined before (seenAt r i) tick (seenAt (after r call) i) next end lift (omega (arith, le, order)) (omega (arith, goes .soon)) (goes .lagged) (goes .none-above)
+              joined before (seenAt r i) tick (seenAt (after r call) i) next end lift (omega (arith, le, order)) (omega (arith, goes .soon)) refl (goes .lagged) (goes .none-above)
               (subst (λ (x : ℕ). Steadily settings L x (seenAt (after r call) i) next end) (accepted-last call took order) st);
         }
 

@@ -1,5 +1,5 @@
 -- The third demand is met, given the laws of one call and of `new`. Assumes nothing.
-use Prim.Native.Nat.{ℕ, zero, suc, _+_, _*_, _≤_, _<_}
+use Prim.Native.Nat.{ℕ, suc, _+_, _*_, _≤_, _<_}
 use mathlib.Core.Bool.{Bool, true, false}
 use mathlib.Core.Path.{_≡_, refl, sym, ap, subst, _∙_}
 use mathlib.Core.List.{List, [], _∷_, _++_}
@@ -8,38 +8,34 @@ use lib.Dec.{eqb}
 use lib.ListN.{length}
 use Rattle.base.specs.Limits.{nanos}
 use Rattle.base.proofs.Choices.{accepted-new}
-use Rattle.policy.specs.declared.DelayPolicy.{DelayPolicy}
 use Rattle.policy.specs.Need.{needOf}
-use Rattle.delay_hold.specs.declared.Lag.{Lag}
 use Rattle.delay_hold.specs.declared.Lag.the-variants.{Of}
-use Rattle.slots.specs.declared.Inputs.{Inputs}
-use Rattle.slots.specs.Slots.{stateNumber}
-use Rattle.slots.specs.Inputs.{slotAt}
-use Rattle.record.specs.Reply.{Reply}
-use Rattle.record.proofs.Facts.{of-whole}
-use Rattle.record.specs.Checks as checks
-use Rattle.auto_delay.specs.Auto.{goesOn}
-use Rattle.auto_delay.specs.Arrival.{largestOf}
-use Rattle.inputs_new.specs.declared.Settings.{Settings}
-use Rattle.inputs_new.specs.Fresh.{policyOf, blankFor, blank}
-use Rattle.ticking.specs.declared.Look.{Look}
-use Rattle.ticking.specs.Looks.{lagsOf}
+use Rattle.rules_record.specs.declared.Inputs.{Inputs}
+use Rattle.rules_record.specs.Slots.{stateNumber}
+use Rattle.rules_record.specs.Inputs.{slotAt}
+use Rattle.rules_record.specs.Reply.{Reply}
+use Rattle.rules_record.proofs.Facts.{of-whole}
+use Rattle.rules_record.specs.Checks as checks
+use Rattle.rules_tick.specs.Arrival.{largestOf}
+use Rattle.rules_calls.specs.declared.Settings.{Settings}
+use Rattle.rules_calls.specs.NewRecord.{policyOf, blankFor, blank}
+use Rattle.rules_tick.specs.declared.Look.{Look}
+use Rattle.rules_tick.specs.Looks.{lagsOf}
 use Rattle.sent_delays.specs.Last.{lastDelay}
-use Rattle.history.specs.View.{Rules, rulesOf, InputView, Tick}
+use Rattle.history.specs.View.{Rules, rulesOf, InputView, Tick, tickOf}
 use Rattle.history.specs.Events.{Event, freshView, history, Lawful, clock}
 use Rattle.history.specs.Events as events
 use Rattle.history.specs.Stretch.{Allowed, runningTicks, bucketEnd}
-use Rattle.history.specs.Stretch as stretches
 use Rattle.history.proofs.Demand.{history-append, floor-after, ceiling-after}
-use Rattle.third_demand.specs.Calls.{Call, ticks, timeOf, after, run, Accepted, clockAfter, Orderly, told, Night, fresh, Admitted, left, delayOf}
-use Rattle.third_demand.specs.Demand.{policyIn, RunsOn, InStretch, Stretch, ending, StaysWhole, Floor, Ceiling, ThirdDemand}
+use Rattle.third_demand.specs.Calls.{Call, ticks, after, run, Accepted, clockAfter, Orderly, told, Night, fresh, left, delayOf}
+use Rattle.third_demand.specs.Demand.{RunsOn, InStretch, Stretch, ending, StaysWhole, StaysWholeAlways, Floor, Ceiling, ThirdDemand}
 use Rattle.third_demand.proofs.Lifted.{TickLifted}
-use Rattle.third_demand.proofs.Good.{Good, most, seenAt, Laws}
-use Rattle.third_demand.proofs.Runs.{run-append, clocks, orderly-append, lawful-join, clock-append, Lived, good-after, good-run, lived-run, told-run}
+use Rattle.third_demand.proofs.Good.{Sure, Good, most, seenAt, Laws}
+use Rattle.third_demand.proofs.Runs.{run-append, clocks, orderly-append, lawful-join, clock-append, Lived, sure-run, good-after, good-run, lived-run, told-run}
 use Rattle.third_demand.proofs.Stretches.{Steadily, stretch-run}
 use Rattle.third_demand.proofs.Beyond.{beyond, takes}
 
--- what an accepted `new` without confirmation leaves
+-- what an accepted `new` leaves, with confirmation or without
 pub record Born (night : Night) : Type 0 where
   pub good : Good (night .settings) 0 (fresh night)
   pub lived : (i : ℕ) → i < night .settings .count → Lived (night .settings) 0 (seenAt (fresh night) i)
@@ -53,7 +49,15 @@ append-assoc : (a b c : List Event) → (a ++ b) ++ c ≡ a ++ (b ++ c)
 append-assoc [] b c = refl
 append-assoc (event ∷ a) b c = ap (λ (x : List Event). event ∷ x) (append-assoc a b c)
 
-module _ (laws : (settings : Settings) → settings .confirm ≡ false → Laws settings) (born : (night : Night) → fresh night .number ≡ 0 → night .settings .confirm ≡ false → Born night) where
+-- the record stays whole, and a tick is refused only for what it brings
+pub whole-always : ((night : Night) → fresh night .number ≡ 0 → Born night) → StaysWholeAlways
+whole-always born night calls is-new few =
+    let g : Sure (night .settings) (length calls) (left night calls) =
+    subst (λ (x : ℕ). Sure (night .settings) x (left night calls)) (omega arith) (sure-run (night .settings) 0 (fresh night) calls (omega (arith, few)) (born night is-new .good .sure))
+    in
+    record { record-whole = of-whole _ _ (g .checked .whole); beyond-six = beyond (night .settings) (length calls) (left night calls) g; takes-ticks = takes (night .settings) (length calls) (left night calls) g }
+
+module _ (laws : (settings : Settings) → settings .confirm ≡ false → Laws settings) (born : (night : Night) → fresh night .number ≡ 0 → Born night) where
   module _ (night : Night) (is-new : fresh night .number ≡ 0) (unconfirmed : night .settings .confirm ≡ false) where
     abbrev settings : Settings
     settings = night .settings
@@ -62,7 +66,7 @@ module _ (laws : (settings : Settings) → settings .confirm ≡ false → Laws 
     law = laws settings unconfirmed
 
     abbrev birth : Born night
-    birth = born night is-new unconfirmed
+    birth = born night is-new
 
     abbrev rules : Rules
     rules = rulesOf (policyOf settings)
@@ -74,8 +78,8 @@ module _ (laws : (settings : Settings) → settings .confirm ≡ false → Laws 
     unfolding blankFor blank
     allowed =
         let s : Inputs = fresh night .inputs in
-        let e : s ≡ _ = birth .good .same in
-        let a = subst (λ (x : Inputs). checks.Allowed (x .count) (x .policy) (x .width) (x .stall)) e (birth .good .checked .fitting .allowed) in
+        let e : s ≡ _ = birth .good .sure .same in
+        let a = subst (λ (x : Inputs). checks.Allowed (x .count) (x .policy) (x .width) (x .stall)) e (birth .good .sure .checked .fitting .allowed) in
         record {
           sound = a .sound;
           hold-most = a .hold-most;
@@ -92,7 +96,7 @@ module _ (laws : (settings : Settings) → settings .confirm ≡ false → Laws 
     -- the delay that the commands tell is the one in the record
     told-at : (calls : List Call) (i : ℕ) → length calls < most → i < settings .count → delayOf i night calls ≡ slotAt (left night calls .inputs) i .delay
     unfolding delayOf
-    told-at calls i few h = told-run settings law 0 (fresh night) calls i _ (omega (arith, few)) h (birth .good) (sym (birth .told i h))
+    told-at calls i few h = told-run settings 0 (fresh night) calls i _ (omega (arith, few)) h (birth .good .sure) (sym (birth .told i h))
 
     module _ (calls : List Call) (looks : List Look) (lags : List ℕ) (first i : ℕ) (later : List Call)
         (few : length (calls ++ (ticks looks lags first ∷ later)) < most)
@@ -103,7 +107,7 @@ module _ (laws : (settings : Settings) → settings .confirm ≡ false → Laws 
       call = ticks looks lags first
 
       abbrev tick : Tick
-      tick = record { time = first; lags = lagsOf looks lags i }
+      tick = tickOf first (lagsOf looks lags i)
 
       fewer : length calls + suc (length later) < most
       fewer = subst (λ (x : ℕ). x < most) (append-length calls call later) few
@@ -189,13 +193,11 @@ module _ (laws : (settings : Settings) → settings .confirm ≡ false → Laws 
               slotAt (run (after (left night calls) call) later .inputs) i .delay ≤ needOf (policyOf settings) (bucketEnd (policyOf settings) (settings .width) L) + 47
           ceiling-here long =
               subst (λ (x : InputView). x .delay ≤ needOf (policyOf settings) (bucketEnd (policyOf settings) (settings .width) L) + 47) all-leads
-              (ceiling-after (policyOf settings) (settings .width) allowed past tick (steady .passed) L all-lawful (in-it .lagged) (in-it .none-above) (steady .stretch)
+              (ceiling-after (policyOf settings) (settings .width) allowed past tick (steady .passed) L all-lawful refl (in-it .lagged) (in-it .none-above) (steady .stretch)
               (subst (λ (x : ℕ). first + (30 * nanos + policyOf settings .window + 3 * policyOf settings .hold) ≤ x) (sym (steady .ends)) long))
 
   whole-met : StaysWhole
-  whole-met night calls a =
-      let g = good-at night (a .new) (a .unconfirmed) calls (omega (arith, a .few)) in
-      record { record-whole = of-whole _ _ (g .checked .whole); beyond-six = beyond (night .settings) (length calls) (left night calls) g; takes-ticks = takes (night .settings) (length calls) (left night calls) g }
+  whole-met night calls a = whole-always born night calls (a .new) (omega (arith, a .few))
 
   -- what is left by the calls and one more, and by later ones
   left-tick : (night : Night) (calls : List Call) (call : Call) (later : List Call) → left night (calls ++ (call ∷ later)) ≡ run (after (left night calls) call) later

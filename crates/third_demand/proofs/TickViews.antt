@@ -6,29 +6,29 @@ use mathlib.Core.List.{List}
 use native.Mathlib.Omega.{arith}
 use lib.Dec.{eqb}
 use lib.ListN.{length}
-use Rattle.lag_window.specs.Checks.{roomFor}
+use Rattle.rules_window.specs.Checks.{roomFor}
 use Rattle.delay_hold.specs.Next.{held}
-use Rattle.slots.specs.declared.Proposal.the-variants.{Nothing}
-use Rattle.slots.specs.declared.Slot.{Slot}
-use Rattle.slots.specs.declared.Inputs.{Inputs}
-use Rattle.slots.specs.Slots.{stateNumber}
-use Rattle.slots.specs.Inputs.{slotAt}
-use Rattle.slots.specs.Sized.{Sized}
-use Rattle.record.specs.Lent.{Lists, windowOf}
-use Rattle.record.specs.Effects.{Effect}
-use Rattle.record.specs.Facts.{Checked}
-use Rattle.auto_delay.specs.Auto.{goesOn}
-use Rattle.auto_delay.specs.Asked.{Ready}
-use Rattle.auto_delay.proofs.Readiness.{ready-low, ready-of}
-use Rattle.ticking.specs.declared.Look.{Look}
-use Rattle.ticking.specs.Looks.{lookAt, lagsOf}
-use Rattle.ticking.specs.Checks.{tickNumber}
-use Rattle.ticking.specs.Tick.{heard, looked, tickedInput, ticked}
-use Rattle.ticking.proofs.Same.{SameInput}
-use Rattle.ticking.proofs.Frames.{turn, turn-inputs, turn-lists, below-settings, below-sized, turn-ready, turn-room, Turn, turns, ticked-input}
-use Rattle.ticking.proofs.Accepted.{Accepted, tick-accepted, accepted-room}
-use Rattle.ticking.proofs.Proposals.{ticked-proposed}
-use Rattle.history.specs.View.{Tick}
+use Rattle.rules_record.specs.declared.Proposal.the-variants.{Nothing}
+use Rattle.rules_record.specs.declared.Slot.{Slot}
+use Rattle.rules_record.specs.declared.Inputs.{Inputs}
+use Rattle.rules_record.specs.Slots.{stateNumber}
+use Rattle.rules_record.specs.Inputs.{slotAt}
+use Rattle.rules_record.specs.Sized.{Sized}
+use Rattle.rules_record.specs.Lent.{Lists, windowOf}
+use Rattle.rules_record.specs.Effects.{Effect}
+use Rattle.rules_record.specs.Facts.{Checked}
+use Rattle.rules_tick.specs.AutoDelay.{goesOn}
+use Rattle.rules_tick.specs.InputReady.{Ready}
+use Rattle.rules_tick.proofs.Readiness.{ready-low, ready-of}
+use Rattle.rules_tick.specs.declared.Look.{Look}
+use Rattle.rules_tick.specs.Looks.{lookAt, lagsOf}
+use Rattle.rules_tick.specs.TickChecks.{tickNumber}
+use Rattle.rules_tick.specs.Tick.{heard, looked, tickedInput, ticked}
+use Rattle.rules_tick.proofs.TickSame.{SameInput}
+use Rattle.rules_tick.proofs.TickFrames.{turn, turn-inputs, turn-lists, below-settings, below-sized, turn-ready, turn-room, Turn, turns, ticked-input}
+use Rattle.rules_tick.proofs.TickAccepted.{Accepted, tick-accepted, accepted-room}
+use Rattle.rules_tick.proofs.TickProposals.{ticked-proposed}
+use Rattle.history.specs.View.{Tick, tickOf}
 use Rattle.third_demand.proofs.Lifted.{viewOf, TickLifted}
 use Rattle.third_demand.proofs.Ends.{lifted-as}
 use Rattle.third_demand.proofs.InputViews.{input-state, input-config, input-lifted}
@@ -39,7 +39,7 @@ view-same s z l m i same = λ t. record { window = same .window t; held = same .
 
 module _ (s : Inputs) (l : Lists) (words : ℕ) (looks : List Look) (lags : List ℕ) (time i : ℕ) (sized : Sized s) (c : Checked s l) (passed : tickNumber s l words looks lags time ≡ 0) where
   abbrev tick : Tick
-  tick = record { time = time; lags = lagsOf looks lags i }
+  tick = tickOf time (lagsOf looks lags i)
 
   -- the record and the lists when the turn of input i comes, and after it
   abbrev at : Inputs
@@ -120,6 +120,6 @@ module _ (s : Inputs) (l : Lists) (words : ℕ) (looks : List Look) (lags : List
 -- an accepted tick, without confirmation: input i is seeded, at most, and then its lags are an event
 pub tick-lifted : (s : Inputs) (l : Lists) (words : ℕ) (looks : List Look) (lags : List ℕ) (time i : ℕ) → Sized s → Checked s l → tickNumber s l words looks lags time ≡ 0 → s .confirm ≡ false
     → slotAt s i .proposed ≡ Nothing → i < s .count
-    → TickLifted (s .policy) (record { time = time; lags = lagsOf looks lags i }) (eqb (stateNumber (slotAt s i .state)) 2) (goesOn (slotAt (ticked looks lags time s l .inputs) i)) (viewOf s l i)
+    → TickLifted (s .policy) (tickOf time (lagsOf looks lags i)) (eqb (stateNumber (slotAt s i .state)) 2) (goesOn (slotAt (ticked looks lags time s l .inputs) i)) (viewOf s l i)
     (viewOf (ticked looks lags time s l .inputs) (ticked looks lags time s l .lists) i)
 tick-lifted s l words looks lags time i sized c passed off none h = own-lifted s l words looks lags time i sized c passed h off none

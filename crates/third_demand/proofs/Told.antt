@@ -1,9 +1,9 @@
 -- An accepted call leaves each input the delay that its commands tell last; and so does an accepted `new`. Assumes nothing.
 use Prim.Native.Nat.{ℕ, _<_}
 use mathlib.Core.Path.{_≡_}
-use Rattle.slots.specs.Inputs.{slotAt}
-use Rattle.slots.specs.Sized.{Sized}
-use Rattle.record.specs.Reply.{Reply}
+use Rattle.rules_record.specs.Inputs.{slotAt}
+use Rattle.rules_record.specs.Sized.{Sized}
+use Rattle.rules_record.specs.Reply.{Reply}
 use Rattle.sent_delays.specs.Last.{lastDelay}
 use Rattle.sent_delays.proofs.Calls.{Told, accepted-told, route-told, update-told, tick-told, new-delays}
 use Rattle.third_demand.specs.Calls.{Call, routes, updates, ticks, after, Accepted, Night, fresh}

@@ -9,26 +9,26 @@ use lib.ListN.{length}
 use Rattle.base.specs.Limits.{timeLimit}
 use Rattle.base.proofs.Choices.{asked, accepted-new}
 use Rattle.doubles.specs.Doubles.{samplesOf}
-use Rattle.slots.specs.declared.ExtraDelay.{ExtraDelay}
-use Rattle.slots.specs.declared.ExtraDelay.the-variants.{Auto, Ms}
-use Rattle.slots.specs.declared.Proposal.the-variants.{Nothing}
-use Rattle.slots.specs.declared.Slot.{Slot}
-use Rattle.slots.specs.declared.Inputs.{Inputs}
-use Rattle.slots.specs.Inputs.{slotAt}
-use Rattle.slots.specs.Sized.{Sized}
-use Rattle.record.specs.Lent.{Lists}
-use Rattle.record.specs.Checks.{Fitting}
-use Rattle.record.specs.Effects.{Effect}
-use Rattle.record.specs.Reply.{Reply, carriedOut}
-use Rattle.record.proofs.Numbers.{input-told, call-fitting, call-low}
-use Rattle.clearing.specs.Clearing.{clearedSlot, cleared}
-use Rattle.keeping.proofs.Settings.{SameSettings}
-use Rattle.inputs_update.specs.Checks.{kindFits, updateNumber}
-use Rattle.inputs_update.specs.Update.{kindStored, updated}
-use Rattle.inputs_update.specs.Reply.{updateReply}
-use Rattle.inputs_update.proofs.Delays.{manual-slot, auto-slot}
-use Rattle.inputs_update.proofs.Frames.{update-other, update-settings, update-beside}
-use Rattle.inputs_update.proofs.Keeps.{manual-most}
+use Rattle.rules_record.specs.declared.ExtraDelay.{ExtraDelay}
+use Rattle.rules_record.specs.declared.ExtraDelay.the-variants.{Auto, Ms}
+use Rattle.rules_record.specs.declared.Proposal.the-variants.{Nothing}
+use Rattle.rules_record.specs.declared.Slot.{Slot}
+use Rattle.rules_record.specs.declared.Inputs.{Inputs}
+use Rattle.rules_record.specs.Inputs.{slotAt}
+use Rattle.rules_record.specs.Sized.{Sized}
+use Rattle.rules_record.specs.Lent.{Lists}
+use Rattle.rules_record.specs.Checks.{Fitting}
+use Rattle.rules_record.specs.Effects.{Effect}
+use Rattle.rules_record.specs.Reply.{Reply, carriedOut}
+use Rattle.rules_record.proofs.Numbers.{input-told, call-fitting, call-low}
+use Rattle.rules_routing.specs.Clear.{clearedSlot, cleared}
+use Rattle.rules_routing.proofs.SettingsKept.{SameSettings}
+use Rattle.rules_calls.specs.UpdateChecks.{kindFits, updateNumber}
+use Rattle.rules_calls.specs.Update.{kindStored, updated}
+use Rattle.rules_calls.specs.UpdateReply.{updateReply}
+use Rattle.rules_calls.proofs.UpdateDelays.{manual-slot, auto-slot}
+use Rattle.rules_calls.proofs.UpdateFrames.{update-other, update-settings, update-beside}
+use Rattle.rules_calls.proofs.UpdateKeeps.{manual-most}
 use Rattle.history.specs.Events.{sets, clears, after, history}
 use Rattle.third_demand.proofs.Lifted.{viewOf, Lifted}
 use Rattle.third_demand.proofs.CallViews.{view-own, view-other, view-cleared, CallOn}

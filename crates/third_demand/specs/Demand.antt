@@ -1,24 +1,26 @@
 -- The mission's third demand, sentence by sentence. Assumes nothing.
 use Prim.Native.Nat.{ℕ, _+_, _*_, _≤_, _<_}
-use mathlib.Core.Bool.{true}
+use mathlib.Core.Bool.{true, false}
 use mathlib.Core.Path.{_≡_}
 use mathlib.Core.List.{List, [], _∷_, _++_}
+use lib.ListN.{length}
 use Rattle.base.specs.Limits.{nanos, timeLimit}
 use Rattle.base.specs.Choice.{accepted}
 use Rattle.policy.specs.declared.DelayPolicy.{DelayPolicy}
 use Rattle.policy.specs.Need.{needOf}
 use Rattle.delay_hold.specs.declared.Lag.the-variants.{Of}
-use Rattle.slots.specs.Inputs.{slotAt}
-use Rattle.record.specs.Record.{wholeRecord}
-use Rattle.record.specs.Reply.{Reply}
-use Rattle.auto_delay.specs.Arrival.{largestOf}
-use Rattle.auto_delay.specs.Auto.{goesOn}
-use Rattle.inputs_new.specs.Fresh.{policyOf}
-use Rattle.ticking.specs.declared.Look.{Look}
-use Rattle.ticking.specs.Looks.{lagsOf}
-use Rattle.ticking.specs.Checks.{looksFit, lagsFit, roomsFit}
+use Rattle.rules_record.specs.Inputs.{slotAt}
+use Rattle.rules_record.specs.Checks.{ownNumber}
+use Rattle.rules_record.specs.Record.{wholeRecord}
+use Rattle.rules_record.specs.Reply.{Reply}
+use Rattle.rules_tick.specs.Arrival.{largestOf}
+use Rattle.rules_tick.specs.AutoDelay.{goesOn}
+use Rattle.rules_calls.specs.NewRecord.{policyOf}
+use Rattle.rules_tick.specs.declared.Look.{Look}
+use Rattle.rules_tick.specs.Looks.{lagsOf}
+use Rattle.rules_tick.specs.TickChecks.{looksFit, lagsFit, roomsFit}
 use Rattle.history.specs.Stretch.{NonEmpty, NoneAbove, bucketEnd}
-use Rattle.third_demand.specs.Calls.{Call, routes, updates, ticks, timeOf, after, Accepted, Night, Admitted, left, delayOf}
+use Rattle.third_demand.specs.Calls.{Call, routes, updates, ticks, after, Accepted, Night, fresh, Admitted, left, delayOf}
 
 abbrev pub policyIn : Night → DelayPolicy
 policyIn night = policyOf (night .settings)
@@ -28,11 +30,11 @@ abbrev pub RunsOn : ℕ → Reply → Type 0
 RunsOn i r = goesOn (slotAt (r .inputs) i) ≡ true
 
 -- ---- "Then, whatever the calls bring, each is answered and recorded as the first two demands say"
--- the answers are those of the definitions (Calls.after); the record is whole after every list of calls, and no call is refused by number 6,
--- nor by one before it; a tick is refused only for what it brings
+-- the answers are those of the definitions (Calls.after); the record is whole after every list of calls, and no call is refused by a check of the
+-- record, its settings and its lists (1 to 6); a tick is refused only for what it brings
 pub record Whole (night : Night) (calls : List Call) : Type 0 where
   pub record-whole : wholeRecord (left night calls .inputs) (left night calls .lists) ≡ true
-  pub beyond-six : (call : Call) → after (left night calls) call .number ≤ 6 → Accepted (left night calls) call
+  pub beyond-six : (call : Call) → ownNumber (after (left night calls) call .number) ≡ false
   -- a tick whose time, looks, lag counts and rooms fit (8, 10, 11) is accepted
   pub takes-ticks :
       (looks : List Look) (lags : List ℕ) (time : ℕ) → time ≤ timeLimit → looksFit (left night calls .inputs) looks ≡ true → lagsFit (left night calls .inputs) looks lags ≡ true →
@@ -40,6 +42,10 @@ pub record Whole (night : Night) (calls : List Call) : Type 0 where
 
 abbrev pub StaysWhole : Type 0
 StaysWhole = (night : Night) (calls : List Call) → Admitted night calls → Whole night calls
+
+-- more than is asked: with confirmation too, and whatever the clock does
+abbrev pub StaysWholeAlways : Type 0
+StaysWholeAlways = (night : Night) (calls : List Call) → fresh night .number ≡ 0 → length calls < 1_000_000_000_000_000_000 → Whole night calls
 
 -- ---- "After every accepted tick that leaves it running on automatic and brings it lags, the largest at most read offset + maximum delay,
 -- its delay + read offset is at least that lag."
@@ -75,7 +81,7 @@ tickTime before (routes input wanted time world) = before
 tickTime before (updates input kind time) = before
 tickTime before (ticks looks lags time) = time
 
-unfoldable pub lastTick : (before : ℕ) → Reply → Call → ℕ
+unfoldable pub lastTick : (before : ℕ) (r : Reply) (call : Call) → ℕ
 lastTick before r call = accepted (after r call .number) before (tickTime before call)
 
 -- the calls after a tick of the stretch at `before`: refused ones, and accepted ones that go with it
@@ -84,7 +90,7 @@ Stretch i L before r [] = Unit {0}
 Stretch i L before r (call ∷ calls) = (Accepted r call → Goes i L before r call) × Stretch i L (lastTick before r call) (after r call) calls
 
 -- the time of its last tick
-unfoldable pub ending : (before : ℕ) → Reply → List Call → ℕ
+unfoldable pub ending : (before : ℕ) (r : Reply) → List Call → ℕ
 ending before r [] = before
 ending before r (call ∷ calls) = ending (lastTick before r call) (after r call) calls
 

@@ -6,11 +6,11 @@ use Rattle.base.specs.Limits.{nanos, timely}
 use Rattle.timing.specs.declared.Answer.{Answer}
 
 -- `index_at`: the sample index at a time, which "rounds down"
-unfoldable pub indexAt : ℕ → ℕ → ℕ
+unfoldable pub indexAt : (rate ns : ℕ) → ℕ
 indexAt rate ns = ns * rate / nanos
 
 -- `time_of`: the time of a sample index, which "rounds up"
-unfoldable pub timeOf : ℕ → ℕ → ℕ
+unfoldable pub timeOf : (rate index : ℕ) → ℕ
 timeOf rate index = (index * nanos + (rate - 1)) / rate
 
 -- check 8 of `index_at`
@@ -18,15 +18,15 @@ unfoldable pub indexNumber : ℕ → ℕ
 indexNumber ns = ask 8 (timely ns) 0
 
 -- check 8 of `time_of`: "does the answer fit a u64?"
-unfoldable pub timeNumber : ℕ → ℕ → ℕ
+unfoldable pub timeNumber : (rate index : ℕ) → ℕ
 timeNumber rate index = ask 8 (ltb (timeOf rate index) (2 ^ 64)) 0
 
 -- an answer: its number, and the value where the number is 0, else a zero value
-abbrev pub answerOf : ℕ → ℕ → Answer
+abbrev pub answerOf : (number value : ℕ) → Answer
 answerOf number value = record { number = number; value = accepted number 0 value }
 
-unfoldable pub indexAnswer : ℕ → ℕ → Answer
+unfoldable pub indexAnswer : (rate ns : ℕ) → Answer
 indexAnswer rate ns = answerOf (indexNumber ns) (indexAt rate ns)
 
-unfoldable pub timeAnswer : ℕ → ℕ → Answer
+unfoldable pub timeAnswer : (rate index : ℕ) → Answer
 timeAnswer rate index = answerOf (timeNumber rate index) (timeOf rate index)

@@ -1,7 +1,7 @@
 -- `doubles::ms` meets its contract: the code's two literals are the definition's once `ofBits` is unfolded. Assumes nothing.
 use borrow.Author.Needs.{needs}
 use mathlib.Core.Path.{refl}
-use lib.Ieee.{div, mul, ofInt, ofBits}
+use lib.Ieee.{ofBits}
 use Rattle.doubles.specs.Doubles.{msOf}
 use Rattle.doubles.proofs.ms.Statement.{statement}
 use Rattle.doubles.proofs.ms.Tie as tie

@@ -1,8 +1,8 @@
 -- `inputs_new::blank` meets its contract. Assumes nothing.
 use borrow.Author.Needs.{needs}
-use Rattle.flows.specs.Flows.{emptyEntry}
-use Rattle.instances.specs.Instances.{noKey}
-use Rattle.inputs_new.specs.Fresh.{blank}
+use Rattle.rules_record.specs.Flows.{emptyEntry}
+use Rattle.rules_record.specs.Instances.{noKey}
+use Rattle.rules_calls.specs.NewRecord.{blank}
 use Rattle.inputs_new.proofs.blank.Statement.{statement}
 use Rattle.inputs_new.proofs.blank.Tie as tie
 

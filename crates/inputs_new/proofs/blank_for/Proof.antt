@@ -1,6 +1,6 @@
 -- `inputs_new::blank_for` meets its contract. Assumes nothing.
 use borrow.Author.Needs.{needs}
-use Rattle.inputs_new.specs.Fresh.{blankFor}
+use Rattle.rules_calls.specs.NewRecord.{blankFor}
 use Rattle.inputs_new.proofs.blank_for.Statement.{statement}
 use Rattle.inputs_new.proofs.blank_for.Tie as tie
 

@@ -1,5 +1,5 @@
 -- `inputs_new::bytes_fit` meets its contract. Assumes nothing.
-use Rattle.inputs_new.proofs.Loops.{bytes-uneven, bytes-even}
+use Rattle.rules_calls.proofs.NewLoops.{bytes-uneven, bytes-even}
 use Rattle.inputs_new.proofs.bytes_fit.Statement.{statement}
 use Rattle.inputs_new.proofs.bytes_fit.Tie as tie
 

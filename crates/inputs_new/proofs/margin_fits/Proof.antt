@@ -4,7 +4,7 @@ use lib.Ieee.{ofBits}
 use borrow.Author.Tests.{le-leb, lt-leb}
 use Rattle.base.proofs.All.{both-yes, both-no}
 use Rattle.policy.specs.Settings.{percentAllowed}
-use Rattle.inputs_new.specs.Checks.{marginFits}
+use Rattle.rules_calls.specs.NewChecks.{marginFits}
 use Rattle.inputs_new.proofs.margin_fits.Statement.{statement}
 use Rattle.inputs_new.proofs.margin_fits.Tie as tie
 

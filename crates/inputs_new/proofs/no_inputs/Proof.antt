@@ -1,7 +1,7 @@
 -- `inputs_new::no_inputs` meets its contract. Assumes nothing.
 use lib.Ieee.{ofBits}
 use borrow.Author.Needs.{needs}
-use Rattle.inputs_new.specs.Fresh.{noPolicy, noInputs}
+use Rattle.rules_calls.specs.NewRecord.{noPolicy, noInputs}
 use Rattle.inputs_new.proofs.no_inputs.Statement.{statement}
 use Rattle.inputs_new.proofs.no_inputs.Tie as tie
 

@@ -2,7 +2,7 @@
 use mathlib.Core.Path.{refl}
 use lib.Ieee.{ofBits}
 use Rattle.policy.specs.Settings.{shareOfPercent}
-use Rattle.inputs_new.specs.Fresh.{policyOf}
+use Rattle.rules_calls.specs.NewRecord.{policyOf}
 use Rattle.inputs_new.proofs.policy_of.Statement.{statement}
 use Rattle.inputs_new.proofs.policy_of.Tie as tie
 

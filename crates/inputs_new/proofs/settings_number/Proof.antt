@@ -1,8 +1,8 @@
 -- `inputs_new::settings_number` meets its contract. Assumes nothing.
 use borrow.Author.Needs.{needs}
 use Rattle.base.proofs.All.{told-no, told-yes}
-use Rattle.record.specs.Lent.{lists}
-use Rattle.inputs_new.proofs.Calls.{refused-one, refused-two, refused-three, refused-four, buckets-asked, count-asked, lists-asked, refused-lists, refused-words, refused-bytes, passed-settings}
+use Rattle.rules_record.specs.Lent.{lists}
+use Rattle.rules_calls.proofs.NewReplies.{refused-one, refused-two, refused-three, refused-four, buckets-asked, count-asked, lists-asked, refused-lists, refused-words, refused-bytes, passed-settings}
 use Rattle.inputs_new.proofs.settings_number.Statement.{statement}
 use Rattle.inputs_new.proofs.settings_number.Tie as tie
 
@@ -34,16 +34,16 @@ returns-4 : tie.Need-returns-4
 returns-4 c = refused-four _ _ _ _ _ (told-yes _ _ (c .before .before .before .before .before .before .before .before .inputs-allowed .ensures) (c .before .before .before .before .before .before .before .if1 .left)) (c .before .before .before .before .before .before .policy-of .ensures) (told-yes _ _ (c .before .before .before .before .before .buckets-allowed .ensures) (c .before .before .before .before .if2 .left)) (told-yes _ _ (c .before .before .before .pauses-allowed .ensures) (c .before .before .if3 .left)) (told-no _ _ (c .before .margin-fits .ensures) (c .if4 .taken))
 
 buckets-of-requires : tie.Need-buckets-of-requires
-buckets-of-requires c κs = buckets-asked (c .before .before .before .before .before .before .before .before .before .before .before .before .before .before .args .settings) (c .before .before .before .before .before .before .before .before .before .before .before .before .before .before .args .bytes) (c .before .before .before .before .before .before .before .before .before .before .before .before .before .before .args .delays) (lists (c .before .before .before .before .before .before .before .before .before .before .before .before .before .before .args .starts .now) (c .before .before .before .before .before .before .before .before .before .before .before .before .before .before .args .totals .now) (c .before .before .before .before .before .before .before .before .before .before .before .before .before .before .args .counts .now) (c .before .before .before .before .before .before .before .before .before .before .before .before .before .before .args .times .now) (c .before .before .before .before .before .before .before .before .before .before .before .before .before .before .args .lags .now)) (c .before .before .before .before .before .before .before .before .before .before .before .before .before .before .args .words) (told-yes _ _ (c .before .before .before .before .before .before .before .before .inputs-allowed .ensures) (c .before .before .before .before .before .before .before .if1 .left)) (c .before .before .before .before .before .before .policy-of .ensures) (told-yes _ _ (c .before .before .before .before .before .buckets-allowed .ensures) (c .before .before .before .before .if2 .left)) (told-yes _ _ (c .before .before .before .pauses-allowed .ensures) (c .before .before .if3 .left))
+buckets-of-requires c κs = buckets-asked (c .before .before .before .before .before .before .before .before .before .before .before .before .before .before .args .settings) (c .before .before .before .before .before .before .before .before .before .before .before .before .before .before .args .bytes) (c .before .before .before .before .before .before .before .before .before .before .before .before .before .before .args .delays) (lists (c .before .before .before .before .before .before .before .before .before .before .before .before .before .before .args .starts .now) (c .before .before .before .before .before .before .before .before .before .before .before .before .before .before .args .totals .now) (c .before .before .before .before .before .before .before .before .before .before .before .before .before .before .args .counts .now) (c .before .before .before .before .before .before .before .before .before .before .before .before .before .before .args .times .now) (c .before .before .before .before .before .before .before .before .before .before .before .before .before .before .args .peaks .now)) (c .before .before .before .before .before .before .before .before .before .before .before .before .before .before .args .words) (told-yes _ _ (c .before .before .before .before .before .before .before .before .inputs-allowed .ensures) (c .before .before .before .before .before .before .before .if1 .left)) (c .before .before .before .before .before .before .policy-of .ensures) (told-yes _ _ (c .before .before .before .before .before .buckets-allowed .ensures) (c .before .before .before .before .if2 .left)) (told-yes _ _ (c .before .before .before .pauses-allowed .ensures) (c .before .before .if3 .left))
 
 lists-fit-requires : tie.Need-lists-fit-requires
-lists-fit-requires c κs = lists-asked (c .before .before .before .before .before .before .before .before .before .before .before .before .before .before .before .args .settings) (c .before .before .before .before .before .before .before .before .before .before .before .before .before .before .before .args .bytes) (c .before .before .before .before .before .before .before .before .before .before .before .before .before .before .before .args .delays) (lists (c .before .before .before .before .before .before .before .before .before .before .before .before .before .before .before .args .starts .now) (c .before .before .before .before .before .before .before .before .before .before .before .before .before .before .before .args .totals .now) (c .before .before .before .before .before .before .before .before .before .before .before .before .before .before .before .args .counts .now) (c .before .before .before .before .before .before .before .before .before .before .before .before .before .before .before .args .times .now) (c .before .before .before .before .before .before .before .before .before .before .before .before .before .before .before .args .lags .now)) (c .before .before .before .before .before .before .before .before .before .before .before .before .before .before .before .args .words) (told-yes _ _ (c .before .before .before .before .before .before .before .before .before .inputs-allowed .ensures) (c .before .before .before .before .before .before .before .before .if1 .left)) (c .before .before .before .before .before .before .before .policy-of .ensures) (told-yes _ _ (c .before .before .before .before .before .before .buckets-allowed .ensures) (c .before .before .before .before .before .if2 .left)) (told-yes _ _ (c .before .before .before .before .pauses-allowed .ensures) (c .before .before .before .if3 .left)) (told-yes _ _ (c .before .before .margin-fits .ensures) (c .before .if4 .left)) (c .buckets-of .ensures)
+lists-fit-requires c κs = lists-asked (c .before .before .before .before .before .before .before .before .before .before .before .before .before .before .before .args .settings) (c .before .before .before .before .before .before .before .before .before .before .before .before .before .before .before .args .bytes) (c .before .before .before .before .before .before .before .before .before .before .before .before .before .before .before .args .delays) (lists (c .before .before .before .before .before .before .before .before .before .before .before .before .before .before .before .args .starts .now) (c .before .before .before .before .before .before .before .before .before .before .before .before .before .before .before .args .totals .now) (c .before .before .before .before .before .before .before .before .before .before .before .before .before .before .before .args .counts .now) (c .before .before .before .before .before .before .before .before .before .before .before .before .before .before .before .args .times .now) (c .before .before .before .before .before .before .before .before .before .before .before .before .before .before .before .args .peaks .now)) (c .before .before .before .before .before .before .before .before .before .before .before .before .before .before .before .args .words) (told-yes _ _ (c .before .before .before .before .before .before .before .before .before .inputs-allowed .ensures) (c .before .before .before .before .before .before .before .before .if1 .left)) (c .before .before .before .before .before .before .before .policy-of .ensures) (told-yes _ _ (c .before .before .before .before .before .before .buckets-allowed .ensures) (c .before .before .before .before .before .if2 .left)) (told-yes _ _ (c .before .before .before .before .pauses-allowed .ensures) (c .before .before .before .if3 .left)) (told-yes _ _ (c .before .before .margin-fits .ensures) (c .before .if4 .left)) (c .buckets-of .ensures)
 
 returns-5 : tie.Need-returns-5
 returns-5 c = refused-lists _ _ _ _ _ (told-yes _ _ (c .before .before .before .before .before .before .before .before .before .before .before .inputs-allowed .ensures) (c .before .before .before .before .before .before .before .before .before .before .if1 .left)) (c .before .before .before .before .before .before .before .before .before .policy-of .ensures) (told-yes _ _ (c .before .before .before .before .before .before .before .before .buckets-allowed .ensures) (c .before .before .before .before .before .before .before .if2 .left)) (told-yes _ _ (c .before .before .before .before .before .before .pauses-allowed .ensures) (c .before .before .before .before .before .if3 .left)) (told-yes _ _ (c .before .before .before .before .margin-fits .ensures) (c .before .before .before .if4 .left)) (c .before .before .buckets-of .ensures) (told-no _ _ (c .before .lists-fit .ensures) (c .if5 .taken))
 
 commands-fit-requires : tie.Need-commands-fit-requires
-commands-fit-requires c κs = count-asked (c .before .before .before .before .before .before .before .before .before .before .before .before .before .before .before .before .before .args .settings) (c .before .before .before .before .before .before .before .before .before .before .before .before .before .before .before .before .before .args .bytes) (c .before .before .before .before .before .before .before .before .before .before .before .before .before .before .before .before .before .args .delays) (lists (c .before .before .before .before .before .before .before .before .before .before .before .before .before .before .before .before .before .args .starts .now) (c .before .before .before .before .before .before .before .before .before .before .before .before .before .before .before .before .before .args .totals .now) (c .before .before .before .before .before .before .before .before .before .before .before .before .before .before .before .before .before .args .counts .now) (c .before .before .before .before .before .before .before .before .before .before .before .before .before .before .before .before .before .args .times .now) (c .before .before .before .before .before .before .before .before .before .before .before .before .before .before .before .before .before .args .lags .now)) (c .before .before .before .before .before .before .before .before .before .before .before .before .before .before .before .before .before .args .words) (told-yes _ _ (c .before .before .before .before .before .before .before .before .before .before .before .inputs-allowed .ensures) (c .before .before .before .before .before .before .before .before .before .before .if1 .left)) (c .before .before .before .before .before .before .before .before .before .policy-of .ensures) (told-yes _ _ (c .before .before .before .before .before .before .before .before .buckets-allowed .ensures) (c .before .before .before .before .before .before .before .if2 .left)) (told-yes _ _ (c .before .before .before .before .before .before .pauses-allowed .ensures) (c .before .before .before .before .before .if3 .left))
+commands-fit-requires c κs = count-asked (c .before .before .before .before .before .before .before .before .before .before .before .before .before .before .before .before .before .args .settings) (c .before .before .before .before .before .before .before .before .before .before .before .before .before .before .before .before .before .args .bytes) (c .before .before .before .before .before .before .before .before .before .before .before .before .before .before .before .before .before .args .delays) (lists (c .before .before .before .before .before .before .before .before .before .before .before .before .before .before .before .before .before .args .starts .now) (c .before .before .before .before .before .before .before .before .before .before .before .before .before .before .before .before .before .args .totals .now) (c .before .before .before .before .before .before .before .before .before .before .before .before .before .before .before .before .before .args .counts .now) (c .before .before .before .before .before .before .before .before .before .before .before .before .before .before .before .before .before .args .times .now) (c .before .before .before .before .before .before .before .before .before .before .before .before .before .before .before .before .before .args .peaks .now)) (c .before .before .before .before .before .before .before .before .before .before .before .before .before .before .before .before .before .args .words) (told-yes _ _ (c .before .before .before .before .before .before .before .before .before .before .before .inputs-allowed .ensures) (c .before .before .before .before .before .before .before .before .before .before .if1 .left)) (c .before .before .before .before .before .before .before .before .before .policy-of .ensures) (told-yes _ _ (c .before .before .before .before .before .before .before .before .buckets-allowed .ensures) (c .before .before .before .before .before .before .before .if2 .left)) (told-yes _ _ (c .before .before .before .before .before .before .pauses-allowed .ensures) (c .before .before .before .before .before .if3 .left))
 
 returns-6 : tie.Need-returns-6
 returns-6 c = refused-words _ _ _ _ _ (told-yes _ _ (c .before .before .before .before .before .before .before .before .before .before .before .before .before .inputs-allowed .ensures) (c .before .before .before .before .before .before .before .before .before .before .before .before .if1 .left)) (c .before .before .before .before .before .before .before .before .before .before .before .policy-of .ensures) (told-yes _ _ (c .before .before .before .before .before .before .before .before .before .before .buckets-allowed .ensures) (c .before .before .before .before .before .before .before .before .before .if2 .left)) (told-yes _ _ (c .before .before .before .before .before .before .before .before .pauses-allowed .ensures) (c .before .before .before .before .before .before .before .if3 .left)) (told-yes _ _ (c .before .before .before .before .before .before .margin-fits .ensures) (c .before .before .before .before .before .if4 .left)) (c .before .before .before .before .buckets-of .ensures) (told-yes _ _ (c .before .before .before .lists-fit .ensures) (c .before .before .if5 .left)) (told-no _ _ (c .before .commands-fit .ensures) (c .if6 .taken))

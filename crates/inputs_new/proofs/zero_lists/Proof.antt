@@ -1,6 +1,6 @@
 -- `inputs_new::zero_lists` meets its contract. Assumes nothing.
 use borrow.Author.Needs.{needs}
-use Rattle.record.specs.Lent.{lists}
+use Rattle.rules_record.specs.Lent.{lists}
 use Rattle.inputs_new.proofs.zero_lists.Statement.{statement}
 use Rattle.inputs_new.proofs.zero_lists.Tie as tie
 

@@ -1,7 +1,7 @@
 -- `inputs_route::route` meets its contract. Assumes nothing.
 use mathlib.Core.Path.{_∙_}
 use borrow.Author.Needs.{needs}
-use Rattle.inputs_route.proofs.Answers.{route-refused, route-equal, announce-asked, clear-asked, open-asked, route-moved}
+use Rattle.rules_calls.proofs.RouteReplies.{route-refused, route-equal, announce-asked, clear-asked, open-asked, route-moved}
 use Rattle.inputs_route.proofs.route.Statement.{statement}
 use Rattle.inputs_route.proofs.route.Tie as tie
 

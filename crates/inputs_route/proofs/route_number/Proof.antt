@@ -3,8 +3,8 @@ use mathlib.Core.Path.{_∙_}
 use borrow.Author.Needs.{needs}
 use Rattle.base.proofs.All.{told-no, told-yes}
 use Rattle.base.proofs.Choices.{yes-ask, no-ask}
-use Rattle.record.proofs.Numbers.{refused-by, passed-by}
-use Rattle.inputs_route.specs.Checks.{routeNumber}
+use Rattle.rules_record.proofs.Numbers.{refused-by, passed-by}
+use Rattle.rules_calls.specs.RouteChecks.{routeNumber}
 use Rattle.inputs_route.proofs.route_number.Statement.{statement}
 use Rattle.inputs_route.proofs.route_number.Tie as tie
 

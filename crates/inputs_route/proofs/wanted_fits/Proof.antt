@@ -1,6 +1,6 @@
 -- `inputs_route::wanted_fits` meets its contract. Assumes nothing.
 use borrow.Author.Needs.{needs}
-use Rattle.inputs_route.proofs.Cases.{fits-from}
+use Rattle.rules_calls.proofs.RouteCases.{fits-from}
 use Rattle.inputs_route.proofs.wanted_fits.Statement.{statement}
 use Rattle.inputs_route.proofs.wanted_fits.Tie as tie
 

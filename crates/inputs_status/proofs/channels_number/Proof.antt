@@ -2,8 +2,8 @@
 use borrow.Author.Tests.{le-leb, lt-leb}
 use borrow.Author.Needs.{needs}
 use Rattle.base.proofs.Choices.{yes-ask, no-ask}
-use Rattle.inputs_status.specs.Checks.{channelsNumber}
-use Rattle.inputs_status.proofs.Numbers.{refused-by, passed-by}
+use Rattle.rules_calls.specs.StatusChecks.{channelsNumber}
+use Rattle.inputs_status.proofs.StatusNumbers.{refused-by, passed-by}
 use Rattle.inputs_status.proofs.channels_number.Statement.{statement}
 use Rattle.inputs_status.proofs.channels_number.Tie as tie
 

@@ -1,6 +1,6 @@
 -- `inputs_status::input_number` meets its contract. Assumes nothing.
 use borrow.Author.Needs.{needs}
-use Rattle.inputs_status.proofs.Numbers.{record-refused, input-missing, input-there}
+use Rattle.inputs_status.proofs.StatusNumbers.{record-refused, input-missing, input-there}
 use Rattle.inputs_status.proofs.input_number.Statement.{statement}
 use Rattle.inputs_status.proofs.input_number.Tie as tie
 

@@ -1,7 +1,7 @@
 -- `inputs_status::no_status` meets its contract. Assumes nothing.
 use mathlib.Core.Path.{refl}
 use lib.Ieee.{ofBits}
-use Rattle.inputs_status.specs.Status.{noStatus}
+use Rattle.rules_calls.specs.Status.{noStatus}
 use Rattle.inputs_status.proofs.no_status.Statement.{statement}
 use Rattle.inputs_status.proofs.no_status.Tie as tie
 

@@ -1,6 +1,6 @@
 -- `inputs_status::rested` meets its contract. Assumes nothing.
 use borrow.Author.Needs.{needs}
-use Rattle.inputs_status.proofs.Replies.{rested-since}
+use Rattle.rules_calls.proofs.StatusReplies.{rested-since}
 use Rattle.inputs_status.proofs.rested.Statement.{statement}
 use Rattle.inputs_status.proofs.rested.Tie as tie
 

@@ -1,9 +1,9 @@
 -- `inputs_status::settled` meets its contract. Assumes nothing.
 use mathlib.Core.Path.{ap, _∙_}
 use borrow.Author.Needs.{needs}
-use Rattle.slots.specs.declared.Slot.{Slot}
-use Rattle.inputs_status.specs.Answers.{settledSlot, settledReply}
-use Rattle.inputs_status.proofs.Replies.{answer-refused, answer-accepted}
+use Rattle.rules_record.specs.declared.Slot.{Slot}
+use Rattle.rules_calls.specs.StatusAnswers.{settledSlot, settledReply}
+use Rattle.rules_calls.proofs.StatusReplies.{answer-refused, answer-accepted}
 use Rattle.inputs_status.proofs.settled.Statement.{statement}
 use Rattle.inputs_status.proofs.settled.Tie as tie
 

@@ -1,7 +1,7 @@
 -- `inputs_status::settled_slot` meets its contract. Assumes nothing.
 use mathlib.Core.Path.{refl}
 use borrow.Author.Needs.{needs}
-use Rattle.inputs_status.proofs.Replies.{settled-idle, settled-running}
+use Rattle.rules_calls.proofs.StatusReplies.{settled-idle, settled-running}
 use Rattle.inputs_status.proofs.settled_slot.Statement.{statement}
 use Rattle.inputs_status.proofs.settled_slot.Tie as tie
 

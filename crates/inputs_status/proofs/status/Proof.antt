@@ -1,8 +1,8 @@
 -- `inputs_status::status` meets its contract. Assumes nothing.
 use borrow.Author.Needs.{needs}
-use Rattle.inputs_status.specs.Status.{statusReply}
-use Rattle.inputs_status.proofs.Replies.{status-refused, status-accepted}
-use Rattle.inputs_status.proofs.Numbers.{status-showable}
+use Rattle.rules_calls.specs.Status.{statusReply}
+use Rattle.rules_calls.proofs.StatusReplies.{status-refused, status-accepted}
+use Rattle.inputs_status.proofs.StatusNumbers.{status-showable}
 use Rattle.inputs_status.proofs.status.Statement.{statement}
 use Rattle.inputs_status.proofs.status.Tie as tie
 

@@ -3,8 +3,8 @@ use mathlib.Core.Path.{_∙_}
 use borrow.Author.Tests.{le-leb, lt-leb}
 use borrow.Author.Needs.{needs}
 use Rattle.base.proofs.Choices.{yes-ask, no-ask}
-use Rattle.inputs_status.specs.Checks.{statusNumber}
-use Rattle.inputs_status.proofs.Numbers.{refused-by, passed-by}
+use Rattle.rules_calls.specs.StatusChecks.{statusNumber}
+use Rattle.inputs_status.proofs.StatusNumbers.{refused-by, passed-by}
 use Rattle.inputs_status.proofs.status_number.Statement.{statement}
 use Rattle.inputs_status.proofs.status_number.Tie as tie
 

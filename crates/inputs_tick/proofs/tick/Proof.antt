@@ -1,13 +1,17 @@
 -- `inputs_tick::tick` meets its contract. Assumes nothing.
+use Rattle.rules_tick.proofs.TickWholly.{wholly-by}
+use Rattle.rules_tick.proofs.TickReplies.{leaves-refused, passes, leaves-accepted}
+use Rattle.rules_tick.proofs.TickChecking.{inputs-asked, words-enough}
+use Rattle.rules_record.specs.Lent.{lists}
+use lib.ListN.{length}
+use native.Mathlib.Omega.{arith}
+use mathlib.Core.Path.{_∙_}
 use borrow.Author.Needs.{needs}
-use Rattle.ticking.proofs.Checking.{inputs-asked, words-enough}
-use Rattle.inputs_tick.proofs.Replies.{leaves-refused, passes, leaves-accepted}
-use Rattle.record.specs.Lent.{lists}
 use Rattle.inputs_tick.proofs.tick.Statement.{statement}
 use Rattle.inputs_tick.proofs.tick.Tie as tie
 
-checks-requires : tie.Need-checks-requires
-checks-requires c κs = search needs
+tick-number-requires : tie.Need-tick-number-requires
+tick-number-requires c κs = search needs
 
 same-length : tie.Need-same-length
 same-length c = search needs
@@ -25,13 +29,22 @@ same-length-5 : tie.Need-same-length-5
 same-length-5 c = search needs
 
 returns : tie.Need-returns
-returns c = leaves-refused (c .before .before .before .before .before .before .before .before .before .before .before .before .before .before .args .inputs) (lists (c .before .before .before .before .before .before .before .before .before .before .before .before .before .before .args .starts .now) (c .before .before .before .before .before .before .before .before .before .before .before .before .before .before .args .totals .now) (c .before .before .before .before .before .before .before .before .before .before .before .before .before .before .args .counts .now) (c .before .before .before .before .before .before .before .before .before .before .before .before .before .before .args .times .now) (c .before .before .before .before .before .before .before .before .before .before .before .before .before .before .args .peaks .now)) (c .before .before .before .before .before .before .before .before .before .before .before .before .before .before .args .commands .now) _ (c .before .before .before .before .before .before .before .before .before .before .before .before .before .before .args .lags .now) _ (c .before .checks .ensures .0) (c .if1 .taken)
+returns c = let a = c .before .before .before .before .before .before .before .before .before .before .before .before .before .before .args in let l = lists (a .starts .now) (a .totals .now) (a .counts .now) (a .times .now) (a .peaks .now) in leaves-refused (a .inputs) l (a .commands .now) _ (a .lags .now) _ (c .before .tick-number .ensures .0) (c .if1 .taken)
 
-tick-all-requires : tie.Need-tick-all-requires
-tick-all-requires c κs = (inputs-asked _ (lists (c .before .before .before .before .before .before .before .before .before .before .before .before .before .before .before .before .before .before .before .before .args .starts .now) (c .before .before .before .before .before .before .before .before .before .before .before .before .before .before .before .before .before .before .before .before .args .totals .now) (c .before .before .before .before .before .before .before .before .before .before .before .before .before .before .before .before .before .before .before .before .args .counts .now) (c .before .before .before .before .before .before .before .before .before .before .before .before .before .before .before .before .before .before .before .before .args .times .now) (c .before .before .before .before .before .before .before .before .before .before .before .before .before .before .before .before .before .before .before .before .args .peaks .now)) _ _ _ _ (c .before .before .before .before .before .before .before .checks .ensures .1) (passes (c .before .before .before .before .before .before .before .before .before .before .before .before .before .before .before .before .before .before .before .before .args .inputs) (lists (c .before .before .before .before .before .before .before .before .before .before .before .before .before .before .before .before .before .before .before .before .args .starts .now) (c .before .before .before .before .before .before .before .before .before .before .before .before .before .before .before .before .before .before .before .before .args .totals .now) (c .before .before .before .before .before .before .before .before .before .before .before .before .before .before .before .before .before .before .before .before .args .counts .now) (c .before .before .before .before .before .before .before .before .before .before .before .before .before .before .before .before .before .before .before .before .args .times .now) (c .before .before .before .before .before .before .before .before .before .before .before .before .before .before .before .before .before .before .before .before .args .peaks .now)) (c .before .before .before .before .before .before .before .before .before .before .before .before .before .before .before .before .before .before .before .before .args .commands .now) _ (c .before .before .before .before .before .before .before .before .before .before .before .before .before .before .before .before .before .before .before .before .args .lags .now) _ (c .before .before .before .before .before .before .before .checks .ensures .0) (c .before .before .before .before .before .before .if1 .left)), words-enough _ (lists (c .before .before .before .before .before .before .before .before .before .before .before .before .before .before .before .before .before .before .before .before .args .starts .now) (c .before .before .before .before .before .before .before .before .before .before .before .before .before .before .before .before .before .before .before .before .args .totals .now) (c .before .before .before .before .before .before .before .before .before .before .before .before .before .before .before .before .before .before .before .before .args .counts .now) (c .before .before .before .before .before .before .before .before .before .before .before .before .before .before .before .before .before .before .before .before .args .times .now) (c .before .before .before .before .before .before .before .before .before .before .before .before .before .before .before .before .before .before .before .before .args .peaks .now)) _ _ _ _ (c .before .before .before .before .before .before .before .checks .ensures .1) (passes (c .before .before .before .before .before .before .before .before .before .before .before .before .before .before .before .before .before .before .before .before .args .inputs) (lists (c .before .before .before .before .before .before .before .before .before .before .before .before .before .before .before .before .before .before .before .before .args .starts .now) (c .before .before .before .before .before .before .before .before .before .before .before .before .before .before .before .before .before .before .before .before .args .totals .now) (c .before .before .before .before .before .before .before .before .before .before .before .before .before .before .before .before .before .before .before .before .args .counts .now) (c .before .before .before .before .before .before .before .before .before .before .before .before .before .before .before .before .before .before .before .before .args .times .now) (c .before .before .before .before .before .before .before .before .before .before .before .before .before .before .before .before .before .before .before .before .args .peaks .now)) (c .before .before .before .before .before .before .before .before .before .before .before .before .before .before .before .before .before .before .before .before .args .commands .now) _ (c .before .before .before .before .before .before .before .before .before .before .before .before .before .before .before .before .before .before .before .before .args .lags .now) _ (c .before .before .before .before .before .before .before .checks .ensures .0) (c .before .before .before .before .before .before .if1 .left)))
+zero-u32-requires : tie.Need-zero-u32-requires
+zero-u32-requires c κs = search needs
+
+tick-inputs-requires : tie.Need-tick-inputs-requires
+tick-inputs-requires c κs = let a = c .before .before .before .before .before .before .before .before .before .before .before .before .before .before .before .before .before .before .before .before .before .before .before .before .args in let l = lists (a .starts .now) (a .totals .now) (a .counts .now) (a .times .now) (a .peaks .now) in (inputs-asked _ l (length (a .commands .now)) _ _ _ (c .before .before .before .before .before .before .before .before .before .before .before .tick-number .ensures .1) (passes (a .inputs) l (a .commands .now) _ (a .lags .now) _ (c .before .before .before .before .before .before .before .before .before .before .before .tick-number .ensures .0) (c .before .before .before .before .before .before .before .before .before .before .if1 .left)), omega (arith, c .before .before .before .before .before .before .before .before .zero-u32 .kept .0, words-enough _ l (length (a .commands .now)) _ _ _ (c .before .before .before .before .before .before .before .before .before .before .before .tick-number .ensures .1) (passes (a .inputs) l (a .commands .now) _ (a .lags .now) _ (c .before .before .before .before .before .before .before .before .before .before .before .tick-number .ensures .0) (c .before .before .before .before .before .before .before .before .before .before .if1 .left))))
+
+prune-instances-requires : tie.Need-prune-instances-requires
+prune-instances-requires c κs = search needs
+
+saved-requires : tie.Need-saved-requires
+saved-requires c κs = search needs
 
 same-length-6 : tie.Need-same-length-6
-same-length-6 c = search needs
+same-length-6 c = c .before .before .before .before .before .before .before .before .before .before .before .before .before .before .before .tick-inputs .kept .1 .1 .1 .1 .0
 
 same-length-7 : tie.Need-same-length-7
 same-length-7 c = search needs
@@ -46,23 +59,26 @@ same-length-10 : tie.Need-same-length-10
 same-length-10 c = search needs
 
 same-length-11 : tie.Need-same-length-11
-same-length-11 c = search needs
+same-length-11 c = c .before .before .before .before .before .before .before .before .before .before .before .before .before .before .before .tick-inputs .kept .1 .1 .1 .1 .1 .1 .1 .1 .1 .0 ∙ c .before .before .before .before .before .before .before .before .before .before .before .before .before .before .before .before .before .before .before .before .before .before .before .before .zero-u32 .kept .0
 
 returns-2 : tie.Need-returns-2
-returns-2 c = leaves-accepted (c .before .before .before .before .before .before .before .before .before .before .before .before .before .before .before .before .before .before .before .before .before .before .before .before .before .before .before .before .before .before .before .before .before .args .inputs) (lists (c .before .before .before .before .before .before .before .before .before .before .before .before .before .before .before .before .before .before .before .before .before .before .before .before .before .before .before .before .before .before .before .before .before .args .starts .now) (c .before .before .before .before .before .before .before .before .before .before .before .before .before .before .before .before .before .before .before .before .before .before .before .before .before .before .before .before .before .before .before .before .before .args .totals .now) (c .before .before .before .before .before .before .before .before .before .before .before .before .before .before .before .before .before .before .before .before .before .before .before .before .before .before .before .before .before .before .before .before .before .args .counts .now) (c .before .before .before .before .before .before .before .before .before .before .before .before .before .before .before .before .before .before .before .before .before .before .before .before .before .before .before .before .before .before .before .before .before .args .times .now) (c .before .before .before .before .before .before .before .before .before .before .before .before .before .before .before .before .before .before .before .before .before .before .before .before .before .before .before .before .before .before .before .before .before .args .peaks .now)) (c .before .before .before .before .before .before .before .before .before .before .before .before .before .before .before .before .before .before .before .before .before .before .before .before .before .before .before .before .before .before .before .before .before .args .commands .now) _ (c .before .before .before .before .before .before .before .before .before .before .before .before .before .before .before .before .before .before .before .before .before .before .before .before .before .before .before .before .before .before .before .before .before .args .lags .now) _ (c .before .before .before .before .before .before .before .before .before .before .before .before .before .before .before .before .before .before .before .before .checks .ensures .0) (c .before .before .before .before .before .before .before .before .before .before .before .before .before .before .before .before .before .before .before .if1 .left) (c .before .before .before .before .before .before .before .before .before .before .before .before .tick-all .ensures)
+returns-2 c = let a = c .before .before .before .before .before .before .before .before .before .before .before .before .before .before .before .before .before .before .before .before .before .before .before .before .before .before .before .before .before .before .before .before .before .before .before .before .before .before .before .before .args in let l = lists (a .starts .now) (a .totals .now) (a .counts .now) (a .times .now) (a .peaks .now) in leaves-accepted (a .inputs) l (a .commands .now) _ (a .lags .now) _ (c .before .before .before .before .before .before .before .before .before .before .before .before .before .before .before .before .before .before .before .before .before .before .before .before .before .before .before .tick-number .ensures .0) (c .before .before .before .before .before .before .before .before .before .before .before .before .before .before .before .before .before .before .before .before .before .before .before .before .before .before .if1 .left) (wholly-by _ _ _ _ l (a .commands .now) (words-enough _ l (length (a .commands .now)) _ _ _ (c .before .before .before .before .before .before .before .before .before .before .before .before .before .before .before .before .before .before .before .before .before .before .before .before .before .before .before .tick-number .ensures .1) (passes (a .inputs) l (a .commands .now) _ (a .lags .now) _ (c .before .before .before .before .before .before .before .before .before .before .before .before .before .before .before .before .before .before .before .before .before .before .before .before .before .before .before .tick-number .ensures .0) (c .before .before .before .before .before .before .before .before .before .before .before .before .before .before .before .before .before .before .before .before .before .before .before .before .before .before .if1 .left))) (c .before .before .before .before .before .before .before .before .before .before .before .before .before .before .before .before .before .before .before .before .before .before .before .before .zero-u32 .ensures) (c .before .before .before .before .before .before .before .before .before .before .before .before .before .before .before .tick-inputs .ensures) (c .before .prune-instances .ensures) (c .saved .ensures))
 
 pub tick-spec : {M : Type 1} → statement M
 tick-spec =
     tie.close
     (tie.spec
-    checks-requires
+    tick-number-requires
     same-length
     same-length-2
     same-length-3
     same-length-4
     same-length-5
     returns
-    tick-all-requires
+    zero-u32-requires
+    tick-inputs-requires
+    prune-instances-requires
+    saved-requires
     same-length-6
     same-length-7
     same-length-8

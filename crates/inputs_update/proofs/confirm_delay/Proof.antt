@@ -1,7 +1,7 @@
-use Rattle.inputs_update.specs.Checks.{confirmNumber}
-use Rattle.record.proofs.Numbers.{refused-by}
-use Rattle.inputs_update.proofs.Replies.{confirm-refused, confirm-nothing, taken-asked, confirm-asked, confirm-pending}
 -- `inputs_update::confirm_delay` meets its contract. Assumes nothing.
+use Rattle.rules_calls.specs.UpdateChecks.{confirmNumber}
+use Rattle.rules_record.proofs.Numbers.{refused-by}
+use Rattle.rules_calls.proofs.UpdateReplies.{confirm-refused, confirm-nothing, taken-asked, confirm-asked, confirm-pending}
 use borrow.Author.Needs.{needs}
 use Rattle.inputs_update.proofs.confirm_delay.Statement.{statement}
 use Rattle.inputs_update.proofs.confirm_delay.Tie as tie

@@ -1,5 +1,5 @@
-use Rattle.inputs_update.proofs.Parts.{kind-manual}
 -- `inputs_update::kind_fits` meets its contract. Assumes nothing.
+use Rattle.rules_calls.proofs.UpdateParts.{kind-manual}
 use borrow.Author.Needs.{needs}
 use Rattle.inputs_update.proofs.kind_fits.Statement.{statement}
 use Rattle.inputs_update.proofs.kind_fits.Tie as tie

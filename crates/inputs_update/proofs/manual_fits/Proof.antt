@@ -1,8 +1,8 @@
+-- `inputs_update::manual_fits` meets its contract. Assumes nothing.
 use mathlib.Core.Path.{ap}
 use lib.Ieee.{ofBits, le}
 use Rattle.base.proofs.All.{both-yes, both-no}
-use Rattle.inputs_update.specs.Checks.{manualFits}
--- `inputs_update::manual_fits` meets its contract. Assumes nothing.
+use Rattle.rules_calls.specs.UpdateChecks.{manualFits}
 use borrow.Author.Needs.{needs}
 use Rattle.inputs_update.proofs.manual_fits.Statement.{statement}
 use Rattle.inputs_update.proofs.manual_fits.Tie as tie

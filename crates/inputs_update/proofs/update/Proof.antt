@@ -1,5 +1,5 @@
-use Rattle.inputs_update.proofs.Replies.{update-refused, clear-asked, update-auto, manual-asked, update-manual}
 -- `inputs_update::update` meets its contract. Assumes nothing.
+use Rattle.rules_calls.proofs.UpdateReplies.{update-refused, clear-asked, update-auto, manual-asked, update-manual}
 use borrow.Author.Needs.{needs}
 use Rattle.inputs_update.proofs.update.Statement.{statement}
 use Rattle.inputs_update.proofs.update.Tie as tie

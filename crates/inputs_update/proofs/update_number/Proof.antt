@@ -1,8 +1,8 @@
+-- `inputs_update::update_number` meets its contract. Assumes nothing.
 use Rattle.base.proofs.Choices.{yes-ask, no-ask}
 use Rattle.base.proofs.All.{told-no, told-yes}
-use Rattle.inputs_update.specs.Checks.{updateNumber}
-use Rattle.record.proofs.Numbers.{refused-by, passed-by}
--- `inputs_update::update_number` meets its contract. Assumes nothing.
+use Rattle.rules_calls.specs.UpdateChecks.{updateNumber}
+use Rattle.rules_record.proofs.Numbers.{refused-by, passed-by}
 use borrow.Author.Needs.{needs}
 use Rattle.inputs_update.proofs.update_number.Statement.{statement}
 use Rattle.inputs_update.proofs.update_number.Tie as tie

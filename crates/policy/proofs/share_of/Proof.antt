@@ -1,5 +1,5 @@
 -- `policy::share_of` meets its contract. Assumes nothing.
-use mathlib.Core.Path.{_≡_, refl, sym}
+use mathlib.Core.Path.{refl, sym}
 use lib.Ieee.{ofBits}
 use Rattle.base.proofs.All.{both-yes, both-no}
 use Rattle.policy.specs.Settings.{percentAllowed, shareOfPercent}

@@ -68,7 +68,7 @@ decided-requires c κs =
     let c16 = c14 .before .before in
     let c18 = c16 .before .before in
     let c22 = c18 .before .before .before .before in
-    let d = decision-asks (c22 .pre .asked) (c18 .in-startup .result) (c16 .cap2 .result) (c16 .cap2 .ensures) (c22 .args .time) (c9 .larger .result) (c8 .peaks-next .result) (c8 .peaks-next .last .1 .0) (c8 .peaks-next .ensures .0) (c8 .peaks-next .ensures .2) (c2 .worst .result) (c2 .worst .ensures) (c22 .args .largest) (c14 .within .result) (c14 .within .ensures) (c9 .larger .ensures) (c12 .late .result) (c .with-peaks .result) (c .before .noted .result) (c .before .noted .ensures) (c .with-peaks .ensures) in (c22 .pre .asked .sound, d .0, d .1, d .2, d .3)
+    let d = decision-asks (c22 .pre .asked) (c18 .in-startup .result) (c16 .cap2 .result) (c16 .cap2 .ensures) (c22 .args .time) (c9 .larger .result) (c8 .peaks-next .result) (c8 .peaks-next .last .1 .0) (c8 .peaks-next .ensures .0) (c8 .peaks-next .ensures .2) (c2 .worst .result) (c2 .worst .ensures) (c22 .args .max-lag) (c14 .within .result) (c14 .within .ensures) (c9 .larger .ensures) (c12 .late .result) (c .with-peaks .result) (c .before .noted .result) (c .before .noted .ensures) (c .with-peaks .ensures) in (c22 .pre .asked .sound, d .0, d .1, d .2, d .3)
 
 same-length : tie.Need-same-length
 same-length c = search needs
@@ -89,7 +89,7 @@ returns c =
     let c19 = c18 .before in
     let c20 = c19 .before in
     let c23 = c20 .before .before .before in
-    next-is (c23 .pre .asked) (c19 .in-startup .result) (c17 .cap2 .result) (c17 .cap2 .ensures) (c23 .args .time) (c10 .larger .result) (c9 .peaks-next .result) (c9 .peaks-next .last .1 .0) (c9 .peaks-next .ensures .0) (c9 .peaks-next .ensures .2) (c3 .worst .result) (c3 .worst .ensures) (c23 .args .largest) (c15 .within .result) (c15 .within .ensures) (c10 .larger .ensures) (c13 .late .result) (c .before .with-peaks .result) (c2 .noted .result) (c2 .noted .ensures) (c .before .with-peaks .ensures) (c18 .cap .result) _ (c .decided .result) (c19 .in-startup .ensures ∙ ap (λ (t : ℕ). startupAt t (c23 .args .hold .«startup_late») (c23 .args .time)) (c20 .started .ensures)) (c18 .cap .ensures) (c13 .late .ensures) (c9 .peaks-next .ensures .1) (c .decided .ensures)
+    next-is (c23 .pre .asked) (c19 .in-startup .result) (c17 .cap2 .result) (c17 .cap2 .ensures) (c23 .args .time) (c10 .larger .result) (c9 .peaks-next .result) (c9 .peaks-next .last .1 .0) (c9 .peaks-next .ensures .0) (c9 .peaks-next .ensures .2) (c3 .worst .result) (c3 .worst .ensures) (c23 .args .max-lag) (c15 .within .result) (c15 .within .ensures) (c10 .larger .ensures) (c13 .late .result) (c .before .with-peaks .result) (c2 .noted .result) (c2 .noted .ensures) (c .before .with-peaks .ensures) (c18 .cap .result) _ (c .decided .result) (c19 .in-startup .ensures ∙ ap (λ (t : ℕ). startupAt t (c23 .args .hold .«startup_late») (c23 .args .time)) (c20 .started .ensures)) (c18 .cap .ensures) (c13 .late .ensures) (c9 .peaks-next .ensures .1) (c .decided .ensures)
 
 pub next-spec : {M : Type 1} → statement M
 next-spec =

@@ -1,7 +1,7 @@
 -- `inputs_new::loading::bytes_at` meets its contract. Assumes nothing.
 use Prim.Native.Nat.{_-_}
 use native.Mathlib.Omega.{arith}
-use Rattle.inputs_new.proofs.Loops.{Reading, reading-none, reading-room, reading-more, reading-end}
+use Rattle.rules_calls.proofs.NewLoops.{Reading, reading-none, reading-room, reading-more, reading-end}
 use Rattle.inputs_new.proofs.loading.bytes_at.Statement.{statement}
 use Rattle.inputs_new.proofs.loading.bytes_at.Tie as tie
 

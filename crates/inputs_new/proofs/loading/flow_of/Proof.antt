@@ -1,6 +1,6 @@
 -- `inputs_new::loading::flow_of` meets its contract. Assumes nothing.
 use borrow.Author.Needs.{needs}
-use Rattle.inputs_new.specs.Loading.{loadedFlow}
+use Rattle.rules_calls.specs.NewLoading.{loadedFlow}
 use Rattle.inputs_new.proofs.loading.flow_of.Statement.{statement}
 use Rattle.inputs_new.proofs.loading.flow_of.Tie as tie
 

@@ -6,7 +6,7 @@ use lib.ListN.{length}
 use borrow.Author.Needs.{needs}
 use borrow.Author.Tests.{not-true, not-false}
 use Rattle.base.proofs.Tests.{not-both}
-use Rattle.inputs_new.proofs.Loops.{Loading, loading-none, loading-stop, loading-more, loading-fits, loading-end}
+use Rattle.rules_calls.proofs.NewLoops.{Loading, loading-none, loading-stop, loading-more, loading-fits, loading-end}
 use Rattle.inputs_new.proofs.loading.load.Statement.{statement}
 use Rattle.inputs_new.proofs.loading.load.Tie as tie
 

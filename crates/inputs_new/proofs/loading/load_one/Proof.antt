@@ -1,6 +1,6 @@
 -- `inputs_new::loading::load_one` meets its contract. Assumes nothing.
 use borrow.Author.Needs.{needs}
-use Rattle.inputs_new.proofs.Loops.{loaded-by}
+use Rattle.rules_calls.proofs.NewLoops.{loaded-by}
 use Rattle.inputs_new.proofs.loading.load_one.Statement.{statement}
 use Rattle.inputs_new.proofs.loading.load_one.Tie as tie
 

@@ -1,7 +1,7 @@
 -- `inputs_new::start::kind_at` meets its contract. Assumes nothing.
 use mathlib.Core.Path.{refl}
 use borrow.Author.Needs.{needs}
-use Rattle.inputs_new.specs.Start.{kindAt}
+use Rattle.rules_calls.specs.NewStart.{kindAt}
 use Rattle.inputs_new.proofs.start.kind_at.Statement.{statement}
 use Rattle.inputs_new.proofs.start.kind_at.Tie as tie
 

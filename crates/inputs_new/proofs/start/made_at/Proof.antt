@@ -1,6 +1,6 @@
 -- `inputs_new::start::made_at` meets its contract. Assumes nothing.
 use borrow.Author.Needs.{needs}
-use Rattle.inputs_new.proofs.Loops.{made-by}
+use Rattle.rules_calls.proofs.NewLoops.{made-by}
 use Rattle.inputs_new.proofs.start.made_at.Statement.{statement}
 use Rattle.inputs_new.proofs.start.made_at.Tie as tie
 

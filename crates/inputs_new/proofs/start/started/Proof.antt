@@ -1,7 +1,7 @@
 -- `inputs_new::start::started` meets its contract. Assumes nothing.
 use Prim.Native.Nat.{_-_}
 use native.Mathlib.Omega.{arith}
-use Rattle.inputs_new.proofs.Loops.{Starting, starting-none, starting-used, starting-more, starting-end}
+use Rattle.rules_calls.proofs.NewLoops.{Starting, starting-none, starting-used, starting-more, starting-end}
 use Rattle.inputs_new.proofs.start.started.Statement.{statement}
 use Rattle.inputs_new.proofs.start.started.Tie as tie
 

@@ -1,6 +1,6 @@
 -- `inputs_new::start::started_one` meets its contract. Assumes nothing.
 use borrow.Author.Needs.{needs}
-use Rattle.inputs_new.proofs.Loops.{started-auto, started-manual}
+use Rattle.rules_calls.proofs.NewLoops.{started-auto, started-manual}
 use Rattle.inputs_new.proofs.start.started_one.Statement.{statement}
 use Rattle.inputs_new.proofs.start.started_one.Tie as tie
 

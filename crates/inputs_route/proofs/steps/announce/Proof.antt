@@ -1,6 +1,6 @@
 -- `inputs_route::steps::announce` meets its contract. Assumes nothing.
 use borrow.Author.Needs.{needs}
-use Rattle.inputs_route.proofs.Cases.{announce-over, announce-not}
+use Rattle.rules_calls.proofs.RouteCases.{announce-over, announce-not}
 use Rattle.inputs_route.proofs.steps.announce.Statement.{statement}
 use Rattle.inputs_route.proofs.steps.announce.Tie as tie
 

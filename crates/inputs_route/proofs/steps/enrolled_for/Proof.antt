@@ -1,6 +1,6 @@
 -- `inputs_route::steps::enrolled_for` meets its contract. Assumes nothing.
 use borrow.Author.Needs.{needs}
-use Rattle.inputs_route.proofs.Cases.{enrolled-from}
+use Rattle.rules_calls.proofs.RouteCases.{enrolled-from}
 use Rattle.inputs_route.proofs.steps.enrolled_for.Statement.{statement}
 use Rattle.inputs_route.proofs.steps.enrolled_for.Tie as tie
 

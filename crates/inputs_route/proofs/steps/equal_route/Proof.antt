@@ -1,6 +1,6 @@
 -- `inputs_route::steps::equal_route` meets its contract. Assumes nothing.
 use borrow.Author.Needs.{needs}
-use Rattle.inputs_route.proofs.Cases.{equal-none, equal-unrouted, equal-domain, equal-flow}
+use Rattle.rules_calls.proofs.RouteCases.{equal-none, equal-unrouted, equal-domain, equal-flow}
 use Rattle.inputs_route.proofs.steps.equal_route.Statement.{statement}
 use Rattle.inputs_route.proofs.steps.equal_route.Tie as tie
 

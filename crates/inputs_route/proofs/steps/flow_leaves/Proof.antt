@@ -1,9 +1,9 @@
 -- `inputs_route::steps::flow_leaves` meets its contract. Assumes nothing.
 use mathlib.Core.Path.{sym, ap}
 use borrow.Author.Needs.{needs}
-use Rattle.slots.specs.declared.Routed.the-variants.{Nowhere}
-use Rattle.slots.specs.declared.Routed.{Routed}
-use Rattle.inputs_route.specs.Route.{otherFlow}
+use Rattle.rules_record.specs.declared.Routed.the-variants.{Nowhere}
+use Rattle.rules_record.specs.declared.Routed.{Routed}
+use Rattle.rules_calls.specs.Route.{otherFlow}
 use Rattle.inputs_route.proofs.steps.flow_leaves.Statement.{statement}
 use Rattle.inputs_route.proofs.steps.flow_leaves.Tie as tie
 

@@ -1,6 +1,6 @@
 -- `inputs_route::steps::forget` meets its contract. Assumes nothing.
 use borrow.Author.Needs.{needs}
-use Rattle.inputs_route.proofs.Cases.{forget-none, forget-old}
+use Rattle.rules_calls.proofs.RouteCases.{forget-none, forget-old}
 use Rattle.inputs_route.proofs.steps.forget.Statement.{statement}
 use Rattle.inputs_route.proofs.steps.forget.Tie as tie
 

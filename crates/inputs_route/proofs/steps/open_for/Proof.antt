@@ -1,8 +1,8 @@
 -- `inputs_route::steps::open_for` meets its contract. Assumes nothing.
 use mathlib.Core.Path.{refl}
 use borrow.Author.Needs.{needs}
-use Rattle.commands.proofs.Steps.{did-by, did-quiet}
-use Rattle.inputs_route.proofs.Cases.{open-none, open-new}
+use Rattle.rules_record.proofs.Sending.{did-by, did-quiet}
+use Rattle.rules_calls.proofs.RouteCases.{open-none, open-new}
 use Rattle.inputs_route.proofs.steps.open_for.Statement.{statement}
 use Rattle.inputs_route.proofs.steps.open_for.Tie as tie
 

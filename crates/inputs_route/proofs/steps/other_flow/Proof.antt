@@ -1,6 +1,6 @@
 -- `inputs_route::steps::other_flow` meets its contract. Assumes nothing.
 use borrow.Author.Needs.{needs}
-use Rattle.inputs_route.proofs.Cases.{other-none, other-unrouted, other-flows}
+use Rattle.rules_calls.proofs.RouteCases.{other-none, other-unrouted, other-flows}
 use Rattle.inputs_route.proofs.steps.other_flow.Statement.{statement}
 use Rattle.inputs_route.proofs.steps.other_flow.Tie as tie
 

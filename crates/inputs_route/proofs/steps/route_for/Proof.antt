@@ -1,6 +1,6 @@
 -- `inputs_route::steps::route_for` meets its contract. Assumes nothing.
 use borrow.Author.Needs.{needs}
-use Rattle.inputs_route.proofs.Cases.{route-from}
+use Rattle.rules_calls.proofs.RouteCases.{route-from}
 use Rattle.inputs_route.proofs.steps.route_for.Statement.{statement}
 use Rattle.inputs_route.proofs.steps.route_for.Tie as tie
 

@@ -1,6 +1,6 @@
 -- `inputs_route::steps::routed_slot` meets its contract. Assumes nothing.
 use borrow.Author.Needs.{needs}
-use Rattle.inputs_route.proofs.Cases.{routed-by}
+use Rattle.rules_calls.proofs.RouteCases.{routed-by}
 use Rattle.inputs_route.proofs.steps.routed_slot.Statement.{statement}
 use Rattle.inputs_route.proofs.steps.routed_slot.Tie as tie
 

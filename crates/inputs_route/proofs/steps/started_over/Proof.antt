@@ -1,6 +1,6 @@
 -- `inputs_route::steps::started_over` meets its contract. Assumes nothing.
 use borrow.Author.Needs.{needs}
-use Rattle.inputs_route.proofs.Cases.{over-yes, over-no}
+use Rattle.rules_calls.proofs.RouteCases.{over-yes, over-no}
 use Rattle.inputs_route.proofs.steps.started_over.Statement.{statement}
 use Rattle.inputs_route.proofs.steps.started_over.Tie as tie
 

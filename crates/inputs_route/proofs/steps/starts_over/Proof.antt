@@ -2,7 +2,7 @@
 use mathlib.Core.Path.{refl}
 use borrow.Author.Needs.{needs}
 use Rattle.base.proofs.All.{both-yes, both-no, told-yes, told-no}
-use Rattle.inputs_route.specs.Route.{startsOver}
+use Rattle.rules_calls.specs.Route.{startsOver}
 use Rattle.inputs_route.proofs.steps.starts_over.Statement.{statement}
 use Rattle.inputs_route.proofs.steps.starts_over.Tie as tie
 

@@ -1,6 +1,6 @@
 -- `inputs_status::shown::arrival_of` meets its contract. Assumes nothing.
 use borrow.Author.Needs.{needs}
-use Rattle.inputs_status.proofs.Shows.{none-first, none-second, none-third, all-there}
+use Rattle.rules_calls.proofs.StatusShows.{none-first, none-second, none-third, all-there}
 use Rattle.inputs_status.proofs.shown.arrival_of.Statement.{statement}
 use Rattle.inputs_status.proofs.shown.arrival_of.Tie as tie
 

@@ -3,7 +3,7 @@ use mathlib.Core.Path.{sym, _∙_}
 use borrow.Author.Tests.{eq-eqb, ne-eqb}
 use borrow.Author.Needs.{needs}
 use Rattle.base.proofs.Choices.{yes-pick, no-pick}
-use Rattle.inputs_status.specs.Status.{channelsShown}
+use Rattle.rules_calls.specs.Status.{channelsShown}
 use Rattle.inputs_status.proofs.shown.channels_shown.Statement.{statement}
 use Rattle.inputs_status.proofs.shown.channels_shown.Tie as tie
 

@@ -1,8 +1,8 @@
 -- `inputs_status::shown::proposed_ms` meets its contract. Assumes nothing.
 use mathlib.Core.Path.{sym, ap, _∙_}
 use borrow.Author.Needs.{needs}
-use Rattle.inputs_status.specs.Status.{proposedMs}
-use Rattle.inputs_status.specs.declared.Milliseconds.the-variants.{Of}
+use Rattle.rules_calls.specs.Status.{proposedMs}
+use Rattle.rules_calls.specs.declared.Milliseconds.the-variants.{Of}
 use Rattle.inputs_status.proofs.shown.proposed_ms.Statement.{statement}
 use Rattle.inputs_status.proofs.shown.proposed_ms.Tie as tie
 

@@ -1,6 +1,6 @@
 -- `inputs_status::shown::source_of` meets its contract. Assumes nothing.
 use borrow.Author.Needs.{needs}
-use Rattle.inputs_status.proofs.Shows.{source-there}
+use Rattle.rules_calls.proofs.StatusShows.{source-there}
 use Rattle.inputs_status.proofs.shown.source_of.Statement.{statement}
 use Rattle.inputs_status.proofs.shown.source_of.Tie as tie
 

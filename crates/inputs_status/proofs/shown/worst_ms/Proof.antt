@@ -3,7 +3,7 @@ use mathlib.Core.Path.{sym, ap, _∙_}
 use borrow.Author.Needs.{needs}
 use Rattle.base.proofs.All.{told-no, told-yes}
 use Rattle.base.proofs.Choices.{yes-pick, no-pick}
-use Rattle.inputs_status.specs.Status.{lagMs, worstMs}
+use Rattle.rules_calls.specs.Status.{lagMs, worstMs}
 use Rattle.inputs_status.proofs.shown.worst_ms.Statement.{statement}
 use Rattle.inputs_status.proofs.shown.worst_ms.Tie as tie
 

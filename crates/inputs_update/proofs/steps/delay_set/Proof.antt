@@ -1,5 +1,5 @@
-use Rattle.inputs_update.proofs.Parts.{set-by}
 -- `inputs_update::steps::delay_set` meets its contract. Assumes nothing.
+use Rattle.rules_calls.proofs.UpdateParts.{set-by}
 use borrow.Author.Needs.{needs}
 use Rattle.inputs_update.proofs.steps.delay_set.Statement.{statement}
 use Rattle.inputs_update.proofs.steps.delay_set.Tie as tie

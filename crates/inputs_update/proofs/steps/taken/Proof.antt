@@ -1,5 +1,5 @@
-use Rattle.inputs_update.proofs.Parts.{taken-by}
 -- `inputs_update::steps::taken` meets its contract. Assumes nothing.
+use Rattle.rules_calls.proofs.UpdateParts.{taken-by}
 use borrow.Author.Needs.{needs}
 use Rattle.inputs_update.proofs.steps.taken.Statement.{statement}
 use Rattle.inputs_update.proofs.steps.taken.Tie as tie

@@ -1,5 +1,5 @@
-use Rattle.inputs_update.proofs.Parts.{kind-by}
 -- `inputs_update::steps::with_kind` meets its contract. Assumes nothing.
+use Rattle.rules_calls.proofs.UpdateParts.{kind-by}
 use borrow.Author.Needs.{needs}
 use Rattle.inputs_update.proofs.steps.with_kind.Statement.{statement}
 use Rattle.inputs_update.proofs.steps.with_kind.Tie as tie

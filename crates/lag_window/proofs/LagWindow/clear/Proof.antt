@@ -1,6 +1,6 @@
 -- `lag_window::LagWindow::clear` meets its contract. Assumes nothing.
 use borrow.Author.Needs.{needs}
-use Rattle.lag_window.proofs.Numbers.{checked-sound, clear-refused, clear-made}
+use Rattle.rules_window.proofs.Numbers.{checked-sound, clear-refused, clear-made}
 use Rattle.lag_window.proofs.LagWindow.clear.Statement.{statement}
 use Rattle.lag_window.proofs.LagWindow.clear.Tie as tie
 

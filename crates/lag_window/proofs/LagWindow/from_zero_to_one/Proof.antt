@@ -1,6 +1,6 @@
 -- `lag_window::LagWindow::from_zero_to_one` meets its contract. Assumes nothing.
 use lib.Ieee.{ofBits}
-use Rattle.lag_window.specs.Checks.{fromZeroToOne}
+use Rattle.rules_window.specs.Checks.{fromZeroToOne}
 use Rattle.base.specs.Choice.{both}
 use Rattle.lag_window.proofs.LagWindow.from_zero_to_one.Statement.{statement}
 use Rattle.lag_window.proofs.LagWindow.from_zero_to_one.Tie as tie

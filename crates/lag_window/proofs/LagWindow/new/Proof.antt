@@ -1,6 +1,6 @@
 -- `lag_window::LagWindow::new` meets its contract. Assumes nothing.
 use borrow.Author.Needs.{needs}
-use Rattle.lag_window.proofs.Numbers.{new-settings, new-shaped, new-refused, new-made}
+use Rattle.rules_window.proofs.Numbers.{new-settings, new-shaped, new-refused, new-made}
 use Rattle.lag_window.proofs.LagWindow.new.Statement.{statement}
 use Rattle.lag_window.proofs.LagWindow.new.Tie as tie
 

@@ -1,9 +1,9 @@
 -- `lag_window::LagWindow::new_number` meets its contract. Assumes nothing.
 use borrow.Author.Needs.{needs}
 use borrow.Author.Tests.{le-leb, lt-leb, eq-eqb, ne-eqb}
-use Rattle.lag_window.proofs.Numbers.{gate}
+use Rattle.rules_window.proofs.Numbers.{gate}
 use Rattle.base.specs.Choice.{ask}
-use Rattle.lag_window.specs.Checks.{newNumber}
+use Rattle.rules_window.specs.Checks.{newNumber}
 use Rattle.lag_window.proofs.LagWindow.new_number.Statement.{statement}
 use Rattle.lag_window.proofs.LagWindow.new_number.Tie as tie
 

@@ -1,7 +1,7 @@
 -- `lag_window::LagWindow::number` meets its contract. Assumes nothing.
 use borrow.Author.Needs.{needs}
-use Rattle.lag_window.proofs.Numbers.{told-whole, told-broken}
-use Rattle.lag_window.specs.Checks.{checked}
+use Rattle.rules_window.proofs.Numbers.{told-whole, told-broken}
+use Rattle.rules_window.specs.Checks.{checked}
 use Rattle.base.specs.Choice.{ask}
 use borrow.Author.Tests.{le-leb, lt-leb, eq-eqb, ne-eqb}
 use Rattle.lag_window.proofs.LagWindow.number.Statement.{statement}

@@ -1,6 +1,6 @@
 -- `lag_window::LagWindow::push` meets its contract. Assumes nothing.
 use borrow.Author.Needs.{needs}
-use Rattle.lag_window.proofs.Numbers.{push-asks, push-refused, push-made}
+use Rattle.rules_window.proofs.Numbers.{push-asks, push-refused, push-made}
 use Rattle.lag_window.proofs.LagWindow.push.Statement.{statement}
 use Rattle.lag_window.proofs.LagWindow.push.Tie as tie
 

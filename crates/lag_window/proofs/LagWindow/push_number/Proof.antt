@@ -1,6 +1,6 @@
 -- `lag_window::LagWindow::push_number` meets its contract. Assumes nothing.
 use borrow.Author.Needs.{needs}
-use Rattle.lag_window.proofs.Numbers.{push-stops, push-late, push-full, push-passes, room-asks}
+use Rattle.rules_window.proofs.Numbers.{push-stops, push-late, push-full, push-passes, room-asks}
 use Rattle.lag_window.proofs.LagWindow.push_number.Statement.{statement}
 use Rattle.lag_window.proofs.LagWindow.push_number.Tie as tie
 

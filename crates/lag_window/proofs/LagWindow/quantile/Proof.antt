@@ -1,6 +1,6 @@
 -- `lag_window::LagWindow::quantile` meets its contract. Assumes nothing.
 use borrow.Author.Needs.{needs}
-use Rattle.lag_window.specs.Checks.{quantileReply, quantileUptoReply}
+use Rattle.rules_window.specs.Checks.{quantileReply, quantileUptoReply}
 use Rattle.lag_window.proofs.LagWindow.quantile.Statement.{statement}
 use Rattle.lag_window.proofs.LagWindow.quantile.Tie as tie
 

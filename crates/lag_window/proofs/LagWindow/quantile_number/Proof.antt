@@ -1,6 +1,6 @@
 -- `lag_window::LagWindow::quantile_number` meets its contract. Assumes nothing.
 use borrow.Author.Needs.{needs}
-use Rattle.lag_window.proofs.Numbers.{quantile-stops, quantile-outside, quantile-passes}
+use Rattle.rules_window.proofs.Numbers.{quantile-stops, quantile-outside, quantile-passes}
 use Rattle.lag_window.proofs.LagWindow.quantile_number.Statement.{statement}
 use Rattle.lag_window.proofs.LagWindow.quantile_number.Tie as tie
 

@@ -1,6 +1,6 @@
 -- `lag_window::LagWindow::quantile_upto` meets its contract. Assumes nothing.
 use borrow.Author.Needs.{needs}
-use Rattle.lag_window.proofs.Numbers.{quantile-asks, quantile-refused, quantile-made}
+use Rattle.rules_window.proofs.Numbers.{quantile-asks, quantile-refused, quantile-made}
 use Rattle.lag_window.proofs.LagWindow.quantile_upto.Statement.{statement}
 use Rattle.lag_window.proofs.LagWindow.quantile_upto.Tie as tie
 

@@ -1,6 +1,6 @@
 -- `lag_window::LagWindow::span` meets its contract. Assumes nothing.
 use borrow.Author.Needs.{needs}
-use Rattle.lag_window.proofs.Numbers.{span-refused, span-made, span-asks}
+use Rattle.rules_window.proofs.Numbers.{span-refused, span-made, span-asks}
 use Rattle.lag_window.proofs.LagWindow.span.Statement.{statement}
 use Rattle.lag_window.proofs.LagWindow.span.Tie as tie
 

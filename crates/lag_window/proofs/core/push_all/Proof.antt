@@ -1,35 +1,35 @@
 -- `lag_window::core::push_all` meets its contract. Assumes nothing.
+use Prim.Native.Nat.{_≤_, _-_}
+use native.Mathlib.Omega.{arith}
 use borrow.Author.Needs.{needs}
-use Rattle.lag_window.proofs.Parting.{part-push-asks, pushed-all-sizes, part-placed}
-use Rattle.lag_window.specs.Window.{pushedAll}
-use native.Mathlib.Nat.{add-sub-cancel-left}
-use Prim.Native.Nat.{_*_}
+use Rattle.rules_window.proofs.Ticks.{Going, going-start, going-asks, going-more, going-end}
+use Rattle.rules_window.specs.Window.{pushedAll}
+use Rattle.lag_window.specs.Lent.{lent}
+use lib.ListN.{length}
+use mathlib.Core.Path.{_≡_, refl}
 use Rattle.lag_window.proofs.core.push_all.Statement.{statement}
 use Rattle.lag_window.proofs.core.push_all.Tie as tie
+
+abbrev Inv-loop : tie.InvT-loop
+Inv-loop lags time starts₀ totals₀ counts₀ n w₀ i₀ starts totals counts w i = (i ≤ n) × Going time lags (pushedAll time lags (lent w₀ starts₀ totals₀ counts₀)) i (lent w starts totals counts) × (length starts ≡ length starts₀) × (length totals ≡ length totals₀) × (length counts ≡ length counts₀)
+
+abbrev μ-loop : tie.MeasureT-loop
+μ-loop lags time starts₀ totals₀ counts₀ n w₀ i₀ starts totals counts w i = n - i
 
 pub push-all-spec : {M : Type 1} → statement M
 push-all-spec =
     tie.close
     (tie.spec
-    (λ c. search needs)  -- mul-a
-    (λ c. search needs)  -- add-e
-    (λ c. search needs)  -- mul-n
-    (λ c. search needs)  -- mul-from
-    (λ c. search needs)  -- add-to
-    (λ c. search needs)  -- mul-push-all
-    (λ c. search needs)  -- sub-push-all
-    (λ c. search needs)  -- part-push-all-start
-    (λ c. search needs)  -- part-push-all-end
-    (λ c. search needs)  -- mul-push-all-2
-    (λ c. search needs)  -- sub-push-all-2
-    (λ c. search needs)  -- part-push-all-start-2
-    (λ c. search needs)  -- part-push-all-end-2
-    (λ c. search needs)  -- mul-push-all-3
-    (λ c. search needs)  -- sub-push-all-3
-    (λ c. search needs)  -- part-push-all-start-3
-    (λ c. search needs)  -- part-push-all-end-3
-    (λ c κs. part-push-asks (c .before .before .before .before .before .before .before .before .args .j) (c .before .before .before .before .before .before .before .before .args .window) (c .before .before .before .before .before .before .before .before .args .starts .now) (c .before .before .before .before .before .before .before .before .args .totals .now) (c .before .before .before .before .before .before .before .before .args .counts .now) _ _ (add-sub-cancel-left (c .before .before .before .before .before .before .before .before .args .j * 11) 11) (add-sub-cancel-left (c .before .before .before .before .before .before .before .before .args .j * (11 * c .before .before .before .before .before .before .before .before .args .window .buckets)) (11 * c .before .before .before .before .before .before .before .before .args .window .buckets)) (c .before .before .before .before .before .before .before .before .args .time) (c .before .before .before .before .before .before .before .before .args .lags .now) (c .before .before .before .before .before .before .before .before .pre .0) (c .before .before .before .before .before .before .before .before .pre .1 .1 .0) (c .before .before .before .before .before .before .before .before .pre .1 .0) (c .before .before .before .before .before .before .before .before .pre .1 .1 .1))  -- push-all-requires
-    (λ c. search needs)  -- same-length
-    (λ c. search needs)  -- same-length-2
-    (λ c. search needs)  -- same-length-3
-    (λ c. part-placed (c .before .before .before .before .before .before .before .before .before .before .before .before .before .before .before .args .j) (c .before .before .before .before .before .before .before .before .before .before .before .before .before .before .before .args .window) (c .before .before .before .before .before .before .before .before .before .before .before .before .before .before .before .args .starts .now) (c .before .before .before .before .before .before .before .before .before .before .before .before .before .before .before .args .totals .now) (c .before .before .before .before .before .before .before .before .before .before .before .before .before .before .before .args .counts .now) _ _ (add-sub-cancel-left (c .before .before .before .before .before .before .before .before .before .before .before .before .before .before .before .args .j * 11) 11) (add-sub-cancel-left (c .before .before .before .before .before .before .before .before .before .before .before .before .before .before .before .args .j * (11 * c .before .before .before .before .before .before .before .before .before .before .before .before .before .before .before .args .window .buckets)) (11 * c .before .before .before .before .before .before .before .before .before .before .before .before .before .before .before .args .window .buckets)) (pushedAll (c .before .before .before .before .before .before .before .before .before .before .before .before .before .before .before .args .time) (c .before .before .before .before .before .before .before .before .before .before .before .before .before .before .before .args .lags .now)) (pushed-all-sizes _ _ _) _ _ _ _ (c .before .before .before .before .before .before .push-all .ensures)))  -- returns
+    Inv-loop
+    μ-loop
+    (λ c. (omega arith, search going-start, refl, refl, refl))  -- loop-holds
+    (λ c. search needs)  -- mul-push
+    (λ c. omega arith)  -- shared-slice-read-push
+    (λ c κs. going-asks _ _ _ _ _ (c .before .before .before .before .before .before .before .before .before .before .pre .1 .0) (c .before .before .before .before .before .loop .inv .1) (c .before .before .before .before .loop-test .taken))  -- push-requires
+    (λ c. omega arith)  -- add-i
+    (λ c. omega arith)  -- loop-less
+    (λ c. (omega arith, going-more _ _ _ _ _ (c .before .before .before .before .before .before .before .before .before .before .before .before .before .before .before .before .before .pre .1 .0) (c .before .before .before .before .before .before .before .before .before .before .before .before .loop .inv .1) _ (c .before .before .before .before .before .before .before .before .before .before .before .loop-test .taken) (c .before .before .before .before .before .before .push .ensures), omega arith, omega arith, omega arith))  -- loop-again
+    (λ c. omega arith)  -- same-length
+    (λ c. omega arith)  -- same-length-2
+    (λ c. omega arith)  -- same-length-3
+    (λ c. going-end _ _ _ _ _ (c .before .before .before .before .before .before .pre .1 .0) (c .before .loop .inv .1) (c .loop-test .left)))  -- returns

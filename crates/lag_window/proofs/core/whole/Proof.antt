@@ -1,8 +1,6 @@
 -- `lag_window::core::whole` meets its contract. Assumes nothing.
 use borrow.Author.Needs.{needs}
-use Rattle.lag_window.proofs.Parting.{part-shaped, part-whole}
-use native.Mathlib.Nat.{add-sub-cancel-left}
-use Prim.Native.Nat.{_*_}
+use Rattle.rules_window.proofs.Wholes.{few-fails, apart-fails, span-fails, timely-fails, starts-fail, totals-fail, rows-tell}
 use Rattle.lag_window.proofs.core.whole.Statement.{statement}
 use Rattle.lag_window.proofs.core.whole.Tie as tie
 
@@ -10,22 +8,16 @@ pub whole-spec : {M : Type 1} → statement M
 whole-spec =
     tie.close
     (tie.spec
-    (λ c. search needs)  -- mul-a
-    (λ c. search needs)  -- add-e
-    (λ c. search needs)  -- mul-n
-    (λ c. search needs)  -- mul-from
-    (λ c. search needs)  -- add-to
-    (λ c. search needs)  -- mul-whole
-    (λ c. search needs)  -- sub-whole
-    (λ c. search needs)  -- part-whole-start
-    (λ c. search needs)  -- part-whole-end
-    (λ c. search needs)  -- mul-whole-2
-    (λ c. search needs)  -- sub-whole-2
-    (λ c. search needs)  -- part-whole-start-2
-    (λ c. search needs)  -- part-whole-end-2
-    (λ c. search needs)  -- mul-whole-3
-    (λ c. search needs)  -- sub-whole-3
-    (λ c. search needs)  -- part-whole-start-3
-    (λ c. search needs)  -- part-whole-end-3
-    (λ c κs. part-shaped (c .before .before .before .before .before .before .before .args .j) (c .before .before .before .before .before .before .before .args .window) (c .before .before .before .before .before .before .before .args .starts .now) (c .before .before .before .before .before .before .before .args .totals .now) (c .before .before .before .before .before .before .before .args .counts .now) _ _ (add-sub-cancel-left (c .before .before .before .before .before .before .before .args .j * 11) 11) (add-sub-cancel-left (c .before .before .before .before .before .before .before .args .j * (11 * c .before .before .before .before .before .before .before .args .window .buckets)) (11 * c .before .before .before .before .before .before .before .args .window .buckets)) (c .before .before .before .before .before .before .before .pre))  -- whole-requires
-    (λ c. part-whole (c .before .before .before .before .before .before .before .before .args .j) (c .before .before .before .before .before .before .before .before .args .window) (c .before .before .before .before .before .before .before .before .args .starts .now) (c .before .before .before .before .before .before .before .before .args .totals .now) (c .before .before .before .before .before .before .before .before .args .counts .now) _ _ (add-sub-cancel-left (c .before .before .before .before .before .before .before .before .args .j * 11) 11) (add-sub-cancel-left (c .before .before .before .before .before .before .before .before .args .j * (11 * c .before .before .before .before .before .before .before .before .args .window .buckets)) (11 * c .before .before .before .before .before .before .before .before .args .window .buckets)) _ (c .whole .ensures)))  -- returns
+    (λ c. search few-fails)  -- returns
+    (λ c κs. search needs)  -- spaced-requires
+    (λ c. apart-fails _ _ (c .before .spaced .ensures) (c .if2 .taken))  -- returns-2
+    (λ c κs. search needs)  -- span-requires
+    (λ c. span-fails _ _ (c .before .span .ensures) (c .if3 .taken))  -- returns-3
+    (λ c κs. search needs)  -- up-to-u64-requires
+    (λ c. timely-fails _ _ (c .before .up-to-u64 .ensures) (c .if4 .taken))  -- returns-4
+    (λ c κs. search needs)  -- blank-u64-requires
+    (λ c. starts-fail _ _ (c .before .blank-u64 .ensures) (c .if5 .taken))  -- returns-5
+    (λ c κs. search needs)  -- blank-u64-requires-2
+    (λ c. totals-fail _ _ (c .before .blank-u642 .ensures) (c .if6 .taken))  -- returns-6
+    (λ c κs. search needs)  -- summed-requires
+    (λ c. rows-tell _ _ _ _ _ _ _ (c .before .before .before .before .before .before .before .before .before .before .before .before .before .before .before .pre) (c .before .before .before .before .before .before .before .before .before .before .before .if1 .left) (c .before .before .before .before .before .before .before .before .before .before .spaced .ensures) (c .before .before .before .before .before .before .before .before .before .if2 .left) (c .before .before .before .before .before .before .before .before .span .ensures) (c .before .before .before .before .before .before .before .if3 .left) (c .before .before .before .before .before .before .up-to-u64 .ensures) (c .before .before .before .before .before .if4 .left) (c .before .before .before .before .blank-u64 .ensures) (c .before .before .before .if5 .left) (c .before .before .blank-u642 .ensures) (c .before .if6 .left) (c .summed .ensures)))  -- returns-7

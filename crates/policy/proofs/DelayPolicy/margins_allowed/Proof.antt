@@ -1,6 +1,6 @@
 -- `policy::DelayPolicy::margins_allowed` meets its contract. Assumes nothing.
 use borrow.Author.Tests.{le-leb, lt-leb}
-use mathlib.Core.Path.{_≡_, refl}
+use mathlib.Core.Path.{refl}
 use lib.Ieee.{ofBits}
 use Rattle.base.specs.Choice.{both}
 use Rattle.base.proofs.All.{both-yes}

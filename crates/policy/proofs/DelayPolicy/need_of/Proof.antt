@@ -1,5 +1,4 @@
 -- `policy::DelayPolicy::need_of` meets its contract. Assumes nothing.
-use mathlib.Core.Path.{_≡_, sym}
 use borrow.Author.Needs.{needs}
 use Rattle.base.proofs.All.{told-yes, told-no}
 use Rattle.policy.proofs.Checks.{allowed-sound, refused-two, refused-four, answered}

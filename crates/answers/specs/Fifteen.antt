@@ -1,0 +1,66 @@
+-- Document 01's fifteen worked answers in one place, stated of what the calls themselves answer: three of Doubles, three of Need,
+-- four quantiles, five of `next` as far as current 48. Assumes nothing.
+use Prim.Native.Nat.{ℕ, _*_}
+use mathlib.Core.Bool.{false}
+use mathlib.Core.Path.{_≡_}
+use mathlib.Core.List.{List, [], _∷_, _++_}
+use lib.IntN.{pos, negsuc}
+use lib.Ieee.{Float, fin, binary64, round}
+use lib.ListN.{replicate}
+use Rattle.doubles.specs.Doubles.{msOf, samplesOf}
+use Rattle.policy.specs.declared.DelayPolicy.{DelayPolicy}
+use Rattle.policy.specs.declared.Need.the-variants as Need
+use Rattle.policy.specs.Need.{needReply}
+use Rattle.rules_window.specs.declared.Quantile.the-variants.{End}
+use Rattle.rules_window.specs.Window.{Window, bucketsOf, pushedAll}
+use Rattle.rules_window.specs.Checks as window
+use Rattle.delay_hold.specs.declared.Lag.{Lag}
+use Rattle.delay_hold.specs.declared.Lag.the-variants.{None, Of}
+use Rattle.delay_hold.specs.declared.Answer.{Answer}
+use Rattle.delay_hold.specs.declared.Answer.the-variants.{Kept, Changed}
+use Rattle.delay_hold.specs.Next.{Held}
+use Rattle.delay_hold.specs.Checks as hold
+
+-- "With offset 480, maximum 4,800, margin 96, share 0.5", "hold 30 s, window 10 s"
+abbrev pub settings : DelayPolicy
+settings = record { «read_offset» = 480; «delay_max» = 4800; hold = 30_000_000_000; window = 10_000_000_000; margin = 96; «margin_share» = fin false 1 (negsuc 0) }
+
+-- a window of W 48 that `LagWindow::new` made on lists which were not zero, with the fewest buckets that there are at this W
+abbrev pub made : Window
+made = window.newReply 0 0 48 (replicate 11 7) (replicate 11 7) (replicate (11 * bucketsOf 0 0 48) 7) .window
+
+-- it after these lags were pushed, one after the other, at one time
+abbrev pub after : List ℕ → (w : Window) → Window
+after [] w = w
+after (lag ∷ lags) w = after lags (window.pushReply lag 5 w .window)
+
+-- q 1, and the double nearest to 0.999
+abbrev pub one : Float
+one = fin false 1 (pos 0)
+
+abbrev pub permille : Float
+permille = round binary64 false 999 1000
+
+-- a hold that `DelayHold::new` made on lists which were not zero, and what its first `next` answers, one hour after the clock's start
+abbrev pub fresh : Held
+fresh = hold.newReply (replicate 600 7) (replicate 600 7) .held
+
+abbrev pub first : (p999 largest : Lag) (current : ℕ) → Answer
+first p999 largest current = hold.nextReply settings 48 fresh p999 largest current 3_600_000_000_000 .answer
+
+pub record Fifteen : Type 0 where
+  -- "`ms(48)` = 1"
+  pub milliseconds : msOf 48 ≡ fin false 1 (pos 0)
+  -- "`samples` of 0.03125 is 2, of 0.010416 is 0"
+  pub samples : samplesOf (fin false 1 (negsuc 4)) ∷ samplesOf (round binary64 false 10416 1000000) ∷ [] ≡ 2 ∷ 0 ∷ []
+  -- "need(480) = 96, need(485) = 104, need(5280) = 4800"
+  pub needs : needReply settings 480 ∷ needReply settings 485 ∷ needReply settings 5280 ∷ [] ≡ Need.Of 96 ∷ Need.Of 104 ∷ Need.Of 4800 ∷ []
+  -- "W 48, lags 0 and 100, q 1: limit 95 gives 48, limit 96 gives 144. 999 lags of 0 and one of 48 at 0.999: 48. 998 and two: 96."
+  pub limited : window.quantileUptoReply one 95 (after (0 ∷ 100 ∷ []) made) ∷ window.quantileUptoReply one 96 (after (0 ∷ 100 ∷ []) made) ∷ [] ≡ End 48 ∷ End 144 ∷ []
+  -- the thousand lags as one tick brings them
+  pub one-above : window.quantileReply permille (pushedAll 5 (replicate 999 0 ++ 48 ∷ []) made) ≡ End 48
+  pub two-above : window.quantileReply permille (pushedAll 5 (replicate 998 0 ++ 48 ∷ 48 ∷ []) made) ≡ End 96
+  -- "Current 0: lag 485 gives 104, lag 480 none, lag 5281 none. p999 480, no lag: current 47 raises to 96, 48 does not"
+  pub decisions :
+      first None (Of 485) 0 ∷ first None (Of 480) 0 ∷ first None (Of 5281) 0 ∷ first (Of 480) None 47 ∷ first (Of 480) None 48 ∷ []
+      ≡ Changed 104 ∷ Kept ∷ Kept ∷ Changed 96 ∷ Kept ∷ []

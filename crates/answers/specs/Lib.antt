@@ -1,0 +1,2 @@
+-- The worked answers of document 01.
+pub mod Fifteen

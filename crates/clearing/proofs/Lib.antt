@@ -1,3 +1,0 @@
--- Laws of clearing.
-pub mod Frames
-mod Parts

@@ -1,2 +1,0 @@
--- The definitions that the contracts of `clearing` cite.
-pub mod Clearing

@@ -1,2 +1,0 @@
--- Laws of commands that crates above cite.
-pub mod Steps

@@ -1,2 +1,0 @@
--- The commands.
-pub mod Commands

@@ -1,3 +1,0 @@
--- Laws of the flow table that crates above cite.
-mod Cases
-pub mod Table

@@ -1,2 +1,0 @@
--- The flow table.
-pub mod Flows

@@ -1,0 +1,96 @@
+-- `inputs_checks::core::whole_input` meets its contract. Assumes nothing.
+use Prim.Native.Nat.{_*_}
+use native.Mathlib.Nat.{add-sub-cancel-left}
+use borrow.Author.Needs.{needs}
+use Rattle.base.proofs.All.{both-no, both-yes, told-no, told-yes}
+use Rattle.rules_record.specs.Record.{wholeInput}
+use Rattle.rules_record.proofs.RecordCases.{told-hold, told-slot, told-window, window-asks}
+use Rattle.inputs_checks.proofs.core.whole_input.Statement.{statement}
+use Rattle.inputs_checks.proofs.core.whole_input.Tie as tie
+
+buckets-of-requires : tie.Need-buckets-of-requires
+buckets-of-requires c κs = search needs
+
+whole-requires : tie.Need-whole-requires
+whole-requires c κs =
+    let args = c .before .before .before .before .before .before .args in
+    window-asks (args .i) (args .starts .now) (args .totals .now) (args .counts .now) (args .times .now) (args .peaks .now) (args .policy) (args .width) (args .slot) (c .buckets-of .ensures) (c .before .before .before .before .before .before .pre .1 .0)
+
+returns : tie.Need-returns
+unfolding wholeInput
+returns c s p w f e =
+    let args = c .before .before .before .before .before .before .before .before .args in
+    both-no _ _ (told-no _ _ (told-window (args .i) (args .starts .now) (args .totals .now) (args .counts .now) (args .times .now) (args .peaks .now) s p w e (c .before .before .buckets-of .ensures) (c .before .whole .ensures)) (c .if1 .taken))
+
+mul-a : tie.Need-mul-a
+mul-a c = search needs
+
+add-e : tie.Need-add-e
+add-e c = search needs
+
+mul-whole : tie.Need-mul-whole
+mul-whole c = search needs
+
+sub-whole : tie.Need-sub-whole
+sub-whole c = search needs
+
+part-whole-start : tie.Need-part-whole-start
+part-whole-start c = search needs
+
+part-whole-end : tie.Need-part-whole-end
+part-whole-end c = search needs
+
+mul-whole-2 : tie.Need-mul-whole-2
+mul-whole-2 c = search needs
+
+sub-whole-2 : tie.Need-sub-whole-2
+sub-whole-2 c = search needs
+
+part-whole-start-2 : tie.Need-part-whole-start-2
+part-whole-start-2 c = search needs
+
+part-whole-end-2 : tie.Need-part-whole-end-2
+part-whole-end-2 c = search needs
+
+whole-requires-2 : tie.Need-whole-requires-2
+whole-requires-2 c κs = search needs
+
+returns-2 : tie.Need-returns-2
+unfolding wholeInput
+returns-2 c s p w f e =
+    let args = c .before .before .before .before .before .before .before .before .before .before .before .before .before .args in
+    both-yes _ _ _ (told-yes _ _ (told-window (args .i) (args .starts .now) (args .totals .now) (args .counts .now) (args .times .now) (args .peaks .now) s p w e (c .before .before .before .before .before .before .before .buckets-of .ensures) (c .before .before .before .before .before .before .whole .ensures)) (c .before .before .before .before .before .if1 .left))
+    (both-no _ _ (told-no _ _ (told-hold (args .i) (args .starts .now) (args .totals .now) (args .counts .now) (args .times .now) (args .peaks .now) s p w e (add-sub-cancel-left (args .i * 600) 600) (c .before .whole2 .ensures)) (c .if2 .taken)))
+
+whole-slot-requires : tie.Need-whole-slot-requires
+whole-slot-requires c κs = search needs
+
+returns-3 : tie.Need-returns-3
+unfolding wholeInput
+returns-3 c s p w f e =
+    let args = c .before .before .before .before .before .before .before .before .before .before .before .before .before .before .args in
+    both-yes _ _ _ (told-yes _ _ (told-window (args .i) (args .starts .now) (args .totals .now) (args .counts .now) (args .times .now) (args .peaks .now) s p w e (c .before .before .before .before .before .before .before .before .buckets-of .ensures) (c .before .before .before .before .before .before .before .whole .ensures)) (c .before .before .before .before .before .before .if1 .left))
+    (both-yes _ _ _ (told-yes _ _ (told-hold (args .i) (args .starts .now) (args .totals .now) (args .counts .now) (args .times .now) (args .peaks .now) s p w e (add-sub-cancel-left (args .i * 600) 600) (c .before .before .whole2 .ensures)) (c .before .if2 .left))
+    (told-slot (args .i) (args .starts .now) (args .totals .now) (args .counts .now) (args .times .now) (args .peaks .now) s p w e f (c .whole-slot .ensures)))
+
+pub whole-input-spec : {M : Type 1} → statement M
+whole-input-spec =
+    tie.close
+    (tie.spec
+    buckets-of-requires
+    whole-requires
+    returns
+    mul-a
+    add-e
+    mul-whole
+    sub-whole
+    part-whole-start
+    part-whole-end
+    mul-whole-2
+    sub-whole-2
+    part-whole-start-2
+    part-whole-end-2
+    whole-requires-2
+    returns-2
+    whole-slot-requires
+    returns-3)

@@ -1,0 +1,159 @@
+// Check 6 of a whole supervisor, for a record and lists that checks 1 to 5 let through.
+ghost use mathlib.Core.Path.{_≡_};
+ghost use Prim.Native.Nat.{_+_, _*_, _≤_};
+ghost use lib.ListN.{length};
+ghost use Rattle.policy.specs.Settings.{Sound};
+ghost use Rattle.rules_window.specs.Window.{bucketsOf};
+ghost use Rattle.lag_window.specs.Lent.{lent};
+ghost use Rattle.rules_window.specs.Parts.{Held};
+ghost use Rattle.rules_record.specs.declared.Inputs.{Inputs};
+ghost use Rattle.rules_record.specs.Inputs.{slotAt};
+ghost use Rattle.rules_record.specs.Lent.{lists};
+ghost use Rattle.rules_record.specs.Record.{wholeInput, wholeInputs, wholeRecord};
+ghost use Rattle.rules_record.specs.Checks.{listsFit, commandsFit, Fitting};
+use lag_window::LagWindow;
+use policy::DelayPolicy;
+use rules_record::Commands;
+use rules_record::Inputs;
+use rules_record::Slot;
+
+// The peaks that are kept of an input.
+const PEAKS: usize = 600;
+
+// Has each lent list its exact length, for n inputs and so many buckets a second (check 5)?
+pub fn lists_fit(
+    n: usize,
+    buckets: usize,
+    starts: &[u64],
+    totals: &[u64],
+    counts: &[u32],
+    times: &[u64],
+    peaks: &[u32],
+) -> bool
+    requires { ⌜ (n ≤ 16) × (buckets ≤ 4096) ⌝ }
+    ensures { λ r. ⌜ r ≡ listsFit n buckets (lists (now (starts .entry)) (now (totals .entry)) (now (counts .entry)) (now (times .entry)) (now (peaks .entry))) ⌝ }
+{
+    if starts.len() != n * LagWindow::SECONDS {
+        return false;
+    }
+    if totals.len() != n * LagWindow::SECONDS {
+        return false;
+    }
+    if counts.len() != n * (LagWindow::SECONDS * buckets) {
+        return false;
+    }
+    if times.len() != n * PEAKS {
+        return false;
+    }
+    peaks.len() == n * PEAKS
+}
+
+// The commands have 12 words an input, where the call takes them (check 5).
+pub fn commands_fit(n: usize, commands: Commands) -> bool
+    requires { ⌜ n ≤ 16 ⌝ }
+    ensures { λ r. ⌜ r ≡ commandsFit n commands ⌝ }
+{
+    let Commands::Words(words) = commands else {
+        return true;
+    };
+    words == n * 12
+}
+
+// Input i: its seconds, its peaks with seed and timer, and the rest of its slot. Each count is read once, but in a row with a count of 2^20 or more. Only what is read is handed on:
+// the record would be copied for each input.
+fn whole_input(
+    policy: DelayPolicy,
+    width: u32,
+    flows: usize,
+    i: usize,
+    slot: Slot,
+    starts: &[u64],
+    totals: &[u64],
+    counts: &[u32],
+    times: &[u64],
+    peaks: &[u32],
+) -> bool
+    requires { ⌜ Sound policy ⌝ }
+    requires { ⌜ Held i (lent (record { seconds = slot .«lag_seconds»; buckets = bucketsOf (policy .«read_offset») (policy .«delay_max») width; width = width }) (now starts) (now totals) (now counts)) ⌝ }
+    requires { ⌜ (i * 600 + 600 ≤ length (now times)) × (i * 600 + 600 ≤ length (now peaks)) ⌝ }
+    ensures { λ r. ⌜ ((s : Inputs) → (policy ≡ s .policy) → (width ≡ s .width) → (flows ≡ s .«flow_count») → (slot ≡ slotAt s i) → r ≡ wholeInput s (lists (now (starts .entry)) (now (totals .entry)) (now (counts .entry)) (now (times .entry)) (now (peaks .entry))) i) ⌝ }
+{
+    let window = LagWindow {
+        seconds: slot.lag_seconds,
+        buckets: lag_rows::core::buckets_of(policy.read_offset, policy.delay_max, width),
+        width,
+    };
+    if !inputs_window::core::whole(window, i, starts, totals, counts) {
+        return false;
+    }
+    let hold = slot.hold;
+    let a = i * PEAKS;
+    let e = a + PEAKS;
+    if !delay_hold::core::whole(hold, policy, width, &times[a..e], &peaks[a..e]) {
+        return false;
+    }
+    inputs_places::whole_slot(policy.delay_max, flows, slot)
+}
+
+// An input is whole, and a slot after the inputs is not in use.
+fn whole_inputs(
+    inputs: Inputs,
+    starts: &[u64],
+    totals: &[u64],
+    counts: &[u32],
+    times: &[u64],
+    peaks: &[u32],
+) -> bool
+    requires { ⌜ Fitting inputs (lists (now starts) (now totals) (now counts) (now times) (now peaks)) ⌝ }
+    ensures { λ r. ⌜ r ≡ wholeInputs inputs (lists (now (starts .entry)) (now (totals .entry)) (now (counts .entry)) (now (times .entry)) (now (peaks .entry))) ⌝ }
+{
+    let policy = inputs.policy;
+    let mut i: usize = 0;
+    while i < inputs.count {
+        let slot = inputs.slots[i];
+        if !whole_input(
+            policy,
+            inputs.width,
+            inputs.flow_count,
+            i,
+            slot,
+            starts,
+            totals,
+            counts,
+            times,
+            peaks,
+        ) {
+            return false;
+        }
+        i += 1;
+    }
+    while i < 16 {
+        let slot = inputs.slots[i];
+        if !inputs_places::unused_slot(slot) {
+            return false;
+        }
+        i += 1;
+    }
+    true
+}
+
+// Is the record whole?
+pub fn whole(
+    inputs: Inputs,
+    starts: &[u64],
+    totals: &[u64],
+    counts: &[u32],
+    times: &[u64],
+    peaks: &[u32],
+) -> bool
+    requires { ⌜ Fitting inputs (lists (now starts) (now totals) (now counts) (now times) (now peaks)) ⌝ }
+    ensures { λ r. ⌜ r ≡ wholeRecord inputs (lists (now (starts .entry)) (now (totals .entry)) (now (counts .entry)) (now (times .entry)) (now (peaks .entry))) ⌝ }
+{
+    if !whole_inputs(inputs, starts, totals, counts, times, peaks) {
+        return false;
+    }
+    if !inputs_places::whole_flows(inputs) {
+        return false;
+    }
+    inputs_places::whole_instances(inputs)
+}

@@ -1,0 +1,135 @@
+// The whole record of a supervisor with the lists lent for it: checks 1 to 8 of the calls (document 01, "The gatekeeper's questions").
+ghost use mathlib.Core.Path.{_≡_};
+ghost use Rattle.rules_record.specs.Sized.{Sized};
+ghost use Rattle.rules_record.specs.Lent.{lists};
+ghost use Rattle.rules_record.specs.Checks.{inputsAllowed, bucketsAllowed, pausesAllowed, recordNumber, timedNumber};
+use policy::DelayPolicy;
+use rules_record::Commands;
+use rules_record::Inputs;
+
+// Functions that ask something of their caller; the crates above use them after their checks.
+pub mod core;
+
+// Are there 1 to 16 inputs (check 1)?
+pub fn inputs_allowed(n: usize) -> bool
+    ensures { λ r. ⌜ r ≡ inputsAllowed n ⌝ }
+{
+    if n < 1 {
+        return false;
+    }
+    n <= 16
+}
+
+// Are offset and maximum at most 96,000, W 1 to 4,800, buckets at most 4,096 (check 2)?
+pub fn buckets_allowed(policy: DelayPolicy, width: u32) -> bool
+    ensures { λ r. ⌜ r ≡ bucketsAllowed policy width ⌝ }
+{
+    if !policy.reaches_allowed() {
+        return false;
+    }
+    if width < 1 {
+        return false;
+    }
+    if 4_800 < width {
+        return false;
+    }
+    lag_rows::core::buckets_of(policy.read_offset, policy.delay_max, width) <= 4_096
+}
+
+// Are hold and stall at most 600 s, window 1 to 600 s (check 3)?
+pub fn pauses_allowed(policy: DelayPolicy, stall: u64) -> bool
+    ensures { λ r. ⌜ r ≡ pausesAllowed policy stall ⌝ }
+{
+    if !policy.times_allowed() {
+        return false;
+    }
+    stall <= base::SPAN_LIMIT
+}
+
+fn first_refused(
+    inputs: Inputs,
+    starts: &[u64],
+    totals: &[u64],
+    counts: &[u32],
+    times: &[u64],
+    peaks: &[u32],
+    commands: Commands,
+) -> u32
+    ensures { λ r. ⌜ r ≡ recordNumber inputs (lists (now (starts .entry)) (now (totals .entry)) (now (counts .entry)) (now (times .entry)) (now (peaks .entry))) commands 0 ⌝ }
+{
+    if !inputs_allowed(inputs.count) {
+        return 1;
+    }
+    let policy = inputs.policy;
+    if !buckets_allowed(policy, inputs.width) {
+        return 2;
+    }
+    if !pauses_allowed(policy, inputs.stall) {
+        return 3;
+    }
+    if !policy.margins_allowed() {
+        return 4;
+    }
+    let buckets = lag_rows::core::buckets_of(policy.read_offset, policy.delay_max, inputs.width);
+    if !core::lists_fit(inputs.count, buckets, starts, totals, counts, times, peaks) {
+        return 5;
+    }
+    if !core::commands_fit(inputs.count, commands) {
+        return 5;
+    }
+    if !core::whole(inputs, starts, totals, counts, times, peaks) {
+        return 6;
+    }
+    0
+}
+
+// The number of the first of checks 1 to 6 that says no, or 0. The record's tables have their places, as in every value of its type.
+pub fn checks(
+    inputs: Inputs,
+    starts: &[u64],
+    totals: &[u64],
+    counts: &[u32],
+    times: &[u64],
+    peaks: &[u32],
+    commands: Commands,
+) -> u32
+    ensures { λ r. ⌜ r ≡ recordNumber inputs (lists (now (starts .entry)) (now (totals .entry)) (now (counts .entry)) (now (times .entry)) (now (peaks .entry))) commands 0 ⌝ }
+    ensures { λ _. ⌜ Sized inputs ⌝ }
+{
+    first_refused(inputs, starts, totals, counts, times, peaks, commands)
+}
+
+// The number of the first of checks 1 to 8 that says no, or 0, of a call on one input that takes so many words of commands.
+pub fn input_checks(
+    inputs: Inputs,
+    input: usize,
+    time: u64,
+    starts: &[u64],
+    totals: &[u64],
+    counts: &[u32],
+    times: &[u64],
+    peaks: &[u32],
+    words: usize,
+) -> u32
+    ensures { λ r. ⌜ r ≡ timedNumber inputs (lists (now (starts .entry)) (now (totals .entry)) (now (counts .entry)) (now (times .entry)) (now (peaks .entry))) words input time 0 ⌝ }
+{
+    let number = checks(
+        inputs,
+        starts,
+        totals,
+        counts,
+        times,
+        peaks,
+        Commands::Words(words),
+    );
+    if number != 0 {
+        return number;
+    }
+    if inputs.count <= input {
+        return 7;
+    }
+    if base::TIME_LIMIT < time {
+        return 8;
+    }
+    0
+}

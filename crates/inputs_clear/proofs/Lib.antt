@@ -1,0 +1,2 @@
+-- An input cleared, as the code makes it.
+pub mod ClearParts

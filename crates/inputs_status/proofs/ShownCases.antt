@@ -1,0 +1,124 @@
+-- What the functions of a status ask of a record that was checked, and the whole status. Assumes nothing.
+use Prim.Native.Nat.{ℕ, _+_, _-_, _*_, _<_, _≤_}
+use mathlib.Core.Path.{_≡_, sym, ap, subst, _∙_}
+use mathlib.Core.List.{List, []}
+use native.Mathlib.Omega.{arith}
+use lib.Ieee.{Float}
+use lib.ListN.{length}
+use Rattle.base.specs.Lists.{part}
+use Rattle.doubles.specs.Doubles.{msOf}
+use Rattle.lag_window.specs.declared.LagWindow.{LagWindow}
+use Rattle.rules_window.specs.declared.Quantile.the-variants as Quantile
+use Rattle.lag_window.specs.Lent.{lent}
+use Rattle.rules_window.specs.Whole.{Sound}
+use Rattle.rules_window.specs.Parts.{partOf}
+use Rattle.rules_window.specs.Quantile.{Placeable, ShortRows}
+use Rattle.rules_window.proofs.WholeAt.{whole-of}
+use Rattle.rules_window.proofs.Totals.{rows-short}
+use Rattle.rules_window.proofs.Numbers.{sound-placeable}
+use Rattle.delay_hold.proofs.Wholes as holds
+use Rattle.rules_record.specs.declared.Slot.{Slot}
+use Rattle.rules_record.specs.declared.Inputs.{Inputs}
+use Rattle.rules_record.specs.Slots.{stateNumber}
+use Rattle.rules_record.specs.Inputs.{slotAt}
+use Rattle.rules_record.specs.Lent.{Lists, windowOf, heldOf}
+use Rattle.inputs_window.specs.Windows.{windowIn}
+use Rattle.base.proofs.Blocks.{block-within}
+use Rattle.rules_record.specs.Facts.{Checked}
+use Rattle.rules_record.proofs.Shapes.{window-sound, window-held, held-lags}
+use Rattle.rules_calls.specs.declared.Sourced.{Sourced}
+use Rattle.rules_calls.specs.declared.Milliseconds.{Milliseconds}
+use Rattle.rules_calls.specs.declared.Arrival.{Arrival}
+use Rattle.rules_calls.specs.declared.Arrival.the-variants as Arrival
+use Rattle.rules_calls.specs.declared.InputStatus.{InputStatus}
+use Rattle.rules_calls.specs.Status.{sourceOf, channelsShown, proposedMs, thousandths, arrivalIn, worstMs, statusFor, statusOf}
+use Rattle.inputs_status.specs.StatusAsked.{Countable}
+use Rattle.rules_calls.proofs.StatusShows.{thousandths-in}
+
+pub quantile-asks : {w : LagWindow} {i : ℕ} {counts : List ℕ} → Countable w i counts → {q : Float} (k : ℕ) → q ≡ thousandths k → k ≤ 1000 →
+    ((w .seconds ≤ 11) × (w .buckets ≤ 4096) × (1 ≤ w .width) × (w .width ≤ 4800))
+    × ((i * (11 * w .buckets) + 11 * w .buckets ≤ length counts) × (Placeable q 4294967295 (partOf i (lent w [] [] counts)) × ShortRows (w .buckets) (w .seconds) (part (i * (11 * w .buckets)) (11 * w .buckets) counts)))
+quantile-asks {w} {i} {counts} c k is-q h =
+    ((c .few, c .buckets-most, c .width-least, c .width-most), (c .counts-in, (subst (λ (x : Float). Placeable x 4294967295 (partOf i (lent w [] [] counts))) (sym is-q) (c .placeable (thousandths k) (thousandths-in k h)), c .short)))
+
+-- ---- what the inner functions ask
+-- the end of a part `a..a + k` comes back as `a + k - a`
+pub span-is : (a k : ℕ) → a + k - a ≡ k
+span-is a k = omega arith
+
+module _ (s : Inputs) (l : Lists) (c : Checked s l) (i : ℕ) (h : i < s .count) {slot : Slot} (is-slot : slot ≡ slotAt s i) where
+  window-is-sound : Sound (windowOf s l i)
+  window-is-sound = window-sound s l c i h
+
+  pub countable : {w : LagWindow} → w ≡ windowIn s slot → Countable w i (l .counts)
+  countable is-window =
+      subst (λ (x : LagWindow). Countable x i (l .counts)) (sym (is-window ∙ ap (windowIn s) is-slot))
+      (record {
+        few = whole-of _ window-is-sound .few;
+        buckets-most = window-is-sound .shaped .buckets-high;
+        width-least = window-is-sound .shaped .width-low;
+        width-most = window-is-sound .shaped .width-high;
+        counts-in = window-held s l (c .fitting) i (slotAt s i) h .counts-in;
+        placeable = λ q e. sound-placeable q 4294967295 (windowOf s l i) window-is-sound e;
+        short = rows-short (windowOf s l i) window-is-sound;
+      })
+
+  pub peaks-in : {k : ℕ} → k ≡ 600 → slot .hold .peaks ≤ length (part (i * 600) k (l .lags))
+  peaks-in {k} is-k =
+      subst (λ (x : Slot). x .hold .peaks ≤ length (part (i * 600) k (l .lags))) (sym is-slot)
+      (omega (arith, ap (λ (x : ℕ). length (part (i * 600) x (l .lags))) is-k, held-lags s l (c .fitting) i h, holds.whole-of (s .policy) (s .width) (heldOf s l i) (c .whole .inputs i h .hold) .0 .count))
+
+  pub lags-within : i * 600 + 600 ≤ length (l .lags)
+  lags-within = omega (arith, block-within i (s .count) 600 h, c .fitting .long .lags)
+
+-- ---- the whole status
+module _ (s : Inputs) (l : Lists) (i applied channels : ℕ) {slot : Slot} (is-slot : slot ≡ slotAt s i) where
+  pub status-by : {code shown k : ℕ} {source : Sourced} {w : LagWindow} {arrival : Arrival} {worst proposed : Milliseconds} {extra effective last : Float}
+      → source ≡ sourceOf s (slot .route)
+      → w ≡ windowIn s slot
+      → arrival ≡ arrivalIn (partOf i (lent w [] [] (l .counts)))
+      → k ≡ 600
+      → worst ≡ worstMs slot (part (i * 600) k (l .lags))
+      → proposed ≡ proposedMs (slot .proposed)
+      → code ≡ stateNumber (slot .state)
+      → shown ≡ channelsShown (slot .state) channels
+      → extra ≡ msOf applied
+      → effective ≡ msOf (s .policy .«read_offset» + applied)
+      → last ≡ msOf (slot .«last_lag»)
+      → _≡_ {A = InputStatus}
+      (record {
+        number = 0;
+        state = code;
+        source = source;
+        channels = shown;
+        «extra_delay» = slot .config .«extra_delay»;
+        «extra_delay_ms» = extra;
+        «effective_delay_ms» = effective;
+        «proposed_delay_ms» = proposed;
+        «lag_ms» = last;
+        «arrival_lag_ms» = arrival;
+        «worst_lag_ms» = worst;
+        «delay_changes» = slot .«delay_changes»;
+        «late_events» = slot .«late_events»;
+        reopens = slot .reopens;
+      })
+      (statusOf s l i applied channels)
+  unfolding statusFor arrivalIn
+  status-by is-source is-window is-arrival is-k is-worst is-proposed is-code is-shown is-extra is-effective is-last =
+      (λ t. record {
+        number = 0;
+        state = is-code t;
+        source = is-source t;
+        channels = is-shown t;
+        «extra_delay» = slot .config .«extra_delay»;
+        «extra_delay_ms» = is-extra t;
+        «effective_delay_ms» = is-effective t;
+        «proposed_delay_ms» = is-proposed t;
+        «lag_ms» = is-last t;
+        «arrival_lag_ms» = (is-arrival ∙ (λ u. arrivalIn (partOf i (lent (is-window u) [] [] (l .counts))))) t;
+        «worst_lag_ms» = (is-worst ∙ (λ u. worstMs slot (part (i * 600) (is-k u) (l .lags)))) t;
+        «delay_changes» = slot .«delay_changes»;
+        «late_events» = slot .«late_events»;
+        reopens = slot .reopens;
+      })
+      ∙ ap (statusFor s l i applied channels) is-slot

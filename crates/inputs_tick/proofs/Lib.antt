@@ -1,2 +1,0 @@
--- Laws of the public call `tick`.
-pub mod Replies

@@ -1,2 +1,0 @@
--- The definitions that the contract of `inputs_tick` cites.
-pub mod Reply

@@ -1,0 +1,2 @@
+-- What the code makes of an input's window.
+pub mod Windows

@@ -1,2 +1,0 @@
--- The instance table.
-pub mod Instances

@@ -1,0 +1,3 @@
+-- Laws of sums and divisions that the code makes.
+pub mod Tallies
+pub mod Divisions

@@ -1,0 +1,33 @@
+-- `lag_rows::core::short_sum` meets its contract. Assumes nothing.
+use Prim.Native.Nat.{_≤_, _-_}
+use native.Mathlib.Omega.{arith}
+use borrow.Author.Needs.{needs}
+use Rattle.base.proofs.All.{from-none, from-more, from-end}
+use Rattle.rules_window.proofs.Sums.{from-fits}
+use Rattle.base.specs.Lists.{sumFrom}
+use mathlib.Core.Path.{_≡_, _∙_}
+use Rattle.lag_rows.proofs.core.short_sum.Statement.{statement}
+use Rattle.lag_rows.proofs.core.short_sum.Tie as tie
+
+abbrev Inv-loop : tie.InvT-loop
+Inv-loop s a n total₀ b₀ total b = (b ≤ n) × (total ≡ sumFrom a b s)
+
+abbrev μ-loop : tie.MeasureT-loop
+μ-loop s a n total₀ b₀ total b = n - b
+
+pub short-sum-spec : {M : Type 1} → statement M
+short-sum-spec =
+    tie.close
+    (tie.spec
+    Inv-loop
+    μ-loop
+    (λ c. (omega arith, search from-none))  -- loop-holds
+    (λ c. omega arith)  -- add-total
+    (λ c. search needs)  -- mul-total
+    (λ c. omega arith)  -- shared-slice-read-total
+    (λ c. search from-fits)  -- add-total-2
+    (λ c. omega arith)  -- add-b
+    (λ c. omega arith)  -- loop-less
+    (λ c. (omega arith, search from-more))  -- loop-again
+    (λ c κs. omega arith)  -- wide-requires
+    (λ c. (c .wide .ensures .0 ∙ from-end _ _ _ _ _ (c .before .before .loop .inv .1) (c .before .before .loop .inv .0) (c .before .loop-test .left), omega arith)))  -- returns

@@ -1,0 +1,13 @@
+-- A `LagWindow` with the lists lent for it, and what a call leaves of them. Assumes nothing.
+use Prim.Native.Nat.{ℕ}
+use mathlib.Core.List.{List}
+use Rattle.rules_window.specs.Window.{Window, windowed}
+use Rattle.rules_window.specs.Checks.{Reply}
+use Rattle.lag_window.specs.declared.LagWindow.{LagWindow}
+use Rattle.lag_window.specs.declared.WindowAnswer.{WindowAnswer}
+
+abbrev pub lent : (w : LagWindow) (starts totals counts : List ℕ) → Window
+lent w starts totals counts = windowed (w .seconds) (w .buckets) (w .width) starts totals counts
+
+abbrev pub left : (r : WindowAnswer) (starts totals counts : List ℕ) → Reply
+left r starts totals counts = record { number = r .number; window = lent (r .window) starts totals counts }

@@ -1,2 +1,0 @@
--- The definitions that the contracts of `lending` cite.
-pub mod Lengths

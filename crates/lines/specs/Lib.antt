@@ -1,2 +1,0 @@
--- The definitions that the contracts of `lines` cite.
-pub mod Lines

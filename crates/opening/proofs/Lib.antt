@@ -1,4 +1,0 @@
--- Laws of opening that crates above cite.
-mod Cases
-pub mod Frame
-pub mod Outcomes

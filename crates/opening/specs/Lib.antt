@@ -1,3 +1,0 @@
--- Opening a flow.
-pub mod Checks
-pub mod Opening

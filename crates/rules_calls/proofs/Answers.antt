@@ -1,0 +1,81 @@
+-- What `route` and `status` come to where they do little, and when an input is settled, in document 01's words. Assumes nothing.
+use Prim.Native.Nat.{ℕ, _+_, _-_, _<_}
+use mathlib.Core.Bool.{true, false, not}
+use mathlib.Core.Path.{_≡_, refl, sym, ap}
+use mathlib.Core.List.{List}
+use native.Mathlib.Omega.{arith}
+use lib.ListN.{length}
+use Rattle.base.proofs.Choices.{yes-pick, no-pick}
+use Rattle.base.proofs.Points.{true-both}
+use borrow.Author.Tests.{ne-eqb, le-leb, lt-leb}
+use Rattle.delay_hold.specs.declared.Moment.the-variants.{Never, At}
+use Rattle.rules_record.specs.declared.State.{State}
+use Rattle.rules_record.specs.declared.State.the-variants.{Unrouted, Waiting, Running, Stalled}
+use Rattle.rules_record.specs.declared.Route.{Route}
+use Rattle.rules_record.specs.declared.Routed.{Routed}
+use Rattle.rules_record.specs.declared.Routed.the-variants.{Nowhere, To}
+use Rattle.rules_record.specs.declared.Slot.{Slot}
+use Rattle.rules_record.specs.declared.Inputs.{Inputs}
+use Rattle.rules_record.specs.Slots.{isAuto}
+use Rattle.rules_record.specs.Inputs.{slotAt}
+use Rattle.rules_record.specs.Commands.{setDelay}
+use Rattle.rules_record.specs.Lent.{Lists}
+use Rattle.rules_record.specs.Effects.{silent}
+use Rattle.rules_routing.specs.declared.World.{World}
+use Rattle.rules_calls.specs.declared.Wanted.{Wanted}
+use Rattle.rules_calls.specs.declared.Milliseconds.the-variants as Milliseconds
+use Rattle.rules_calls.specs.Route.{equalRoute, otherFlow, startsOver, zeroing, routedTo}
+use Rattle.rules_calls.specs.RouteChecks.{routeNumber}
+use Rattle.rules_calls.specs.RouteReply.{routeReply}
+use Rattle.rules_calls.specs.Status.{channelsShown, worstMs}
+use Rattle.rules_calls.specs.StatusAnswers.{restedFor}
+use Rattle.rules_calls.proofs.RouteReplies.{route-refused}
+
+-- ---- `route`
+-- "an equal route on a routed input does nothing"
+pub equal-route-nothing : (new : Routed) (i time : ℕ) (world : World) (s : Inputs) (l : Lists) → equalRoute new (slotAt s i .route) ≡ true → routedTo new i time world s l ≡ silent s l
+unfolding routedTo
+equal-route-nothing new i time world s l equal = yes-pick _ _ equal
+
+-- "another flow, automatic, delay not 0: .. SetDelay 0": none after a flow is another too
+pub leaving-sets-zero : (i : ℕ) (slot : Slot) {old : Route} → slot .route ≡ To old → isAuto (slot .config .«extra_delay») ≡ true → (slot .delay ≡ 0 → ⊥) → zeroing i Nowhere slot ≡ setDelay i 0
+unfolding zeroing startsOver otherFlow
+leaving-sets-zero i slot from auto some =
+    yes-pick _ _
+    (true-both _ _ (ap (otherFlow Nowhere) from)
+    (true-both _ _ auto (ap not (ne-eqb _ _ some))))
+
+-- "a no ends it with that number .. and record and buffers unchanged"
+pub refused-route-leaves : (s : Inputs) (l : Lists) (commands : List ℕ) (input : ℕ) (wanted : Wanted) (time : ℕ) (world : World) → (routeNumber s l (length commands) input wanted time world ≡ 0 → ⊥)
+    → routeReply s l commands input wanted time world ≡ record { number = routeNumber s l (length commands) input wanted time world; inputs = s; lists = l; commands = commands }
+refused-route-leaves s l commands input wanted time world refused = sym (route-refused s l commands input wanted time world refl refused)
+
+-- ---- `status`
+-- "channels (0 if Unrouted)"
+pub channels-unrouted : (channels : ℕ) → channelsShown Unrouted channels ≡ 0
+unfolding channelsShown
+channels-unrouted channels = refl
+
+pub channels-routed : (state : State) → (state ≡ Unrouted → ⊥) → (channels : ℕ) → channelsShown state channels ≡ channels
+unfolding channelsShown
+channels-routed Unrouted routed channels = absurd (routed refl)
+channels-routed Waiting routed channels = refl
+channels-routed Running routed channels = refl
+channels-routed Stalled routed channels = refl
+
+-- "of the greatest peak if automatic": a manual input shows none
+pub worst-of-manual : (slot : Slot) (lags : List ℕ) → isAuto (slot .config .«extra_delay») ≡ false → worstMs slot lags ≡ Milliseconds.None
+unfolding worstMs
+worst-of-manual slot lags manual = no-pick _ _ manual
+
+-- ---- settled
+-- "no SetDelay went to that input within the last hold (age at least hold, or none ever)": an age of exactly hold is enough
+pub rested-at-hold : (set hold : ℕ) → restedFor (At set) hold (set + hold) ≡ true
+rested-at-hold set hold = le-leb hold (set + hold - set) (omega arith)
+
+-- .. and less is not
+pub unrested-before : (set hold time : ℕ) → time - set < hold → restedFor (At set) hold time ≡ false
+unrested-before set hold time soon = lt-leb hold (time - set) soon
+
+pub rested-never : (hold time : ℕ) → restedFor Never hold time ≡ true
+rested-never hold time = refl

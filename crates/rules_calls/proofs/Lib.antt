@@ -1,0 +1,25 @@
+-- Laws of the calls `new`, `route`, `update`, `confirm_delay`, `status`, `has_channels` and `settled`.
+pub mod Answers
+pub mod StatusAccepted
+pub mod StatusReplies
+pub mod StatusShows
+pub mod UpdateDelays
+pub mod UpdateFrames
+pub mod UpdateKeeps
+pub mod UpdateParts
+pub mod UpdateReplies
+pub mod RouteReplies
+pub mod RouteCases
+pub mod Enrolling
+pub mod RouteFrames
+pub mod RouteKeeps
+pub mod RouteOutcomes
+pub mod RouteSlots
+pub mod RouteViews
+pub mod NewAccepted
+pub mod NewBlank
+pub mod NewReplies
+pub mod NewLoaded
+pub mod NewLoops
+pub mod NewNumbers
+pub mod NewStarted

@@ -1,0 +1,70 @@
+-- The number of `new`: checks 1 to 5, then the time (8), then the room for the loaded flows (9). Assumes nothing.
+use Prim.Native.Nat.{ℕ, _<_, _≤_}
+use mathlib.Core.Bool.{Bool, true, false}
+use mathlib.Core.Path.{_≡_, refl, sym, _∙_}
+use mathlib.Core.List.{List}
+use lib.ListN.{length}
+use borrow.Author.Tests.{leb-true, lt-leb, le-leb}
+use Rattle.base.specs.Choice.{ask}
+use Rattle.base.specs.Limits.{timeLimit}
+use Rattle.base.proofs.Choices.{yes-ask, no-ask, asked}
+use Rattle.rules_record.specs.Lent.{Lists}
+use Rattle.base.proofs.Choices.{by-zero}
+use Rattle.rules_calls.specs.declared.Settings.{Settings}
+use Rattle.rules_calls.specs.NewRecord.{blankFor}
+use Rattle.rules_calls.specs.NewLoading.{loadFits}
+use Rattle.rules_calls.specs.NewChecks.{settingsNumber, newNumber}
+
+-- ---- checks 1 to 5: the number with others after them is theirs where this is 0, else this
+same-refusal : (k : ℕ) (b : Bool) {m n : ℕ} → ((n ≡ 0 → ⊥) → m ≡ n) → (ask k b n ≡ 0 → ⊥) → ask k b m ≡ ask k b n
+unfolding ask
+same-refusal k true same none = same none
+same-refusal k false same none = refl
+
+module _ (settings : Settings) (bytes delays : ℕ) (l : Lists) (words : ℕ) where
+  settings-refused : (settingsNumber settings bytes delays l words 0 ≡ 0 → ⊥) → (rest : ℕ) → settingsNumber settings bytes delays l words rest ≡ settingsNumber settings bytes delays l words 0
+  unfolding settingsNumber
+  settings-refused h rest = same-refusal 1 _ (same-refusal 2 _ (same-refusal 3 _ (same-refusal 4 _ (same-refusal 5 _ (same-refusal 5 _ (same-refusal 5 _ (λ none. absurd (none refl)))))))) h
+
+  settings-passed : settingsNumber settings bytes delays l words 0 ≡ 0 → (rest : ℕ) → settingsNumber settings bytes delays l words rest ≡ rest
+  unfolding settingsNumber
+  settings-passed h rest =
+      let a = asked 0 _ _ h in
+      let b = asked 1 _ _ (a .1) in
+      let c = asked 2 _ _ (b .1) in
+      let d = asked 3 _ _ (c .1) in
+      let e = asked 4 _ _ (d .1) in
+      let f = asked 4 _ _ (e .1) in
+      let g = asked 4 _ _ (f .1) in
+      yes-ask 1 _ (a .0) ∙ yes-ask 2 _ (b .0) ∙ yes-ask 3 _ (c .0) ∙ yes-ask 4 _ (d .0) ∙ yes-ask 5 _ (e .0) ∙ yes-ask 5 _ (f .0) ∙ yes-ask 5 _ (g .0)
+
+-- ---- 8 and 9 after them
+module _ (settings : Settings) (bytes delays : List ℕ) (time : ℕ) (l : Lists) (words : ℕ) where
+  pub number-refused : (settingsNumber settings (length bytes) (length delays) l words 0 ≡ 0 → ⊥) → newNumber settings bytes delays time l words ≡ settingsNumber settings (length bytes) (length delays) l words 0
+  unfolding newNumber
+  number-refused h = settings-refused settings (length bytes) (length delays) l words h _
+
+  module _ (passed : settingsNumber settings (length bytes) (length delays) l words 0 ≡ 0) where
+    -- a late call gets 8, whether its flows have room or not
+    pub number-late : timeLimit < time → newNumber settings bytes delays time l words ≡ 8
+    unfolding newNumber
+    number-late late = settings-passed settings (length bytes) (length delays) l words passed _ ∙ no-ask 8 _ (lt-leb _ _ late)
+
+    pub number-full : time ≤ timeLimit → loadFits (length delays) bytes delays (blankFor settings) ≡ false → newNumber settings bytes delays time l words ≡ 9
+    unfolding newNumber
+    number-full soon full = settings-passed settings (length bytes) (length delays) l words passed _ ∙ yes-ask 8 _ (le-leb _ _ soon) ∙ no-ask 9 _ full
+
+    pub number-none : time ≤ timeLimit → loadFits (length delays) bytes delays (blankFor settings) ≡ true → newNumber settings bytes delays time l words ≡ 0
+    unfolding newNumber
+    number-none soon fits = settings-passed settings (length bytes) (length delays) l words passed _ ∙ yes-ask 8 _ (le-leb _ _ soon) ∙ yes-ask 9 _ fits
+
+  -- what number 0 says
+  pub number-told : newNumber settings bytes delays time l words ≡ 0 → (settingsNumber settings (length bytes) (length delays) l words 0 ≡ 0) × (time ≤ timeLimit) × (loadFits (length delays) bytes delays (blankFor settings) ≡ true)
+  unfolding newNumber
+  number-told h =
+      by-zero (settingsNumber settings (length bytes) (length delays) l words 0)
+      (λ e.
+      let a = asked 7 _ _ (sym (settings-passed settings (length bytes) (length delays) l words e _) ∙ h) in
+      let b = asked 8 _ _ (a .1) in
+      (e, leb-true _ _ (a .0), b .0))
+      (λ e. absurd (e (sym (settings-refused settings (length bytes) (length delays) l words e _) ∙ h)))

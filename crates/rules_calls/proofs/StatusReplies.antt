@@ -1,0 +1,62 @@
+-- The answers of the three calls, case by case, as the code goes. Assumes nothing.
+use Prim.Native.Nat.{ℕ, _-_}
+use mathlib.Core.Bool.{Bool, true, false}
+use mathlib.Core.Path.{_≡_, refl, sym, ap, _∙_}
+use borrow.Author.Tests.{eq-eqb, ne-eqb}
+use lib.Dec.{leb}
+use Rattle.base.proofs.Choices.{refused-old, accepted-new}
+use Rattle.base.proofs.All.{both-yes, both-no}
+use Rattle.delay_hold.specs.declared.Moment.{Moment}
+use Rattle.delay_hold.specs.declared.Moment.the-variants.{Never, At}
+use Rattle.rules_record.specs.declared.Slot.{Slot}
+use Rattle.rules_record.specs.Slots.{stateNumber}
+use Rattle.rules_calls.specs.declared.Answer.{Answer}
+use Rattle.rules_calls.specs.declared.InputStatus.{InputStatus}
+use Rattle.rules_calls.specs.Status.{noStatus, statusBy}
+use Rattle.rules_calls.specs.StatusAnswers.{answerBy, hasChannels, restedFor, settledSlot}
+
+-- ---- by the number of the checks
+module _ {n : ℕ} (number : ℕ) (is-number : n ≡ number) where
+  pub answer-refused : (n ≡ 0 → ⊥) → (value : Bool) → _≡_ {A = Answer} (record { number = n; value = false }) (answerBy number value)
+  answer-refused h value =
+      (λ t. record { number = is-number t; value = false })
+      ∙ (λ t. record { number = number; value = sym (refused-old number false value (λ e. h (is-number ∙ e))) t })
+
+  pub answer-accepted : n ≡ 0 → {given : Bool} (value : Bool) → given ≡ value → _≡_ {A = Answer} (record { number = n; value = given }) (answerBy number value)
+  answer-accepted passed value e =
+      (λ t. record { number = is-number t; value = e t })
+      ∙ (λ t. record { number = number; value = sym (accepted-new number false value (sym is-number ∙ passed)) t })
+
+  pub status-refused : (n ≡ 0 → ⊥) → (status : InputStatus) {given : InputStatus} → given ≡ noStatus n → given ≡ statusBy number status
+  status-refused h status e = e ∙ ap noStatus is-number ∙ sym (refused-old number (noStatus number) status (λ z. h (is-number ∙ z)))
+
+  pub status-accepted : n ≡ 0 → (status : InputStatus) {given : InputStatus} → given ≡ status → given ≡ statusBy number status
+  status-accepted passed status e = e ∙ sym (accepted-new number (noStatus number) status (sym is-number ∙ passed))
+
+-- ---- running, or not
+module _ {slot other : Slot} (is-slot : other ≡ slot) {code : ℕ} (is-code : code ≡ stateNumber (other .state)) where
+  state-is : code ≡ stateNumber (slot .state)
+  state-is = is-code ∙ ap (λ (x : Slot). stateNumber (x .state)) is-slot
+
+  pub channels-idle : (code ≡ 2 → ⊥) → (channels wanted : ℕ) → false ≡ hasChannels slot channels wanted
+  unfolding hasChannels
+  channels-idle h channels wanted = both-no _ _ (ne-eqb _ _ (λ e. h (state-is ∙ e)))
+
+  pub channels-running : code ≡ 2 → (channels wanted : ℕ) → leb wanted channels ≡ hasChannels slot channels wanted
+  unfolding hasChannels
+  channels-running h channels wanted = both-yes _ _ _ (eq-eqb _ _ (sym state-is ∙ h)) refl
+
+  pub settled-idle : (code ≡ 2 → ⊥) → (hold time : ℕ) → false ≡ settledSlot slot hold time
+  unfolding settledSlot
+  settled-idle h hold time = both-no _ _ (ne-eqb _ _ (λ e. h (state-is ∙ e)))
+
+  pub settled-running : code ≡ 2 → (hold time : ℕ) {rested : Bool} → rested ≡ restedFor (slot .«last_set») hold time → rested ≡ settledSlot slot hold time
+  unfolding settledSlot
+  settled-running h hold time e = both-yes _ _ _ (eq-eqb _ _ (sym state-is ∙ h)) e
+
+-- ---- the last SetDelay
+pub rested-never : (hold time : ℕ) {moment : Moment} → moment ≡ Never → true ≡ restedFor moment hold time
+rested-never hold time e = sym (ap (λ (x : Moment). restedFor x hold time) e)
+
+pub rested-since : (hold time : ℕ) {moment : Moment} {set age : ℕ} → moment ≡ At set → age ≡ time - set → leb hold age ≡ restedFor moment hold time
+rested-since hold time e is-age = ap (leb hold) is-age ∙ sym (ap (λ (x : Moment). restedFor x hold time) e)

@@ -1,0 +1,109 @@
+-- What a status shows, part by part, and what its functions ask of a record that was checked. Assumes nothing.
+use Prim.Native.Nat.{ℕ, _-_, _≤_}
+use mathlib.Core.Bool.{true, false}
+use mathlib.Core.Path.{_≡_, refl, sym, ap, _∙_}
+use mathlib.Core.List.{[], _∷_}
+use mathlib.Core.Logic.{⊎-elim}
+use native.Mathlib.Omega.{arith}
+use denote.Floats.{is-true}
+use denote.Enum.Declared.{tagOf}
+use types.Run.{OneOf}
+use lib.IntN.{pos}
+use lib.Ieee.{Float, fin, binary64, round, ofBits}
+use lib.Ieee.Order.{round-mono}
+use Rattle.base.proofs.Points.{true-both}
+use Rattle.doubles.specs.Doubles.{msOf}
+use Rattle.rules_window.specs.declared.Quantile.{Quantile}
+use Rattle.rules_window.specs.declared.Quantile.the-variants as Quantile
+use Rattle.rules_window.proofs.Quantile.{the-type}
+use Rattle.rules_window.specs.Window.{Window}
+use Rattle.rules_window.specs.Checks.{fromZeroToOne}
+use Rattle.rules_window.specs.Quantile.{quantileOf}
+use Rattle.delay_hold.proofs.Wholes as holds
+use Rattle.rules_record.specs.declared.Flow.{Flow}
+use Rattle.rules_record.specs.declared.Route.{Route}
+use Rattle.rules_record.specs.declared.Routed.{Routed}
+use Rattle.rules_record.specs.declared.Routed.the-variants.{To}
+use Rattle.rules_record.specs.declared.Inputs.{Inputs}
+use Rattle.rules_record.specs.Flows.{flowAt}
+use Rattle.rules_calls.specs.declared.Sourced.the-variants.{From}
+use Rattle.rules_calls.specs.declared.Arrival.{Arrival}
+use Rattle.rules_calls.specs.declared.Arrival.the-variants as Arrival
+use Rattle.rules_calls.specs.Status.{sourceOf, thousandths, arrivalBy, arrivalWith, arrivalOf, arrivalIn}
+
+-- ---- the three quantiles' q
+zero-is : round binary64 false 0 1 ≡ fin false 0 (pos 0)
+unfolding round
+zero-is = refl
+
+one-is : round binary64 false 1 1 ≡ fin false 1 (pos 0)
+unfolding round
+one-is = refl
+
+-- thousandths are from 0 to 1
+pub thousandths-in : (k : ℕ) → k ≤ 1000 → fromZeroToOne (thousandths k) ≡ true
+unfolding fromZeroToOne thousandths
+thousandths-in k h =
+    true-both _ _
+    (is-true _ (rw zero-is at (round-mono binary64 0 1 k 1000 (omega arith) (omega arith) (omega arith))))
+    (is-true _ (rw one-is at (round-mono binary64 k 1000 1 1 (omega arith) (omega arith) (omega arith))))
+
+-- the code's literals
+pub half-is : ofBits binary64 4602678819172646912 ≡ thousandths 500
+unfolding ofBits round thousandths
+half-is = refl
+
+pub high-is : ofBits binary64 4607092346807469998 ≡ thousandths 990
+unfolding ofBits round thousandths
+high-is = refl
+
+pub highest-is : ofBits binary64 4607173411600762667 ≡ thousandths 999
+unfolding ofBits round thousandths
+highest-is = refl
+
+-- ---- the three quantiles, all or none
+-- the other arm of `let .. else`: a quantile whose tag is not that of an end
+pub none-first : (half high highest : Quantile) → OneOf (1 ∷ 2 ∷ []) (tagOf the-type half) → Arrival.None ≡ arrivalOf half high highest
+none-first (Quantile.End end) high highest k = absurd (⊎-elim (λ e. omega arith) (λ e. omega arith) k)
+none-first Quantile.None high highest k = refl
+none-first (Quantile.Refused number) high highest k = refl
+
+none-with : (p50 : ℕ) (high highest : Quantile) → OneOf (1 ∷ 2 ∷ []) (tagOf the-type high) → Arrival.None ≡ arrivalWith p50 high highest
+none-with p50 (Quantile.End end) highest k = absurd (⊎-elim (λ e. omega arith) (λ e. omega arith) k)
+none-with p50 Quantile.None highest k = refl
+none-with p50 (Quantile.Refused number) highest k = refl
+
+none-by : (p50 p99 : ℕ) (highest : Quantile) → OneOf (1 ∷ 2 ∷ []) (tagOf the-type highest) → Arrival.None ≡ arrivalBy p50 p99 highest
+none-by p50 p99 (Quantile.End end) k = absurd (⊎-elim (λ e. omega arith) (λ e. omega arith) k)
+none-by p50 p99 Quantile.None k = refl
+none-by p50 p99 (Quantile.Refused number) k = refl
+
+module _ (half high highest : Quantile) {p50 : ℕ} (is-half : half ≡ Quantile.End p50) where
+  half-there : arrivalOf half high highest ≡ arrivalWith p50 high highest
+  half-there = ap (λ (q : Quantile). arrivalOf q high highest) is-half
+
+  pub none-second : OneOf (1 ∷ 2 ∷ []) (tagOf the-type high) → Arrival.None ≡ arrivalOf half high highest
+  none-second k = none-with p50 high highest k ∙ sym half-there
+
+  module _ {p99 : ℕ} (is-high : high ≡ Quantile.End p99) where
+    high-there : arrivalOf half high highest ≡ arrivalBy p50 p99 highest
+    high-there = half-there ∙ ap (λ (q : Quantile). arrivalWith p50 q highest) is-high
+
+    pub none-third : OneOf (1 ∷ 2 ∷ []) (tagOf the-type highest) → Arrival.None ≡ arrivalOf half high highest
+    none-third k = none-by p50 p99 highest k ∙ sym high-there
+
+    pub all-there : {p999 : ℕ} {x y z : Float} → highest ≡ Quantile.End p999 → x ≡ msOf p50 → y ≡ msOf p99 → z ≡ msOf p999
+        → Arrival.Of (record { p50 = x; p99 = y; p999 = z }) ≡ arrivalOf half high highest
+    all-there is-highest is-x is-y is-z =
+        (λ t. Arrival.Of (record { p50 = is-x t; p99 = is-y t; p999 = is-z t }))
+        ∙ sym (high-there ∙ ap (λ (q : Quantile). arrivalBy p50 p99 q) is-highest)
+
+pub arrival-by : (w : Window) {a b c : Float} {half high highest : Quantile} → half ≡ quantileOf a w → a ≡ thousandths 500 → high ≡ quantileOf b w → b ≡ thousandths 990 → highest ≡ quantileOf c w → c ≡ thousandths 999 → arrivalOf half high highest ≡ arrivalIn w
+unfolding arrivalIn
+arrival-by w is-half half-at is-high high-at is-highest highest-at =
+    (λ t. arrivalOf (is-half t) (is-high t) (is-highest t))
+    ∙ (λ t. arrivalOf (quantileOf (half-at t) w) (quantileOf (high-at t) w) (quantileOf (highest-at t) w))
+
+-- ---- the route
+pub source-there : (s : Inputs) {to : Routed} {route : Route} {flow : Flow} → to ≡ To route → flow ≡ flowAt s (route .flow) → From (record { flow = flow; domain = route .domain }) ≡ sourceOf s to
+source-there s {route = route} e is-flow = (λ t. From (record { flow = is-flow t; domain = route .domain })) ∙ sym (ap (sourceOf s) e)

@@ -1,0 +1,150 @@
+-- What the number 0 of checks 1 to 6 says, as facts, and back; and the number with other checks after them. Assumes nothing.
+use Prim.Native.Nat.{ℕ}
+use mathlib.Core.Bool.{Bool, true, false}
+use mathlib.Core.Path.{_≡_, refl, _∙_}
+use denote.Floats.{is-true}
+use borrow.Author.Tests.{leb-true, eqb-true, le-leb, eq-eqb}
+use Rattle.base.specs.Choice.{ask}
+use Rattle.base.proofs.Choices.{yes-ask, asked}
+use Rattle.base.proofs.Points.{both-true, true-both}
+use Rattle.policy.specs.declared.DelayPolicy.{DelayPolicy}
+use Rattle.policy.specs.Settings.{reachesAllowed, timesAllowed, marginsAllowed}
+use Rattle.policy.proofs.Checks.{allowed-sound, allowed-times}
+use Rattle.rules_record.specs.declared.Inputs.{Inputs}
+use Rattle.rules_record.specs.Sized.{Sized}
+use Rattle.rules_record.specs.declared.Commands.{Commands}
+use Rattle.rules_record.specs.Lent.{Lists, bucketsIn}
+use Rattle.rules_record.specs.Checks.{inputsAllowed, bucketsAllowed, pausesAllowed, listsFit, commandsFit, recordNumber, Allowed, Long}
+use Rattle.rules_record.specs.Facts.{Whole, Checked}
+use Rattle.rules_record.proofs.Facts.{whole-of, of-whole}
+
+-- ---- 1 to 4
+module _ (n : ℕ) (policy : DelayPolicy) (width stall : ℕ) where
+  pub allowed-of : inputsAllowed n ≡ true → bucketsAllowed policy width ≡ true → pausesAllowed policy stall ≡ true → marginsAllowed policy ≡ true → Allowed n policy width stall
+  unfolding inputsAllowed bucketsAllowed pausesAllowed
+  allowed-of one two three four =
+      let a = both-true _ _ one in
+      let b = both-true _ _ two in
+      let b2 = both-true _ _ (b .1) in
+      let b3 = both-true _ _ (b2 .1) in
+      let c = both-true _ _ three in
+      let times = allowed-times policy (c .0) in
+      record {
+        least = leb-true _ _ (a .0);
+        most = leb-true _ _ (a .1);
+        sound = allowed-sound policy (b .0) four;
+        width-least = leb-true _ _ (b2 .0);
+        width-most = leb-true _ _ (b3 .0);
+        buckets-most = leb-true _ _ (b3 .1);
+        hold-most = times .0;
+        window-least = times .1;
+        window-most = times .2;
+        stall-most = leb-true _ _ (c .1);
+      }
+
+  module _ (f : Allowed n policy width stall) where
+    pub one-yes : inputsAllowed n ≡ true
+    unfolding inputsAllowed
+    one-yes = true-both _ _ (le-leb _ _ (f .least)) (le-leb _ _ (f .most))
+
+    pub two-yes : bucketsAllowed policy width ≡ true
+    unfolding bucketsAllowed reachesAllowed
+    two-yes =
+        true-both _ _ (true-both _ _ (le-leb _ _ (f .sound .offset)) (le-leb _ _ (f .sound .maximum)))
+        (true-both _ _ (le-leb _ _ (f .width-least)) (true-both _ _ (le-leb _ _ (f .width-most)) (le-leb _ _ (f .buckets-most))))
+
+    pub three-yes : pausesAllowed policy stall ≡ true
+    unfolding pausesAllowed timesAllowed
+    three-yes =
+        true-both _ _
+        (true-both _ _ (le-leb _ _ (f .hold-most)) (true-both _ _ (le-leb _ _ (f .window-least)) (le-leb _ _ (f .window-most))))
+        (le-leb _ _ (f .stall-most))
+
+    pub four-yes : marginsAllowed policy ≡ true
+    unfolding marginsAllowed
+    four-yes = true-both _ _ (le-leb _ _ (f .sound .margins)) (true-both _ _ (is-true _ (f .sound .low)) (is-true _ (f .sound .high)))
+
+-- ---- 5
+module _ (n buckets : ℕ) (l : Lists) where
+  pub long-of : listsFit n buckets l ≡ true → Long n buckets l
+  unfolding listsFit
+  long-of five =
+      let d = both-true _ _ five in
+      let d2 = both-true _ _ (d .1) in
+      let d3 = both-true _ _ (d2 .1) in
+      let d4 = both-true _ _ (d3 .1) in
+      record {
+        starts = eqb-true _ _ (d .0);
+        totals = eqb-true _ _ (d2 .0);
+        counts = eqb-true _ _ (d3 .0);
+        times = eqb-true _ _ (d4 .0);
+        lags = eqb-true _ _ (d4 .1);
+      }
+
+  pub five-yes : Long n buckets l → listsFit n buckets l ≡ true
+  unfolding listsFit
+  five-yes f =
+      true-both _ _ (eq-eqb _ _ (f .starts))
+      (true-both _ _ (eq-eqb _ _ (f .totals))
+      (true-both _ _ (eq-eqb _ _ (f .counts)) (true-both _ _ (eq-eqb _ _ (f .times)) (eq-eqb _ _ (f .lags)))))
+
+-- ---- 1 to 6
+-- a check refuses alike, whatever comes after those that refused
+same-refusal : (k : ℕ) (b : Bool) {m n : ℕ} → ((n ≡ 0 → ⊥) → m ≡ n) → (ask k b n ≡ 0 → ⊥) → ask k b m ≡ ask k b n
+unfolding ask
+same-refusal k true same none = same none
+same-refusal k false same none = refl
+
+-- what they let through
+pub record Passed (s : Inputs) (l : Lists) (commands : Commands) : Type 0 where
+  pub allowed : Allowed (s .count) (s .policy) (s .width) (s .stall)
+  pub long : Long (s .count) (bucketsIn s) l
+  pub commands-fit : commandsFit (s .count) commands ≡ true
+  pub whole : Whole s l
+
+module _ (s : Inputs) (l : Lists) (commands : Commands) where
+  -- what number 0 says of them, and of the checks after them
+  pub settings-told : (rest : ℕ) → recordNumber s l commands rest ≡ 0 → Passed s l commands × (rest ≡ 0)
+  unfolding recordNumber
+  settings-told rest h =
+      let one = asked 0 _ _ h in
+      let two = asked 1 _ _ (one .1) in
+      let three = asked 2 _ _ (two .1) in
+      let four = asked 3 _ _ (three .1) in
+      let five = asked 4 _ _ (four .1) in
+      let also-five = asked 4 _ _ (five .1) in
+      let six = asked 5 _ _ (also-five .1) in
+      let allowed = allowed-of _ _ _ _ (one .0) (two .0) (three .0) (four .0) in
+      (record { allowed = allowed; long = long-of _ _ l (five .0); commands-fit = also-five .0; whole = whole-of s l (allowed .most) (six .0) }, six .1)
+
+  -- where they let it through, the number is that of the checks after them
+  pub passed-number : Passed s l commands → (rest : ℕ) → recordNumber s l commands rest ≡ rest
+  unfolding recordNumber
+  passed-number p rest =
+      yes-ask 1 _ (one-yes _ _ _ _ (p .allowed))
+      ∙ yes-ask 2 _ (two-yes _ _ _ _ (p .allowed))
+      ∙ yes-ask 3 _ (three-yes _ _ _ _ (p .allowed))
+      ∙ yes-ask 4 _ (four-yes _ _ _ _ (p .allowed))
+      ∙ yes-ask 5 _ (five-yes _ _ _ (p .long))
+      ∙ yes-ask 5 _ (p .commands-fit)
+      ∙ yes-ask 6 _ (of-whole s l (p .whole))
+
+  -- a record with its tables, and commands, that they let through
+  pub checked : Sized s → recordNumber s l commands 0 ≡ 0 → Checked s l
+  checked sized h =
+      let p = settings-told 0 h .0 in
+      record { fitting = record { allowed = p .allowed; long = p .long }; sized = sized; whole = p .whole }
+
+  pub checked-commands : recordNumber s l commands 0 ≡ 0 → commandsFit (s .count) commands ≡ true
+  checked-commands h = settings-told 0 h .0 .commands-fit
+
+  pub of-checked : Checked s l → commandsFit (s .count) commands ≡ true → (rest : ℕ) → recordNumber s l commands rest ≡ rest
+  of-checked w fit rest = passed-number (record { allowed = w .fitting .allowed; long = w .fitting .long; commands-fit = fit; whole = w .whole }) rest
+
+  -- the number with other checks after these: theirs where this is 0, else this
+  pub number-passed : recordNumber s l commands 0 ≡ 0 → (rest : ℕ) → recordNumber s l commands rest ≡ rest
+  number-passed h rest = passed-number (settings-told 0 h .0) rest
+
+  pub number-refused : (recordNumber s l commands 0 ≡ 0 → ⊥) → (rest : ℕ) → recordNumber s l commands rest ≡ recordNumber s l commands 0
+  unfolding recordNumber
+  number-refused h rest = same-refusal 1 _ (same-refusal 2 _ (same-refusal 3 _ (same-refusal 4 _ (same-refusal 5 _ (same-refusal 5 _ (same-refusal 6 _ (λ none. absurd (none refl)))))))) h

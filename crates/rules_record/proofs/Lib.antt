@@ -1,0 +1,24 @@
+-- Laws of the record, its tables and its checks.
+pub mod Edges
+pub mod SlotFrame
+pub mod Sized
+pub mod Sending
+pub mod FlowCases
+pub mod FlowTable
+pub mod InstanceCases
+pub mod FewInstances
+pub mod InstanceKeys
+pub mod Beside
+pub mod RecordCases
+pub mod CheckOrder
+pub mod Checked
+pub mod Effects
+pub mod Facts
+pub mod Keep
+pub mod Numbers
+pub mod OnePart
+pub mod Pruned
+pub mod Replies
+pub mod Shapes
+pub mod Tables
+pub mod Unused

@@ -1,0 +1,97 @@
+-- Document 01's checks 1 to 8, as the calls on a whole supervisor ask them. Assumes nothing.
+use Prim.Native.Nat.{ℕ, _*_, _≤_}
+use mathlib.Core.Bool.{Bool, true, _||_}
+use mathlib.Core.Path.{_≡_}
+use lib.Dec.{leb, ltb, eqb}
+use lib.ListN.{length}
+use Rattle.base.specs.Choice.{both, ask}
+use Rattle.base.specs.Limits.{nanos, spanLimit, timely}
+use Rattle.policy.specs.declared.DelayPolicy.{DelayPolicy}
+use Rattle.policy.specs.Settings.{reachesAllowed, timesAllowed, marginsAllowed, Sound}
+use Rattle.rules_window.specs.Window.{bucketsOf}
+use Rattle.rules_record.specs.declared.Inputs.{Inputs}
+use Rattle.rules_record.specs.declared.Commands.{Commands}
+use Rattle.rules_record.specs.declared.Commands.the-variants.{Absent, Words}
+use Rattle.rules_record.specs.Lent.{Lists, bucketsIn}
+use Rattle.rules_record.specs.Record.{wholeRecord}
+
+-- 1: "Are there 1 to 16 inputs?"
+unfoldable pub inputsAllowed : ℕ → Bool
+inputsAllowed n = both (leb 1 n) (leb n 16)
+
+-- 2: "Are offset and maximum at most 96,000, W 1 to 4,800, buckets at most 4,096?"
+unfoldable pub bucketsAllowed : (policy : DelayPolicy) (width : ℕ) → Bool
+bucketsAllowed policy width =
+    both (reachesAllowed policy)
+    (both (leb 1 width)
+    (both (leb width 4800)
+    (leb (bucketsOf (policy .«read_offset») (policy .«delay_max») width) 4096)))
+
+-- 3: "Are hold and stall at most 600 s, window 1 to 600 s?"
+unfoldable pub pausesAllowed : (policy : DelayPolicy) (stall : ℕ) → Bool
+pausesAllowed policy stall = both (timesAllowed policy) (leb stall spanLimit)
+
+-- 5: "Has each lent list its exact length (commands 12 words an input ..)?", of n inputs with so many buckets a second
+unfoldable pub listsFit : (n buckets : ℕ) (l : Lists) → Bool
+listsFit n buckets l =
+    both (eqb (length (l .starts)) (n * 11))
+    (both (eqb (length (l .totals)) (n * 11))
+    (both (eqb (length (l .counts)) (n * (11 * buckets)))
+    (both (eqb (length (l .times)) (n * 600))
+    (eqb (length (l .lags)) (n * 600)))))
+
+-- a call that sends nothing takes no commands
+abbrev pub commandsFit : (n : ℕ) → Commands → Bool
+commandsFit n Absent = true
+commandsFit n (Words words) = eqb words (n * 12)
+
+-- the number of the first of checks 1 to 6 that says no, or the number that the checks after them give
+unfoldable pub recordNumber : (s : Inputs) (l : Lists) (commands : Commands) (rest : ℕ) → ℕ
+recordNumber s l commands rest =
+    ask 1 (inputsAllowed (s .count))
+    (ask 2 (bucketsAllowed (s .policy) (s .width))
+    (ask 3 (pausesAllowed (s .policy) (s .stall))
+    (ask 4 (marginsAllowed (s .policy))
+    (ask 5 (listsFit (s .count) (bucketsIn s) l)
+    (ask 5 (commandsFit (s .count) commands)
+    (ask 6 (wholeRecord s l) rest))))))
+
+-- the number is that of a check that speaks of the record, its settings and its lists, whatever else a call brings
+unfoldable pub ownNumber : (number : ℕ) → Bool
+ownNumber number = eqb number 1 || eqb number 2 || eqb number 3 || eqb number 4 || eqb number 5 || eqb number 6
+
+-- ---- a call on one input
+-- 1 to 6, and 7: "Does the input exist?"; `rest` is the number that the checks after these give
+unfoldable pub inputNumber : (s : Inputs) (l : Lists) (commands : Commands) (input rest : ℕ) → ℕ
+inputNumber s l commands input rest = recordNumber s l commands (ask 7 (ltb input (s .count)) rest)
+
+-- 1 to 7, with so many words of commands, and 8: "Is the time at most 4 times 10^18"
+unfoldable pub timedNumber : (s : Inputs) (l : Lists) (words input time rest : ℕ) → ℕ
+timedNumber s l words input time rest = inputNumber s l (Words words) input (ask 8 (timely time) rest)
+
+-- ---- what they let through
+-- what 1 to 4 let through, as facts
+pub record Allowed (n : ℕ) (policy : DelayPolicy) (width stall : ℕ) : Type 0 where
+  pub least : 1 ≤ n
+  pub most : n ≤ 16
+  pub sound : Sound policy
+  pub width-least : 1 ≤ width
+  pub width-most : width ≤ 4800
+  pub buckets-most : bucketsOf (policy .«read_offset») (policy .«delay_max») width ≤ 4096
+  pub hold-most : policy .hold ≤ spanLimit
+  pub window-least : nanos ≤ policy .window
+  pub window-most : policy .window ≤ spanLimit
+  pub stall-most : stall ≤ spanLimit
+
+-- what 5 lets through of the lists
+pub record Long (n buckets : ℕ) (l : Lists) : Type 0 where
+  pub starts : length (l .starts) ≡ n * 11
+  pub totals : length (l .totals) ≡ n * 11
+  pub counts : length (l .counts) ≡ n * (11 * buckets)
+  pub times : length (l .times) ≡ n * 600
+  pub lags : length (l .lags) ≡ n * 600
+
+-- what 1 to 5 let through of a record and its lists: what `inputs_checks::core::whole` asks
+pub record Fitting (s : Inputs) (l : Lists) : Type 0 where
+  pub allowed : Allowed (s .count) (s .policy) (s .width) (s .stall)
+  pub long : Long (s .count) (bucketsIn s) l

@@ -1,0 +1,57 @@
+-- The lists lent for all inputs of a supervisor, and what of them belongs to one input. Assumes nothing.
+use Prim.Native.Nat.{ℕ, _*_}
+use mathlib.Core.List.{List}
+use Rattle.base.specs.Lists.{part, patched}
+use Rattle.rules_window.specs.Window.{Window, windowed, bucketsOf}
+use Rattle.rules_window.specs.Parts.{partOf}
+use Rattle.delay_hold.specs.Next.{Held, held}
+use Rattle.rules_record.specs.declared.Slot.{Slot}
+use Rattle.rules_record.specs.declared.Inputs.{Inputs}
+use Rattle.rules_record.specs.Inputs.{slotAt}
+
+-- "lent lists, oldest first, unused places zero: 11 seconds and 600 peaks an input": the starts, totals and rows of counts of the seconds,
+-- the times and lags of the peaks, those of input 0 first
+pub record Lists : Type 0 where
+  pub starts : List ℕ
+  pub totals : List ℕ
+  pub counts : List ℕ
+  pub times : List ℕ
+  pub lags : List ℕ
+
+abbrev pub lists : (starts totals counts times lags : List ℕ) → Lists
+lists starts totals counts times lags = record { starts = starts; totals = totals; counts = counts; times = times; lags = lags }
+
+-- the buckets of every window: "(offset + maximum + 4,800) / W + 2"
+unfoldable pub bucketsIn : Inputs → ℕ
+bucketsIn s = bucketsOf (s .policy .«read_offset») (s .policy .«delay_max») (s .width)
+
+-- the lists of all inputs as one window, with the seconds that this slot says; and the window of input i, where this is its slot: its part of them
+abbrev pub windowsOf : (s : Inputs) (l : Lists) (slot : Slot) → Window
+windowsOf s l slot = windowed (slot .«lag_seconds») (bucketsIn s) (s .width) (l .starts) (l .totals) (l .counts)
+
+abbrev pub windowFor : (s : Inputs) (l : Lists) (i : ℕ) (slot : Slot) → Window
+windowFor s l i slot = partOf i (windowsOf s l slot)
+
+abbrev pub windowOf : (s : Inputs) (l : Lists) (i : ℕ) → Window
+windowOf s l i = windowFor s l i (slotAt s i)
+
+-- the hold of input i, where this is its slot: that of the slot, with the input's part of the lists
+abbrev pub heldFor : (l : Lists) (i : ℕ) (slot : Slot) → Held
+heldFor l i slot = held (slot .hold) (part (i * 600) 600 (l .times)) (part (i * 600) 600 (l .lags))
+
+abbrev pub heldOf : (s : Inputs) (l : Lists) (i : ℕ) → Held
+heldOf s l i = heldFor l i (slotAt s i)
+
+-- the lists with those of window w for input i; its slot then says how many seconds are in use
+abbrev pub withWindow : (buckets i : ℕ) (w : Window) (l : Lists) → Lists
+withWindow buckets i w l =
+    lists
+    (patched (i * 11) 11 (w .starts) (l .starts))
+    (patched (i * 11) 11 (w .totals) (l .totals))
+    (patched (i * (11 * buckets)) (11 * buckets) (w .counts) (l .counts))
+    (l .times)
+    (l .lags)
+
+-- the lists with those of hold h for input i; its slot then has the hold itself
+abbrev pub withHeld : (i : ℕ) (h : Held) (l : Lists) → Lists
+withHeld i h l = lists (l .starts) (l .totals) (l .counts) (patched (i * 600) 600 (h .times) (l .times)) (patched (i * 600) 600 (h .lags) (l .lags))

@@ -1,0 +1,19 @@
+-- What `tick` leaves, and the unsaved mark that it reports, each by itself. Assumes nothing.
+use Prim.Native.Nat.{ℕ}
+use mathlib.Core.Bool.{Bool, false}
+use mathlib.Core.List.{List}
+use lib.ListN.{length}
+use Rattle.base.specs.Choice.{accepted}
+use Rattle.rules_record.specs.declared.Inputs.{Inputs}
+use Rattle.rules_record.specs.Lent.{Lists}
+use Rattle.rules_record.specs.Reply.{Reply, replied}
+use Rattle.rules_tick.specs.declared.Look.{Look}
+use Rattle.rules_tick.specs.TickChecks.{tickNumber}
+use Rattle.rules_tick.specs.Tick.{ticked, unsavedAt}
+
+unfoldable pub tickReply : (s : Inputs) (l : Lists) (commands : List ℕ) (looks : List Look) (lags : List ℕ) (time : ℕ) → Reply
+tickReply s l commands looks lags time = replied (tickNumber s l (length commands) looks lags time) s l commands (ticked looks lags time s l)
+
+-- "the unsaved mark is reported"; a refused tick reports none
+unfoldable pub tickUnsaved : (s : Inputs) (l : Lists) (words : ℕ) (looks : List Look) (lags : List ℕ) (time : ℕ) → Bool
+tickUnsaved s l words looks lags time = accepted (tickNumber s l words looks lags time) false (unsavedAt looks lags time s l)

@@ -1,0 +1,115 @@
+-- Document 01's checks of the calls on one window, in their order, and what each call answers and leaves. Assumes nothing.
+use Prim.Native.Nat.{ℕ, zero, suc, _+_, _-_, _*_}
+use mathlib.Core.Bool.{Bool, false}
+use mathlib.Core.List.{List}
+use lib.Dec.{leb, eqb}
+use lib.IntN.{pos}
+use lib.Ieee.{Float, fin, le}
+use lib.ListN.{length, getD}
+use Rattle.base.specs.Choice.{pick, both, ask, accepted}
+use Rattle.rules_window.specs.declared.SpanAnswer.{SpanAnswer}
+use Rattle.rules_window.specs.declared.Quantile.{Quantile}
+use Rattle.rules_window.specs.declared.Quantile.the-variants.{End, None, Refused}
+use Rattle.base.specs.Limits.{timely}
+use Rattle.base.specs.Rows.{spanOf}
+use Rattle.rules_window.specs.Window.{Window, bucketsOf, fresh, cleared, opens, pushed}
+use Rattle.rules_window.specs.Whole.{wholeWindow}
+use Rattle.rules_window.specs.Quantile.{quantileUpto, quantileOf}
+
+-- what every call on a window asks: 2 ("W 1 to 4,800, buckets at most 4,096", and at least the 2 that every window is made with),
+-- 5 ("each lent list its exact length") and 6; `rest` is the number that the checks after these give
+unfoldable pub checked : (w : Window) (rest : ℕ) → ℕ
+checked w rest =
+    ask 2 (leb 1 (w .width))
+    (ask 2 (leb (w .width) 4800)
+    (ask 2 (leb 2 (w .buckets))
+    (ask 2 (leb (w .buckets) 4096)
+    (ask 5 (eqb (length (w .starts)) 11)
+    (ask 5 (eqb (length (w .totals)) 11)
+    (ask 5 (eqb (length (w .counts)) (11 * w .buckets))
+    (ask 6 (wholeWindow w) rest)))))))
+
+-- 11: "does the newest total (0 if its tick opens a second) plus its lags stay within 4,294,967,295"
+unfoldable pub newestOf : (time n : ℕ) (starts totals : List ℕ) → ℕ
+newestOf time n starts totals = pick (opens time n starts) 0 (getD totals (n - 1) 0)
+
+abbrev pub newest : (time : ℕ) (w : Window) → ℕ
+newest time w = newestOf time (w .seconds) (w .starts) (w .totals)
+
+abbrev pub roomOf : (time lags n : ℕ) (starts totals : List ℕ) → Bool
+roomOf time lags n starts totals = leb (newestOf time n starts totals + lags) 4294967295
+
+abbrev pub roomFor : (time lags : ℕ) (w : Window) → Bool
+roomFor time lags w = roomOf time lags (w .seconds) (w .starts) (w .totals)
+
+-- 14: "Is q from 0 to 1"; a NaN is not
+unfoldable pub fromZeroToOne : Float → Bool
+fromZeroToOne q = both (le (fin false 0 (pos 0)) q) (le q (fin false 1 (pos 0)))
+
+-- the number of the first check that says no, or 0; of the lists `new` asks only the lengths
+unfoldable pub newNumber : (offset maximum width starts totals counts : ℕ) → ℕ
+newNumber offset maximum width starts totals counts =
+    ask 2 (leb offset 96000)
+    (ask 2 (leb maximum 96000)
+    (ask 2 (leb 1 width)
+    (ask 2 (leb width 4800)
+    (ask 2 (leb (bucketsOf offset maximum width) 4096)
+    (ask 5 (eqb starts 11)
+    (ask 5 (eqb totals 11)
+    (ask 5 (eqb counts (11 * bucketsOf offset maximum width)) 0)))))))
+
+unfoldable pub pushNumber : (time : ℕ) (w : Window) → ℕ
+pushNumber time w = checked w (ask 8 (timely time) (ask 11 (roomFor time 1 w) 0))
+
+unfoldable pub quantileNumber : (q : Float) (w : Window) → ℕ
+quantileNumber q w = checked w (ask 14 (fromZeroToOne q) 0)
+
+-- what a call leaves: its number, and the window with its lists
+pub record Reply : Type 0 where
+  pub number : ℕ
+  pub window : Window
+
+-- the new window where the number is 0, else the old one, unchanged
+abbrev pub replied : (number : ℕ) (old new : Window) → Reply
+replied number old new = record { number = number; window = accepted number old new }
+
+-- the zero window, with the lists as they came
+abbrev pub nothing : (starts totals counts : List ℕ) → Window
+nothing starts totals counts = record { seconds = 0; buckets = 0; width = 0; starts = starts; totals = totals; counts = counts }
+
+unfoldable pub newReply : (offset maximum width : ℕ) (starts totals counts : List ℕ) → Reply
+newReply offset maximum width starts totals counts =
+    replied (newNumber offset maximum width (length starts) (length totals) (length counts)) (nothing starts totals counts)
+    (fresh (bucketsOf offset maximum width) width)
+
+unfoldable pub pushReply : (lag time : ℕ) (w : Window) → Reply
+pushReply lag time w = replied (pushNumber time w) w (pushed lag time w)
+
+unfoldable pub clearReply : Window → Reply
+clearReply w = replied (checked w 0) w (cleared w)
+
+-- "Span is newest start − oldest start, 0 with no second"
+unfoldable pub spanReply : Window → SpanAnswer
+spanReply w = record { number = checked w 0; span = accepted (checked w 0) 0 (spanOf (w .seconds) (w .starts)) }
+
+-- the answer of a quantile whose checks gave this number: the quantile where it is 0, else the number
+abbrev pub answered : ℕ → (found : Quantile) → Quantile
+answered zero found = found
+answered (suc k) found = Refused (suc k)
+
+unfoldable pub quantileUptoReply : (q : Float) (limit : ℕ) (w : Window) → Quantile
+quantileUptoReply q limit w = answered (quantileNumber q w) (quantileUpto q limit w)
+
+unfoldable pub quantileReply : (q : Float) (w : Window) → Quantile
+quantileReply q w = answered (quantileNumber q w) (quantileOf q w)
+
+-- document 01's number of each answer, and its value, a bucket's end (0 where there is none)
+abbrev pub numberOf : Quantile → ℕ
+numberOf (End e) = 0
+numberOf None = 0
+numberOf (Refused k) = k
+
+abbrev pub valueOf : Quantile → ℕ
+valueOf (End e) = e
+valueOf None = 0
+valueOf (Refused k) = 0

@@ -1,2 +1,0 @@
--- Laws of setting a delay that crates above cite.
-pub mod Stored

@@ -1,2 +1,0 @@
--- Setting a delay.
-pub mod SetDelay

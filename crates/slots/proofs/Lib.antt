@@ -1,3 +1,0 @@
--- Laws of the record that crates above cite.
-pub mod Frame
-pub mod Sized

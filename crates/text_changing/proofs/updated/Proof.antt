@@ -1,0 +1,40 @@
+-- `text_changing::updated` is safe. Assumes nothing.
+use mathlib.Core.Path.{sym}
+use borrow.Author.Needs.{needs}
+use lib.Seq.{length-take-le}
+use Rattle.text_lending.proofs.Within.{within}
+use Rattle.text_changing.proofs.updated.Statement.{statement}
+use Rattle.text_changing.proofs.updated.Tie as tie
+
+pub updated-spec : {M : Type 1} → statement M
+updated-spec =
+    tie.close
+    (tie.spec
+    (λ c κs. search needs)  -- buckets-in-requires
+    (λ c κs. search needs)  -- lengths-requires
+    (λ c κs. search needs)  -- least-usize-requires
+    (λ c κs. search needs)  -- least-usize-requires-2
+    (λ c κs. search needs)  -- least-usize-requires-3
+    (λ c κs. search needs)  -- least-usize-requires-4
+    (λ c κs. search needs)  -- least-usize-requires-5
+    (λ c κs. search needs)  -- least-usize-requires-6
+    (λ c. search needs)  -- slice-relend-prefix-update
+    (λ c. sym (length-take-le _ _ (within _ _ (c .before .before .before .before .before .before .least-usize .ensures))))  -- slice-aggregate-update
+    (λ c. search needs)  -- slice-relend-prefix-update-2
+    (λ c. sym (length-take-le _ _ (within _ _ (c .before .before .before .before .before .before .least-usize2 .ensures))))  -- slice-aggregate-update-2
+    (λ c. search needs)  -- slice-relend-prefix-update-3
+    (λ c. sym (length-take-le _ _ (within _ _ (c .before .before .before .before .before .before .least-usize3 .ensures))))  -- slice-aggregate-update-3
+    (λ c. search needs)  -- slice-relend-prefix-update-4
+    (λ c. sym (length-take-le _ _ (within _ _ (c .before .before .before .before .before .before .least-usize4 .ensures))))  -- slice-aggregate-update-4
+    (λ c. search needs)  -- slice-relend-prefix-update-5
+    (λ c. sym (length-take-le _ _ (within _ _ (c .before .before .before .before .before .before .least-usize5 .ensures))))  -- slice-aggregate-update-5
+    (λ c. search needs)  -- slice-relend-prefix-update-6
+    (λ c. sym (length-take-le _ _ (within _ _ (c .before .before .before .before .before .before .least-usize6 .ensures))))  -- slice-aggregate-update-6
+    (λ c κs. search needs)  -- update-requires
+    (λ c. search needs)  -- same-length
+    (λ c. search needs)  -- same-length-2
+    (λ c. search needs)  -- same-length-3
+    (λ c. search needs)  -- same-length-4
+    (λ c. search needs)  -- same-length-5
+    (λ c. search needs)  -- same-length-6
+    (λ c. search needs))  -- returns

@@ -1,0 +1,29 @@
+-- How much of each list a call of the program is lent. Assumes nothing.
+use Prim.Native.Nat.{ℕ, _+_, _-_, _*_, _^_, min}
+use mathlib.Core.Bool.{Bool}
+use Rattle.base.specs.Choice.{pick}
+use Rattle.text_lending.specs.declared.Sizes.{Sizes}
+use Rattle.text_lending.specs.declared.Span.{Span}
+
+-- no length is above the largest place
+abbrev pub countable : ℕ → ℕ
+countable n = min n (2 ^ 64 - 1)
+
+-- after `!5` each list is one place short
+abbrev pub cutTo : (length : ℕ) (short : Bool) → ℕ
+cutTo length short = pick short (length - 1) length
+
+-- 11 seconds an input with so many counts each, 600 peaks and 12 words an input
+unfoldable pub lengthsFor : (n buckets : ℕ) (short : Bool) → Sizes
+lengthsFor n buckets short =
+    record {
+      seconds = cutTo (countable (n * 11)) short;
+      counts = cutTo (countable (countable (n * 11) * buckets)) short;
+      peaks = cutTo (countable (n * 600)) short;
+      words = cutTo (countable (n * 12)) short;
+    }
+
+-- `count` places from `first` on, as far as the list has them
+unfoldable pub placesFrom : (first count most : ℕ) → Span
+placesFrom first count most =
+    record { from = min first most; to = min (countable (first + count)) most }

@@ -1,0 +1,95 @@
+// The lists of the program, and how much of each is lent to a call. They have room for 16 inputs with 4,096 buckets a second, and after that
+// for a window and a hold alone. A function that only hands a list on is lent the whole array, one that cuts a part a slice.
+ghost use mathlib.Core.Path.{_≡_};
+ghost use Prim.Native.Nat.{_≤_};
+ghost use Rattle.text_lending.specs.Lengths.{cutTo, lengthsFor, placesFrom};
+use base::least_usize;
+use base::less_usize;
+use base::product_usize;
+use base::sum_usize;
+
+// Where the places of the window and the hold alone begin.
+pub const LONE_SECONDS: usize = 176;
+
+pub const LONE_COUNTS: usize = 720_896;
+
+pub const LONE_PEAKS: usize = 9_600;
+
+// The starts and the totals of seconds, and the counts of their rows.
+pub type Seconds = [u64; 187];
+
+pub type Counts = [u32; 765_952];
+
+// The times and the lags of peaks.
+pub type Times = [u64; 10_200];
+
+pub type Peaks = [u32; 10_200];
+
+// The words of commands, which no call alone has.
+pub type Words = [u32; 192];
+
+// The lags of a tick, or the delays that `new` loads.
+pub type Heard = [u32; 524_288];
+
+// The output buffer, and room for the flows that `new` loads: what was answered is written out before they are read.
+pub type Out = [u8; 262_144];
+
+// The lengths that a call on a supervisor asks for.
+pub struct Sizes {
+    pub seconds: usize,
+    pub counts: usize,
+    pub peaks: usize,
+    pub words: usize,
+}
+
+// From `from` up to `to`.
+pub struct Span {
+    pub from: usize,
+    pub to: usize,
+}
+
+// The buckets of these settings, or more than any window has.
+pub fn buckets(offset: u32, most: u32, width: u32) -> usize {
+    if width == 0 {
+        return 4_097;
+    }
+    let reach = offset as u64 + most as u64 + 4_800;
+    let n = reach / width as u64;
+    if 4_094 < n {
+        return 4_097;
+    }
+    n as usize + 2
+}
+
+// One place less where lists are to be short.
+pub fn cut(length: usize, short: bool) -> usize
+    ensures { λ r. ⌜ r ≡ cutTo length short ⌝ }
+{
+    if short {
+        return less_usize(length, 1);
+    }
+    length
+}
+
+// For n inputs and so many buckets a second.
+pub fn lengths(n: usize, buckets: usize, short: bool) -> Sizes
+    ensures { λ r. ⌜ r ≡ lengthsFor n buckets short ⌝ }
+{
+    let seconds = product_usize(n, 11);
+    Sizes {
+        seconds: cut(seconds, short),
+        counts: cut(product_usize(seconds, buckets), short),
+        peaks: cut(product_usize(n, 600), short),
+        words: cut(product_usize(n, 12), short),
+    }
+}
+
+// So many places from `first` on, of at most `most`.
+pub fn places(first: usize, count: usize, most: usize) -> Span
+    ensures { λ r. ⌜ r ≡ placesFrom first count most ⌝ }
+    ensures { λ r. ⌜ (r .from ≤ r .to) × (r .to ≤ most) ⌝ }
+{
+    let to = least_usize(sum_usize(first, count), most);
+    let from = least_usize(first, most);
+    Span { from, to }
+}

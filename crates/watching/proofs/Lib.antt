@@ -1,4 +1,0 @@
--- Laws of watching that crates above cite.
-pub mod Cases
-pub mod Frame
-pub mod Outcomes

@@ -1,2 +1,0 @@
--- Watching an input.
-pub mod Watching
