@@ -54,6 +54,9 @@ def numbers():
 
 
 def window():
+    section("a window alone, before the first wnew: of width 4 for offset and maximum 0")
+    say("wspan", "wpush 0 5", "wpush 4799 6", "wpush 4800 7", f"wpush {U32} 8", f"wquant {bits(1.0)} {U32}")
+
     section("a window alone: document 01's examples")
     say("wnew 480 4800 48", "wspan", f"wquant {bits(0.5)} {U32}", "wpush 0 1000", "wpush 100 1000")
     say(f"wquant {bits(1.0)} 95", f"wquant {bits(1.0)} 96", f"wquant {bits(1.0)} 47")

@@ -601,6 +601,26 @@ def session():
     )
 
 
+def beside():
+    section("sixteen kinds, each its own")
+    say(new_line(n=16, kinds=[manual(i + 0.5) if i % 3 else "A" for i in range(16)]), "dump")
+
+    section("the window and the hold alone beside a supervisor with all its places in use")
+    asked = f"480 11096 4 {30 * S} {10 * S} 96 {bits(50.0)} -"
+    say("wnew 480 11096 4", "wpush 0 5", "wpush 16375 5", f"wpush {U32} 5", "hnew", f"next {asked} 600 0 1000")
+    s = Supervisor(n=16, maximum=11096, w=4)
+    say("wspan", f"wquant {bits(1.0)} {U32}", "wpush 1 6", f"next {asked} 500 180 2000")
+    for i in range(16):
+        s.route(6 + i, i, f"{i:x}/1")
+    for k in range(1, 13):
+        s.tick(k * S, *([481 + i, 16375, U32] for i in range(16)))
+    say("wpush 2 7", f"next {asked} 700 180 3000", "wclear", "hnew", "status 15 0 2", "dump")
+    say("wpush 3 8", f"next {asked} 800 0 4000", "wspan")
+
+    section("more answers than the output buffer holds")
+    say(*["dump"] * 30)
+
+
 def calls():
     making()
     refusals()
@@ -608,3 +628,4 @@ def calls():
     ticking()
     looking()
     session()
+    beside()

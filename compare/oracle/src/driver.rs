@@ -84,7 +84,7 @@ impl Driver {
     pub fn new() -> Self {
         Driver {
             sup: None,
-            window: Window::new(0),
+            window: Window::new(4800),
             hold: Hold::default(),
             coalesce: Coalesce::default(),
             schedule: Schedule::default(),

@@ -10,16 +10,16 @@ use Rattle.policy.specs.Settings.{reachesAllowed, timesAllowed, marginsAllowed}
 use Rattle.policy.specs.Need.{needOf}
 use Rattle.delay_hold.specs.declared.Lag.the-variants.{None, Of}
 use Rattle.delay_hold.specs.declared.Answer.the-variants.{Kept, Changed}
-use Rattle.delay_hold.specs.Steps.{noted}
-use Rattle.delay_hold.specs.Peaks.{joinTimes, joinLags, oldCount, timesAfter, lagsAfter}
-use Rattle.delay_hold.specs.Decide.{lowering, weighed, decideAt, decide}
+use Rattle.delay_hold.specs.Steps1To3.{noted}
+use Rattle.delay_hold.specs.Step4Peaks.{joinTimes, joinLags, oldCount, timesAfter, lagsAfter}
+use Rattle.delay_hold.specs.Steps5To8.{lowering, weighed, decideAt, decide}
 use Rattle.delay_hold.specs.Next.{nextOf}
 use Rattle.delay_hold.specs.Whole.{timerFits, wholePeaks, wholeTimes, wholeHold}
-use Rattle.delay_hold.specs.Checks.{listsFit, newNumber, newReply, settingsNumber, stateNumber, nextNumber, nextReply}
-use Rattle.answers.specs.Fifteen.{first}
+use Rattle.delay_hold.specs.Checks.{listsFit, newNumber, newReply, settingsNumber, heldNumber, nextNumber, nextReply}
+use Rattle.answers.specs.Fifteen.{firstNext}
 
 pub decisions-are :
-    first None (Of 485) 0 ∷ first None (Of 480) 0 ∷ first None (Of 5281) 0 ∷ first (Of 480) None 47 ∷ first (Of 480) None 48 ∷ []
+    firstNext None (Of 485) 0 ∷ firstNext None (Of 480) 0 ∷ firstNext None (Of 5281) 0 ∷ firstNext (Of 480) None 47 ∷ firstNext (Of 480) None 48 ∷ []
     ≡ Changed 104 ∷ Kept ∷ Kept ∷ Changed 96 ∷ Kept ∷ []
-unfolding newReply newNumber nextReply nextNumber settingsNumber stateNumber listsFit wholeHold wholePeaks wholeTimes timerFits apart upTo all blankFrom ask both reachesAllowed timesAllowed marginsAllowed nextOf noted joinTimes joinLags oldCount timesAfter lagsAfter padded decide decideAt weighed lowering needOf halfAway round mul ofInt le
+unfolding newReply newNumber nextReply nextNumber settingsNumber heldNumber listsFit wholeHold wholePeaks wholeTimes timerFits apart upTo all blankFrom ask both reachesAllowed timesAllowed marginsAllowed nextOf noted joinTimes joinLags oldCount timesAfter lagsAfter padded decide decideAt weighed lowering needOf halfAway round mul ofInt le
 decisions-are = refl

@@ -1,4 +1,5 @@
 -- The worked answers, each computed.
+pub mod Pushes
 pub mod Windows
 pub mod Holds
 pub mod Fifteen

@@ -1,28 +1,55 @@
 -- The four quantiles of document 01, computed on what `LagWindow::new`, `push`, `quantile_upto` and `quantile` answer. Assumes nothing.
-use mathlib.Core.Path.{_≡_, refl}
+use mathlib.Core.Path.{_≡_, refl, sym, ap, subst, _∙_}
 use mathlib.Core.List.{[], _∷_, _++_}
 use lib.Ieee.{round, mul, ofInt, le}
-use lib.ListN.{replicate}
+use lib.ListN.{replicate, length-append, length-replicate}
 use Rattle.base.specs.Choice.{ask, both}
 use Rattle.base.specs.Lists.{padded, all, sum, blankFrom, sumFrom}
 use Rattle.base.specs.Rows.{apart, upTo}
 use Rattle.doubles.specs.Doubles.{ceilOf}
-use Rattle.doubles.specs.Quantile.{placeOf}
+use Rattle.doubles.specs.Quantile.{targetOf}
 use Rattle.rules_window.specs.declared.Quantile.the-variants.{End}
 use Rattle.rules_window.specs.Window.{bucketsOf, fresh, inUse, laid, opened, dropped, counted, pushed, pushedAll}
-use Rattle.rules_window.specs.Whole.{summed, wholeWindow}
-use Rattle.rules_window.specs.Quantile.{column, within, running, reach, quantileIn}
-use Rattle.rules_window.specs.Checks.{checked, newestOf, fromZeroToOne, newNumber, pushNumber, quantileNumber, newReply, pushReply, quantileUptoReply, quantileReply}
-use Rattle.answers.specs.Fifteen.{made, after, one, permille}
+use Rattle.rules_window.specs.WholeWindow.{summed, wholeWindow, Sound}
+use Rattle.rules_window.specs.Quantile.{column, within, running, reach, quantileIn, thousandths}
+use Rattle.rules_window.specs.Checks.{checked, newestOf, fromZeroToOne, newNumber, pushNumber, quantileNumber, newReply, pushReply, quantileUptoReply, quantileReply, newest}
+use Rattle.rules_window.proofs.Laws.{fresh-sound}
+use Rattle.answers.specs.Fifteen.{made, after, one}
+use Prim.Native.Nat.{ℕ}
+use native.Mathlib.Omega.{arith}
+use Rattle.answers.proofs.Pushes.{after-pushed}
 
 pub limited-are : quantileUptoReply one 95 (after (0 ∷ 100 ∷ []) made) ∷ quantileUptoReply one 96 (after (0 ∷ 100 ∷ []) made) ∷ [] ≡ End 48 ∷ End 144 ∷ []
-unfolding ask both padded all sum blankFrom sumFrom apart upTo ceilOf placeOf bucketsOf fresh inUse laid opened dropped counted pushed pushedAll summed wholeWindow column within running reach quantileIn checked newestOf fromZeroToOne newNumber pushNumber quantileNumber newReply pushReply quantileUptoReply quantileReply round mul ofInt le
+unfolding after ask both padded all sum blankFrom sumFrom apart upTo ceilOf targetOf bucketsOf fresh inUse laid opened dropped counted pushed pushedAll summed wholeWindow column within running reach quantileIn thousandths checked newestOf fromZeroToOne newNumber pushNumber quantileNumber newReply pushReply quantileUptoReply quantileReply round mul ofInt le
 limited-are = refl
 
-pub one-above-is : quantileReply permille (pushedAll 5 (replicate 999 0 ++ 48 ∷ []) made) ≡ End 48
-unfolding ask both padded all sum blankFrom sumFrom apart upTo ceilOf placeOf bucketsOf fresh inUse laid opened dropped counted pushed pushedAll summed wholeWindow column within running reach quantileIn checked newestOf fromZeroToOne newNumber pushNumber quantileNumber newReply pushReply quantileUptoReply quantileReply round mul ofInt le
-one-above-is = refl
+one-pushed : quantileReply (thousandths 999) (pushedAll 5 (replicate 999 0 ++ 48 ∷ []) made) ≡ End 48
+unfolding ask both padded all sum blankFrom sumFrom apart upTo ceilOf targetOf bucketsOf fresh inUse laid opened dropped counted pushed pushedAll summed wholeWindow column within running reach quantileIn thousandths checked newestOf fromZeroToOne newNumber pushNumber quantileNumber newReply pushReply quantileUptoReply quantileReply round mul ofInt le
+one-pushed = refl
 
-pub two-above-is : quantileReply permille (pushedAll 5 (replicate 998 0 ++ 48 ∷ 48 ∷ []) made) ≡ End 96
-unfolding ask both padded all sum blankFrom sumFrom apart upTo ceilOf placeOf bucketsOf fresh inUse laid opened dropped counted pushed pushedAll summed wholeWindow column within running reach quantileIn checked newestOf fromZeroToOne newNumber pushNumber quantileNumber newReply pushReply quantileUptoReply quantileReply round mul ofInt le
-two-above-is = refl
+two-pushed : quantileReply (thousandths 999) (pushedAll 5 (replicate 998 0 ++ 48 ∷ 48 ∷ []) made) ≡ End 96
+unfolding ask both padded all sum blankFrom sumFrom apart upTo ceilOf targetOf bucketsOf fresh inUse laid opened dropped counted pushed pushedAll summed wholeWindow column within running reach quantileIn thousandths checked newestOf fromZeroToOne newNumber pushNumber quantileNumber newReply pushReply quantileUptoReply quantileReply round mul ofInt le
+two-pushed = refl
+
+-- ---- a thousand pushes
+made-is : made ≡ fresh (bucketsOf 0 0 48) 48
+unfolding newReply newNumber ask bucketsOf
+made-is = refl
+
+made-sound : Sound made
+unfolding bucketsOf
+made-sound = subst Sound (sym made-is) (fresh-sound (bucketsOf 0 0 48) 48 (omega arith) (omega arith) (omega arith) (omega arith))
+
+made-empty : newest 5 made ≡ 0
+unfolding newestOf fresh
+made-empty = ap (newest 5) made-is
+
+pub one-above-is : quantileReply (thousandths 999) (after (replicate 999 0 ++ 48 ∷ []) made) ≡ End 48
+one-above-is =
+    ap (quantileReply (thousandths 999)) (after-pushed (replicate 999 0 ++ 48 ∷ []) made made-sound (omega (arith, made-empty, length-append (replicate {A = ℕ} 999 0) (48 ∷ []), length-replicate {A = ℕ} 999 0)))
+    ∙ one-pushed
+
+pub two-above-is : quantileReply (thousandths 999) (after (replicate 998 0 ++ 48 ∷ 48 ∷ []) made) ≡ End 96
+two-above-is =
+    ap (quantileReply (thousandths 999)) (after-pushed (replicate 998 0 ++ 48 ∷ 48 ∷ []) made made-sound (omega (arith, made-empty, length-append (replicate {A = ℕ} 998 0) (48 ∷ 48 ∷ []), length-replicate {A = ℕ} 998 0)))
+    ∙ two-pushed

@@ -12,7 +12,8 @@ use Rattle.policy.specs.declared.DelayPolicy.{DelayPolicy}
 use Rattle.policy.specs.declared.Need.the-variants as Need
 use Rattle.policy.specs.Need.{needReply}
 use Rattle.rules_window.specs.declared.Quantile.the-variants.{End}
-use Rattle.rules_window.specs.Window.{Window, bucketsOf, pushedAll}
+use Rattle.rules_window.specs.Window.{Window, bucketsOf}
+use Rattle.rules_window.specs.Quantile.{thousandths}
 use Rattle.rules_window.specs.Checks as window
 use Rattle.delay_hold.specs.declared.Lag.{Lag}
 use Rattle.delay_hold.specs.declared.Lag.the-variants.{None, Of}
@@ -29,24 +30,21 @@ settings = record { «read_offset» = 480; «delay_max» = 4800; hold = 30_000_0
 abbrev pub made : Window
 made = window.newReply 0 0 48 (replicate 11 7) (replicate 11 7) (replicate (11 * bucketsOf 0 0 48) 7) .window
 
--- it after these lags were pushed, one after the other, at one time
-abbrev pub after : List ℕ → (w : Window) → Window
+-- it after these lags were pushed, one after the other, at one time: each `push` on the lists that the one before left
+unfoldable pub after : List ℕ → (w : Window) → Window
 after [] w = w
 after (lag ∷ lags) w = after lags (window.pushReply lag 5 w .window)
 
--- q 1, and the double nearest to 0.999
+-- q 1
 abbrev pub one : Float
 one = fin false 1 (pos 0)
-
-abbrev pub permille : Float
-permille = round binary64 false 999 1000
 
 -- a hold that `DelayHold::new` made on lists which were not zero, and what its first `next` answers, one hour after the clock's start
 abbrev pub fresh : Held
 fresh = hold.newReply (replicate 600 7) (replicate 600 7) .held
 
-abbrev pub first : (p999 largest : Lag) (current : ℕ) → Answer
-first p999 largest current = hold.nextReply settings 48 fresh p999 largest current 3_600_000_000_000 .answer
+abbrev pub firstNext : (p999 largest : Lag) (current : ℕ) → Answer
+firstNext p999 largest current = hold.nextReply settings 48 fresh p999 largest current 3_600_000_000_000 .answer
 
 pub record Fifteen : Type 0 where
   -- "`ms(48)` = 1"
@@ -57,10 +55,9 @@ pub record Fifteen : Type 0 where
   pub needs : needReply settings 480 ∷ needReply settings 485 ∷ needReply settings 5280 ∷ [] ≡ Need.Of 96 ∷ Need.Of 104 ∷ Need.Of 4800 ∷ []
   -- "W 48, lags 0 and 100, q 1: limit 95 gives 48, limit 96 gives 144. 999 lags of 0 and one of 48 at 0.999: 48. 998 and two: 96."
   pub limited : window.quantileUptoReply one 95 (after (0 ∷ 100 ∷ []) made) ∷ window.quantileUptoReply one 96 (after (0 ∷ 100 ∷ []) made) ∷ [] ≡ End 48 ∷ End 144 ∷ []
-  -- the thousand lags as one tick brings them
-  pub one-above : window.quantileReply permille (pushedAll 5 (replicate 999 0 ++ 48 ∷ []) made) ≡ End 48
-  pub two-above : window.quantileReply permille (pushedAll 5 (replicate 998 0 ++ 48 ∷ 48 ∷ []) made) ≡ End 96
+  pub one-above : window.quantileReply (thousandths 999) (after (replicate 999 0 ++ 48 ∷ []) made) ≡ End 48
+  pub two-above : window.quantileReply (thousandths 999) (after (replicate 998 0 ++ 48 ∷ 48 ∷ []) made) ≡ End 96
   -- "Current 0: lag 485 gives 104, lag 480 none, lag 5281 none. p999 480, no lag: current 47 raises to 96, 48 does not"
   pub decisions :
-      first None (Of 485) 0 ∷ first None (Of 480) 0 ∷ first None (Of 5281) 0 ∷ first (Of 480) None 47 ∷ first (Of 480) None 48 ∷ []
+      firstNext None (Of 485) 0 ∷ firstNext None (Of 480) 0 ∷ firstNext None (Of 5281) 0 ∷ firstNext (Of 480) None 47 ∷ firstNext (Of 480) None 48 ∷ []
       ≡ Changed 104 ∷ Kept ∷ Kept ∷ Changed 96 ∷ Kept ∷ []

@@ -15,21 +15,21 @@ use Rattle.delay_hold.specs.declared.Lag.{Lag}
 use Rattle.delay_hold.specs.declared.Lag.the-variants.{None, Of}
 use Rattle.delay_hold.specs.declared.Answer.{Answer}
 use Rattle.delay_hold.specs.declared.Answer.the-variants.{Kept, Changed}
-use Rattle.delay_hold.specs.Steps.{noted}
-use Rattle.delay_hold.specs.Peaks.{joinTimes, joinLags, oldCount, timesAfter, lagsAfter}
-use Rattle.delay_hold.specs.Decide.{lowering, weighed, decideAt, decide}
+use Rattle.delay_hold.specs.Steps1To3.{noted}
+use Rattle.delay_hold.specs.Step4Peaks.{joinTimes, joinLags, oldCount, timesAfter, lagsAfter, mostPeaks}
+use Rattle.delay_hold.specs.Steps5To8.{lowering, weighed, decideAt, decide}
 use Rattle.delay_hold.specs.Next.{Held, held, freshHold, nextOf}
 use Rattle.base.specs.Rows.{apart, upTo}
 use Rattle.delay_hold.specs.Whole.{timerFits, wholePeaks, wholeTimes, wholeHold}
-use Rattle.delay_hold.specs.Checks.{listsFit, settingsNumber, stateNumber, nextNumber, nextReply}
+use Rattle.delay_hold.specs.Checks.{listsFit, settingsNumber, heldNumber, nextNumber, nextReply}
 
 abbrev pub fresh : Held
-fresh = held freshHold (replicate 600 0) (replicate 600 0)
+fresh = held freshHold (replicate mostPeaks 0) (replicate mostPeaks 0)
 
 abbrev pub first : Lag → Lag → ℕ → Answer
 first p999 largest current = nextReply examplePolicy 48 fresh p999 largest current 3_600_000_000_000 .answer
 
 -- "Current 0: lag 485 gives 104, lag 480 none, lag 5281 none. p999 480, no lag: current 47 raises to 96, 48 does not"
 pub answers : first None (Of 485) 0 ∷ first None (Of 480) 0 ∷ first None (Of 5281) 0 ∷ first (Of 480) None 47 ∷ first (Of 480) None 48 ∷ [] ≡ Changed 104 ∷ Kept ∷ Kept ∷ Changed 96 ∷ Kept ∷ []
-unfolding nextReply nextNumber settingsNumber stateNumber listsFit wholeHold wholePeaks wholeTimes timerFits apart upTo all blankFrom ask both reachesAllowed timesAllowed marginsAllowed nextOf noted joinTimes joinLags oldCount timesAfter lagsAfter padded decide decideAt weighed lowering needOf halfAway round mul ofInt le
+unfolding nextReply nextNumber settingsNumber heldNumber listsFit wholeHold wholePeaks wholeTimes timerFits apart upTo all blankFrom ask both reachesAllowed timesAllowed marginsAllowed nextOf noted joinTimes joinLags oldCount timesAfter lagsAfter padded decide decideAt weighed lowering needOf halfAway round mul ofInt le
 answers = refl

@@ -7,15 +7,16 @@ use mathlib.Core.List.{List, [], _∷_, _++_}
 use native.Mathlib.Omega.{arith}
 use borrow.Author.Tests.{leb-true, le-leb}
 use lib.ListN.{length, drop, getD, set}
+use Rattle.base.specs.Limits.{nanos}
 use Rattle.base.specs.Choice.{pick}
 use Rattle.base.proofs.Choices.{le-rule}
 use Rattle.delay_hold.specs.declared.Lag.{Lag}
 use Rattle.delay_hold.specs.declared.Lag.the-variants.{None, Of}
 use Rattle.delay_hold.specs.declared.Seed.{Seed}
 use Rattle.delay_hold.specs.declared.Seed.the-variants.{Nothing, From}
-use Rattle.delay_hold.specs.Steps.{lagWithin, seedLeft, capped}
-use Rattle.delay_hold.specs.Decide.{floorOf}
-use Rattle.delay_hold.specs.Peaks.{largerLag, greatest, worstOf, lagsAfter, joinTimes, joinLags, oldCount, isNewAt}
+use Rattle.delay_hold.specs.Steps1To3.{lagWithin, seedLeft, capped}
+use Rattle.delay_hold.specs.Steps5To8.{floorOf}
+use Rattle.delay_hold.specs.Step4Peaks.{largerLag, greatest, worstOf, lagsAfter, joinTimes, joinLags, oldCount, isNewAt}
 use Rattle.delay_hold.specs.Checks.{lagUpTo}
 
 pub larger-up : (a b : Lag) (n : ℕ) → lagUpTo a n ≡ true → lagUpTo b n ≡ true → lagUpTo (largerLag a b) n ≡ true
@@ -90,6 +91,6 @@ pub capped-le : (b : Bool) (x : ℕ) → capped b x ≤ x
 capped-le true x = omega arith
 capped-le false x = omega arith
 
-pub capped-second : (b : Bool) (x : ℕ) → 1_000_000_000 ≤ x → 1_000_000_000 ≤ capped b x
+pub capped-second : (b : Bool) (x : ℕ) → nanos ≤ x → nanos ≤ capped b x
 capped-second true x h = omega arith
 capped-second false x h = h

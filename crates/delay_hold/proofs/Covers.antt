@@ -6,6 +6,7 @@ use mathlib.Core.Bool.{Bool, true, false, _||_}
 use native.Mathlib.Omega.{arith}
 use borrow.Author.Tests.{ltb-false}
 use lib.ListN.{length}
+use Rattle.base.specs.Limits.{nanos}
 use Rattle.base.proofs.Choices.{by-bool, le-yes}
 use Rattle.policy.specs.declared.DelayPolicy.{DelayPolicy}
 use Rattle.policy.proofs.Laws.{need-covers}
@@ -14,9 +15,9 @@ use Rattle.delay_hold.specs.declared.Lag.the-variants.{None, Of}
 use Rattle.delay_hold.specs.declared.LowerTimer.{LowerTimer}
 use Rattle.delay_hold.specs.declared.DelayHold.{DelayHold}
 use Rattle.delay_hold.specs.declared.Next.{Next}
-use Rattle.delay_hold.specs.Steps.{inStartup, lagOf, lateAt, lateOf}
-use Rattle.delay_hold.specs.Peaks.{largerLag, greatest, worstOf}
-use Rattle.delay_hold.specs.Decide.{timerMet, needFor, urgentAt}
+use Rattle.delay_hold.specs.Steps1To3.{inStartup, lagOf, lateAt, lateOf}
+use Rattle.delay_hold.specs.Step4Peaks.{largerLag, greatest, worstOf}
+use Rattle.delay_hold.specs.Steps5To8.{timerMet, needFor, urgentAt}
 use Rattle.delay_hold.specs.Next.{Held, timesIn, lagsIn, holdNow, windowNow, lagsNow, holdBefore, nextOf, delayAfter}
 use Rattle.delay_hold.proofs.Loops.{worst-some}
 use Rattle.delay_hold.proofs.Bounds.{capped-second}
@@ -61,7 +62,7 @@ or-false : (a b : Bool) → (a || b) ≡ false → a ≡ false
 or-false true b e = e
 or-false false b e = refl
 
-module _ (policy : DelayPolicy) (s : Held) (same : length (lagsIn s) ≡ length (timesIn s)) (window-least : 1_000_000_000 ≤ policy .window) (p999 : Lag) (lag : ℕ) (fits : lag ≤ policy .«read_offset» + policy .«delay_max») (time : ℕ) where
+module _ (policy : DelayPolicy) (s : Held) (same : length (lagsIn s) ≡ length (timesIn s)) (window-least : nanos ≤ policy .window) (p999 : Lag) (lag : ℕ) (fits : lag ≤ policy .«read_offset» + policy .«delay_max») (time : ℕ) where
   lag-stays : lagOf policy (Of lag) ≡ Of lag
   lag-stays = le-yes lag (policy .«read_offset» + policy .«delay_max») (Of lag) None fits
 

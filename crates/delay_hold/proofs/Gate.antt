@@ -6,6 +6,7 @@ use mathlib.Core.List.{List}
 use native.Mathlib.Omega.{arith}
 use borrow.Author.Tests.{leb-true, eqb-true}
 use lib.ListN.{length}
+use Rattle.base.specs.Limits.{nanos, spanLimit, timeLimit, widthLimit}
 use Rattle.base.specs.Choice.{accepted}
 use Rattle.base.proofs.Choices.{yes-ask, no-ask, asked, refused-old, accepted-new}
 use Rattle.base.proofs.Points.{both-true}
@@ -18,11 +19,12 @@ use Rattle.delay_hold.specs.declared.Change.the-variants.{Keep, To}
 use Rattle.delay_hold.specs.declared.Answer.the-variants.{Kept, Changed, Refused}
 use Rattle.delay_hold.specs.declared.DelayHold.{DelayHold}
 use Rattle.delay_hold.specs.declared.Next.{Next}
+use Rattle.delay_hold.specs.Step4Peaks.{mostPeaks}
 use Rattle.delay_hold.specs.Next.{Held, held, Decided, decided, nextOf, oneMillisecond, alwaysLower, freshHold, clearedHold}
-use Rattle.delay_hold.specs.Whole.{latest, peakMost}
-use Rattle.delay_hold.specs.Checks.{listsFit, newNumber, NewReply, newReply, settingsNumber, stateNumber, nextNumber, nextAnswer, numberOf, valueOf, left, replyOf, nextReply, AskedFor, Asked}
+use Rattle.delay_hold.specs.Whole.{peakMost}
+use Rattle.delay_hold.specs.Checks.{listsFit, newNumber, NewReply, newReply, settingsNumber, heldNumber, nextNumber, nextAnswer, numberOf, valueOf, leftHold, replyOf, nextReply, AskedFor, Asked}
 
-pub lists-long : (s : Held) → listsFit s ≡ true → (length (s .times) ≡ 600) × (length (s .lags) ≡ 600)
+pub lists-long : (s : Held) → listsFit s ≡ true → (length (s .times) ≡ mostPeaks) × (length (s .lags) ≡ mostPeaks)
 unfolding listsFit
 lists-long s h = let a = both-true _ _ h in (eqb-true _ _ (a .0), eqb-true _ _ (a .1))
 
@@ -49,9 +51,9 @@ module _ (times lags : List ℕ) where
 -- ---- checks 2 to 4 of next
 pub record Settled (policy : DelayPolicy) (width : ℕ) : Type 0 where
   pub sound : Sound policy
-  pub window-least : 1_000_000_000 ≤ policy .window
-  pub window-most : policy .window ≤ 600_000_000_000
-  pub width-most : width ≤ 4800
+  pub window-least : nanos ≤ policy .window
+  pub window-most : policy .window ≤ spanLimit
+  pub width-most : width ≤ widthLimit
 
 module _ (policy : DelayPolicy) (width : ℕ) where
   pub settled : settingsNumber policy width ≡ 0 → Settled policy width
@@ -74,7 +76,7 @@ module _ (policy : DelayPolicy) (width : ℕ) (s : Held) (p999 : Lag) (current t
   unfolding nextNumber
   number-refused n e h = e ∙ sym (refused-old (settingsNumber policy width) _ _ (λ z. h (e ∙ z)))
 
-  pub number-settled : settingsNumber policy width ≡ 0 → stateNumber policy width s p999 current time ≡ nextNumber policy width s p999 current time
+  pub number-settled : settingsNumber policy width ≡ 0 → heldNumber policy width s p999 current time ≡ nextNumber policy width s p999 current time
   unfolding nextNumber
   number-settled z = sym (accepted-new (settingsNumber policy width) _ _ z)
 
@@ -82,12 +84,12 @@ module _ (policy : DelayPolicy) (width : ℕ) (s : Held) (p999 : Lag) (current t
   settings-zero zero m h = (refl, h)
   settings-zero (suc n) m h = absurd (omega arith)
 
-  both-zero : nextNumber policy width s p999 current time ≡ 0 → (settingsNumber policy width ≡ 0) × (stateNumber policy width s p999 current time ≡ 0)
+  both-zero : nextNumber policy width s p999 current time ≡ 0 → (settingsNumber policy width ≡ 0) × (heldNumber policy width s p999 current time ≡ 0)
   unfolding nextNumber
   both-zero h = settings-zero _ _ h
 
-  state-asked : Settled policy width → stateNumber policy width s p999 current time ≡ 0 → AskedFor width policy s p999 current × (time ≤ latest)
-  unfolding stateNumber
+  state-asked : Settled policy width → heldNumber policy width s p999 current time ≡ 0 → AskedFor width policy s p999 current × (time ≤ timeLimit)
+  unfolding heldNumber
   state-asked t h =
       let a = asked 4 _ _ h in
       let b = asked 5 _ _ (a .1) in
@@ -110,7 +112,7 @@ module _ (policy : DelayPolicy) (width : ℕ) (s : Held) (p999 : Lag) (current t
       )
 
   -- what the number 0 says
-  pub accepted-facts : nextNumber policy width s p999 current time ≡ 0 → AskedFor width policy s p999 current × (time ≤ latest)
+  pub accepted-facts : nextNumber policy width s p999 current time ≡ 0 → AskedFor width policy s p999 current × (time ≤ timeLimit)
   accepted-facts h = let z = both-zero h in state-asked (settled policy width (z .0)) (z .1)
 
   pub accepted-asked : nextNumber policy width s p999 current time ≡ 0 → Asked policy s p999 current
@@ -136,11 +138,11 @@ module _ (policy : DelayPolicy) (width : ℕ) (s : Held) (p999 : Lag) (current t
       next-done : replyOf 0 s (decided r ts ls) ≡ nextReply policy width s p999 largest current time
       next-done = ap (replyOf 0 s) done ∙ next-by {n = 0} (sym zero-is ∙ n-is)
 
-      pub next-kept : r .change ≡ Keep → left Kept (r .hold) ts ls ≡ nextReply policy width s p999 largest current time
-      next-kept e = ap (λ (c : Change). left (nextAnswer 0 c) (r .hold) ts ls) (sym e) ∙ next-done
+      pub next-kept : r .change ≡ Keep → leftHold Kept (r .hold) ts ls ≡ nextReply policy width s p999 largest current time
+      next-kept e = ap (λ (c : Change). leftHold (nextAnswer 0 c) (r .hold) ts ls) (sym e) ∙ next-done
 
-      pub next-changed : (d : ℕ) → r .change ≡ To d → left (Changed d) (r .hold) ts ls ≡ nextReply policy width s p999 largest current time
-      next-changed d e = ap (λ (c : Change). left (nextAnswer 0 c) (r .hold) ts ls) (sym e) ∙ next-done
+      pub next-changed : (d : ℕ) → r .change ≡ To d → leftHold (Changed d) (r .hold) ts ls ≡ nextReply policy width s p999 largest current time
+      next-changed d e = ap (λ (c : Change). leftHold (nextAnswer 0 c) (r .hold) ts ls) (sym e) ∙ next-done
 
     -- the answer has document 01's number, and changes nothing where that is not 0
     pub reply-number : numberOf (nextReply policy width s p999 largest current time .answer) ≡ nextNumber policy width s p999 current time

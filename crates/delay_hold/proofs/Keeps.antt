@@ -8,6 +8,7 @@ use native.Mathlib.Omega.{arith}
 use borrow.Author.Tests.{leb-true, le-leb}
 use lib.ListN.{length, getD}
 use lib.Seq.{getD-take}
+use Rattle.base.specs.Limits.{nanos, spanLimit, timeLimit}
 use Rattle.base.specs.Choice.{both}
 use Rattle.base.specs.Lists.{padded, blankFrom}
 use Rattle.base.proofs.Choices.{le-rule}
@@ -26,13 +27,13 @@ use Rattle.delay_hold.specs.declared.Change.the-variants.{Keep, To}
 use Rattle.delay_hold.specs.declared.LowerTimer.{LowerTimer}
 use Rattle.delay_hold.specs.declared.DelayHold.{DelayHold}
 use Rattle.delay_hold.specs.declared.Next.{Next}
-use Rattle.delay_hold.specs.Steps.{startedAt, inStartup, seedLeft, lagOf, lateOf, noted}
-use Rattle.delay_hold.specs.Peaks.{largerLag, timesAfter, lagsAfter}
-use Rattle.delay_hold.specs.Places.{Placed}
-use Rattle.delay_hold.specs.Decide.{timerMet, needFor, decide}
+use Rattle.delay_hold.specs.Steps1To3.{startedAt, inStartup, seedLeft, lagOf, lateOf, noted}
+use Rattle.delay_hold.specs.Step4Peaks.{largerLag, timesAfter, lagsAfter, mostPeaks}
+use Rattle.delay_hold.specs.Step4InPlace.{Placed}
+use Rattle.delay_hold.specs.Steps5To8.{timerMet, needFor, decide}
 use Rattle.delay_hold.specs.Next.{Held, held, timesIn, lagsIn, windowNow, timesNow, lagsNow, holdBefore, decision, nextOf, delayAfter, oneMillisecond, alwaysLower}
 use Rattle.base.specs.Rows.{spanOf}
-use Rattle.delay_hold.specs.Whole.{latest, peakMost, momentTimely, seedFits, seedTimely, timerFits, wholeHold}
+use Rattle.delay_hold.specs.Whole.{peakMost, momentTimely, seedFits, seedTimely, timerFits, wholeHold}
 use Rattle.delay_hold.specs.Checks.{lagUpTo, AskedFor, nextNumber, nextReply}
 use Rattle.delay_hold.proofs.Order.{after-in, after-same}
 use Rattle.delay_hold.proofs.Bounds.{larger-up, within-up, up-more, capped-le, capped-second}
@@ -84,12 +85,12 @@ left-timely : (seed : Seed) (hold time : ℕ) → seedTimely seed ≡ true → s
 left-timely Nothing hold time h = refl
 left-timely (From t d) hold time h = le-rule hold (time - t) Nothing (From t d) (λ (s : Seed). seedTimely s ≡ true) (λ g. refl) (λ g. h)
 
-started-timely : (m : Moment) (time : ℕ) → momentTimely m ≡ true → time ≤ latest → momentTimely (At (startedAt m time)) ≡ true
+started-timely : (m : Moment) (time : ℕ) → momentTimely m ≡ true → time ≤ timeLimit → momentTimely (At (startedAt m time)) ≡ true
 started-timely Never time h l = le-leb _ _ l
 started-timely (At t) time h l = h
 
 -- ---- steps 1 to 3, and 5 to 8
-module _ (policy : DelayPolicy) (time : ℕ) (soon : time ≤ latest) where
+module _ (policy : DelayPolicy) (time : ℕ) (soon : time ≤ timeLimit) where
   noted-whole : (millisecond : ℕ) (h : DelayHold) (lag : Lag) (startup late : Bool) → WholeTimes policy h → WholeTimes policy (noted millisecond policy h lag startup late time)
   unfolding noted
   noted-whole millisecond h lag startup late w =
@@ -131,7 +132,7 @@ module _ (policy : DelayPolicy) (time : ℕ) (soon : time ≤ latest) where
                 seed = w .seed;
                 timer = met-fits (h .lower) need time (policy .«delay_max») n (w .timer);
                 last = w .last;
-                since = since-met (h .lower) need time latest (w .since) soon;
+                since = since-met (h .lower) need time timeLimit (w .since) soon;
                 start = w .start;
                 seed-time = w .seed-time;
               };
@@ -151,9 +152,9 @@ module _ (policy : DelayPolicy) (time : ℕ) (soon : time ≤ latest) where
         (λ worst e r o. outcome-fine (needFor policy (h .seeded) worst) _ (need-fits worst) r o)
 
 -- ---- step 4
-module _ {policy : DelayPolicy} {width : ℕ} {s : Held} (w : WholePeaks policy width s) (times-long : length (s .times) ≡ 600) (lags-long : length (s .lags) ≡ 600)
-    (window : ℕ) (window-least : 1_000_000_000 ≤ window) (window-in : window ≤ policy .window) (window-most : policy .window ≤ 600_000_000_000)
-    (joined : Lag) (joined-in : lagUpTo joined (peakMost policy width) ≡ true) (time : ℕ) (soon : time ≤ latest) where
+module _ {policy : DelayPolicy} {width : ℕ} {s : Held} (w : WholePeaks policy width s) (times-long : length (s .times) ≡ mostPeaks) (lags-long : length (s .lags) ≡ mostPeaks)
+    (window : ℕ) (window-least : nanos ≤ window) (window-in : window ≤ policy .window) (window-most : policy .window ≤ spanLimit)
+    (joined : Lag) (joined-in : lagUpTo joined (peakMost policy width) ≡ true) (time : ℕ) (soon : time ≤ timeLimit) where
   placed : Placed (s .hold .peaks) (s .times) (s .lags) window
   placed = placed-of w times-long lags-long window window-least (omega arith)
 
@@ -172,10 +173,10 @@ module _ {policy : DelayPolicy} {width : ℕ} {s : Held} (w : WholePeaks policy 
   same : length L ≡ length T
   same = after-same (timesIn s) (lagsIn s) joined window time (lags-in-use ∙ sym times-in-use)
 
-  few : length T ≤ 600
+  few : length T ≤ mostPeaks
   few = after-in (s .hold .peaks) (s .times) (s .lags) window time placed joined
 
-  spaced : (i : ℕ) → i + 1 < length (timesIn s) → getD (timesIn s) i 0 + 1_000_000_000 ≤ getD (timesIn s) (i + 1) 0
+  spaced : (i : ℕ) → i + 1 < length (timesIn s) → getD (timesIn s) i 0 + nanos ≤ getD (timesIn s) (i + 1) 0
   spaced = spaced-in-use w times-long lags-long
 
   span : spanOf (length (timesIn s)) (timesIn s) < policy .window
@@ -199,35 +200,35 @@ module _ {policy : DelayPolicy} {width : ℕ} {s : Held} (w : WholePeaks policy 
       new : (v : ℕ) → joined ≡ Of v → v ≤ peakMost policy width
       new v e = leb-true v (peakMost policy width) (rw e at joined-in)
 
-  times-up : (i : ℕ) → i < length T → getD T i 0 ≤ latest
+  times-up : (i : ℕ) → i < length T → getD T i 0 ≤ timeLimit
   times-up i l =
-      after-rule (timesIn s) (lagsIn s) (lags-in-use ∙ sym times-in-use) (λ (t _ : ℕ). t ≤ latest) (each (λ (t _ : ℕ). t ≤ latest) (w .times-in)) joined window time
+      after-rule (timesIn s) (lagsIn s) (lags-in-use ∙ sym times-in-use) (λ (t _ : ℕ). t ≤ timeLimit) (each (λ (t _ : ℕ). t ≤ timeLimit) (w .times-in)) joined window time
       (λ v e. soon) (λ v t x e y p. p) i l
 
-  blank : (xs : List ℕ) (n : ℕ) → length xs ≡ n → blankFrom n (padded 600 xs) ≡ true
-  blank xs n e = blank-intro n (padded 600 xs) (λ i h. getD-padded 600 xs i ∙ past-end xs i (omega arith))
+  blank : (xs : List ℕ) (n : ℕ) → length xs ≡ n → blankFrom n (padded mostPeaks xs) ≡ true
+  blank xs n e = blank-intro n (padded mostPeaks xs) (λ i h. getD-padded mostPeaks xs i ∙ past-end xs i (omega arith))
 
-  peaks-whole : (h : DelayHold) → h .peaks ≡ length T → WholePeaks policy width (held h (padded 600 T) (padded 600 L))
+  peaks-whole : (h : DelayHold) → h .peaks ≡ length T → WholePeaks policy width (held h (padded mostPeaks T) (padded mostPeaks L))
   peaks-whole h e =
       record {
         count = omega (arith, few);
-        spaced = λ i l. rw (getD-padded 600 T i, getD-padded 600 T (i + 1)) (omega (arith, after-spaced (timesIn s) spaced joined window time i (omega arith)));
+        spaced = λ i l. rw (getD-padded mostPeaks T i, getD-padded mostPeaks T (i + 1)) (omega (arith, after-spaced (timesIn s) spaced joined window time i (omega arith)));
         span = by-count (length T) e;
         times-blank = blank T (h .peaks) (sym e);
         lags-blank = blank L (h .peaks) (same ∙ sym e);
-        lags-in = λ i l. rw (getD-padded 600 L i) (lags-up i (omega arith));
-        times-in = λ i l. rw (getD-padded 600 T i) (times-up i (omega arith));
+        lags-in = λ i l. rw (getD-padded mostPeaks L i) (lags-up i (omega arith));
+        times-in = λ i l. rw (getD-padded mostPeaks T i) (times-up i (omega arith));
       }
     where
-      by-count : (n : ℕ) → h .peaks ≡ n → spanOf (h .peaks) (padded 600 T) < policy .window
+      by-count : (n : ℕ) → h .peaks ≡ n → spanOf (h .peaks) (padded mostPeaks T) < policy .window
       by-count zero q = rw q (omega arith)
       by-count (suc n) q =
           rw q
-          (rw (getD-padded 600 T n, getD-padded 600 T 0)
+          (rw (getD-padded mostPeaks T n, getD-padded mostPeaks T 0)
           (after-span (timesIn s) spaced joined window time (policy .window) window-in span n (omega arith)))
 
 -- ---- the whole of next
-module _ (millisecond : ℕ) (mayLower : Bool) (width : ℕ) (policy : DelayPolicy) (s : Held) (p999 largest : Lag) (current time : ℕ) (a : AskedFor width policy s p999 current) (soon : time ≤ latest) where
+module _ (millisecond : ℕ) (mayLower : Bool) (width : ℕ) (policy : DelayPolicy) (s : Held) (p999 largest : Lag) (current time : ℕ) (a : AskedFor width policy s p999 current) (soon : time ≤ timeLimit) where
   abbrev before : DelayHold
   before = holdBefore millisecond policy s p999 largest current time
 
@@ -255,7 +256,7 @@ module _ (millisecond : ℕ) (mayLower : Bool) (width : ℕ) (policy : DelayPoli
       (decision millisecond mayLower policy s p999 largest current time .hold) (fine .peaks-same))
       (fine .whole)
 
-  pub next-keeps-lengths : (length (nextOf millisecond mayLower policy s p999 largest current time .held .times) ≡ 600) × (length (nextOf millisecond mayLower policy s p999 largest current time .held .lags) ≡ 600)
+  pub next-keeps-lengths : (length (nextOf millisecond mayLower policy s p999 largest current time .held .times) ≡ mostPeaks) × (length (nextOf millisecond mayLower policy s p999 largest current time .held .lags) ≡ mostPeaks)
   unfolding nextOf
   next-keeps-lengths =
       let w = whole-of policy width s (a .whole) .0 in
@@ -263,9 +264,9 @@ module _ (millisecond : ℕ) (mayLower : Bool) (width : ℕ) (policy : DelayPoli
       let least = capped-second (inStartup (s .hold) time) (policy .window) (a .window-least) in
       let within = capped-le (inStartup (s .hold) time) (policy .window) in
       let joined = largerLag (lagOf policy largest) p999 in
-      let f : length (timesNow policy s p999 largest time) ≤ 600 = few w (a .times-long) (a .lags-long) window least within (a .window-most) joined joined-fits time soon in
+      let f : length (timesNow policy s p999 largest time) ≤ mostPeaks = few w (a .times-long) (a .lags-long) window least within (a .window-most) joined joined-fits time soon in
       let e : length (lagsNow policy s p999 largest time) ≡ length (timesNow policy s p999 largest time) = same w (a .times-long) (a .lags-long) window least within (a .window-most) joined joined-fits time soon in
-      (length-padded 600 (timesNow policy s p999 largest time) f, length-padded 600 (lagsNow policy s p999 largest time) (omega arith))
+      (length-padded mostPeaks (timesNow policy s p999 largest time) f, length-padded mostPeaks (lagsNow policy s p999 largest time) (omega arith))
 
   -- its answer is at most the maximum
   pub next-change-fits : ChangeFits (policy .«delay_max») (nextOf millisecond mayLower policy s p999 largest current time .change)

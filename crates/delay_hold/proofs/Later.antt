@@ -7,6 +7,7 @@ use native.Mathlib.Omega.{arith}
 use borrow.Author.Tests.{leb-true}
 use lib.ListN.{length, getD}
 use lib.Seq.{getD-take}
+use Rattle.base.specs.Limits.{nanos}
 use Rattle.base.proofs.Choices.{le-rule}
 use Rattle.base.proofs.Pads.{getD-padded}
 use Rattle.policy.specs.declared.DelayPolicy.{DelayPolicy}
@@ -20,9 +21,9 @@ use Rattle.delay_hold.specs.declared.Change.{Change}
 use Rattle.delay_hold.specs.declared.Change.the-variants.{Keep}
 use Rattle.delay_hold.specs.declared.DelayHold.{DelayHold}
 use Rattle.delay_hold.specs.declared.Next.{Next}
-use Rattle.delay_hold.specs.Steps.{inStartup, seedLeft, lagOf, lateOf, noted}
-use Rattle.delay_hold.specs.Peaks.{largerLag, worstOf}
-use Rattle.delay_hold.specs.Decide.{floorOf, needFor, urgentAt}
+use Rattle.delay_hold.specs.Steps1To3.{inStartup, seedLeft, lagOf, lateOf, noted}
+use Rattle.delay_hold.specs.Step4Peaks.{largerLag, worstOf, mostPeaks}
+use Rattle.delay_hold.specs.Steps5To8.{floorOf, needFor, urgentAt}
 use Rattle.delay_hold.specs.Next.{Held, timesIn, lagsIn, holdNow, windowNow, timesNow, lagsNow, holdBefore, nextOf}
 use Rattle.delay_hold.specs.Checks.{lagUpTo}
 use Rattle.delay_hold.proofs.Order.{after-same}
@@ -125,7 +126,7 @@ module _ (millisecond : ℕ) (mayLower : Bool) (policy : DelayPolicy) (s : Held)
       by-outcome w r (lowers l c a b) = refl
 
   -- ---- the peaks
-  module _ {width : ℕ} (w : WholePeaks policy width s) (times-long : length (s .times) ≡ 600) (lags-long : length (s .lags) ≡ 600) where
+  module _ {width : ℕ} (w : WholePeaks policy width s) (times-long : length (s .times) ≡ mostPeaks) (lags-long : length (s .lags) ≡ mostPeaks) where
     same : length (lagsIn s) ≡ length (timesIn s)
     same = let u = in-use w times-long lags-long in u .1 ∙ sym (u .0)
 
@@ -134,11 +135,11 @@ module _ (millisecond : ℕ) (mayLower : Bool) (policy : DelayPolicy) (s : Held)
         (P : ℕ → ℕ → Type 0) →
         Each P s →
         ((v : ℕ) → largerLag (lagOf policy largest) p999 ≡ Of v → P time v) →
-        ((v t l : ℕ) → largerLag (lagOf policy largest) p999 ≡ Of v → time - t < 1_000_000_000 → P t l → P t (max l v)) →
+        ((v t l : ℕ) → largerLag (lagOf policy largest) p999 ≡ Of v → time - t < nanos → P t l → P t (max l v)) →
         Each P (nextOf millisecond mayLower policy s p999 largest current time .held)
     unfolding nextOf
     next-each P old new join i l =
-        rw (getD-padded 600 (timesNow policy s p999 largest time) i, getD-padded 600 (lagsNow policy s p999 largest time) i)
+        rw (getD-padded mostPeaks (timesNow policy s p999 largest time) i, getD-padded mostPeaks (lagsNow policy s p999 largest time) i)
         (after-rule (timesIn s) (lagsIn s) same P old-in (largerLag (lagOf policy largest) p999) (windowNow policy (s .hold) time) time new join i (omega (arith, next-peaks)))
       where
         old-in : (j : ℕ) → j < length (timesIn s) → P (getD (timesIn s) j 0) (getD (lagsIn s) j 0)
@@ -198,5 +199,5 @@ module _ (millisecond : ℕ) (mayLower : Bool) (policy : DelayPolicy) (s : Held)
         each : (i : ℕ) → i < length (timesNow policy s p999 largest time) → getD (lagsNow policy s p999 largest time) i 0 ≤ e
         each i l =
             let y : time - getD (timesNow policy s p999 largest time) i 0 < windowNow policy (s .hold) time = after-young (timesIn s) (spaced-in-use w times-long lags-long) (largerLag (lagOf policy largest) p999) (windowNow policy (s .hold) time) time i l in
-            let p = rw (getD-padded 600 (timesNow policy s p999 largest time) i, getD-padded 600 (lagsNow policy s p999 largest time) i) at (next-peaked b e t h k low i (omega (arith, next-peaks))) in
+            let p = rw (getD-padded mostPeaks (timesNow policy s p999 largest time) i, getD-padded mostPeaks (lagsNow policy s p999 largest time) i) at (next-peaked b e t h k low i (omega (arith, next-peaks))) in
             p .1 (omega (arith, capped-le (inStartup (s .hold) time) (policy .window)))

@@ -9,7 +9,7 @@ use borrow.Author.Tests.{le-leb, lt-leb}
 use lib.ListN.{length, take, drop, getD, length-take, drop-of-length-le}
 use lib.Seq.{drop-cons, getD-take}
 use Rattle.delay_hold.specs.declared.Lag.the-variants.{Of}
-use Rattle.delay_hold.specs.Peaks.{oldCount, greatest, worstOf, isNewAt}
+use Rattle.delay_hold.specs.Step4Peaks.{oldCount, greatest, worstOf, isNewAt}
 
 module _ (xs : List ℕ) (n k : ℕ) (n-in : n ≤ length xs) (k-in : k < n) where
   cons : drop k (take n xs) ≡ getD xs k 0 ∷ drop (k + 1) (take n xs)

@@ -7,13 +7,15 @@ use mathlib.Core.List.{List}
 use native.Mathlib.Omega.{arith}
 use borrow.Author.Tests.{le-leb}
 use lib.ListN.{replicate}
+use Rattle.base.specs.Limits.{timeLimit}
 use Rattle.base.specs.Choice.{both}
 use Rattle.base.proofs.Points.{blank-intro, zeros-at}
 use Rattle.policy.specs.declared.DelayPolicy.{DelayPolicy}
 use Rattle.delay_hold.specs.declared.DelayHold.{DelayHold}
-use Rattle.delay_hold.specs.Decide.{timerOff, withLower}
+use Rattle.delay_hold.specs.Step4Peaks.{mostPeaks}
+use Rattle.delay_hold.specs.Steps5To8.{timerOff, withLower}
 use Rattle.delay_hold.specs.Next.{Held, held, freshHold, seededHold}
-use Rattle.delay_hold.specs.Whole.{latest, timerFits, wholeHold}
+use Rattle.delay_hold.specs.Whole.{timerFits, wholeHold}
 use Rattle.delay_hold.proofs.Later.{HoldTill, hold-later}
 use Rattle.delay_hold.proofs.Wholes.{WholePeaks, whole-of, of-whole}
 
@@ -30,23 +32,23 @@ peaks-under h e w =
     }
 
 module _ (policy : DelayPolicy) (width : ℕ) where
-  pub fresh-whole : 1 ≤ policy .window → wholeHold policy width (held freshHold (replicate 600 0) (replicate 600 0)) ≡ true
+  pub fresh-whole : 1 ≤ policy .window → wholeHold policy width (held freshHold (replicate mostPeaks 0) (replicate mostPeaks 0)) ≡ true
   unfolding timerFits both
   fresh-whole w =
-      of-whole policy width (held freshHold (replicate 600 0) (replicate 600 0))
+      of-whole policy width (held freshHold (replicate mostPeaks 0) (replicate mostPeaks 0))
       (record {
         count = omega arith;
         spaced = λ i l. absurd (omega arith);
         span = omega arith;
-        times-blank = blank-intro 0 (replicate 600 0) (λ i l. zeros-at 600 i);
-        lags-blank = blank-intro 0 (replicate 600 0) (λ i l. zeros-at 600 i);
+        times-blank = blank-intro 0 (replicate mostPeaks 0) (λ i l. zeros-at mostPeaks i);
+        lags-blank = blank-intro 0 (replicate mostPeaks 0) (λ i l. zeros-at mostPeaks i);
         lags-in = λ i l. absurd (omega arith);
         times-in = λ i l. absurd (omega arith);
       })
       (record { seed = refl; timer = refl; last = refl; since = omega arith; start = refl; seed-time = refl })
 
   module _ (s : Held) (whole : wholeHold policy width s ≡ true) where
-    pub seeded-whole : (delay time : ℕ) → delay ≤ policy .«delay_max» → time ≤ latest → wholeHold policy width (held (seededHold (s .hold) delay time) (s .times) (s .lags)) ≡ true
+    pub seeded-whole : (delay time : ℕ) → delay ≤ policy .«delay_max» → time ≤ timeLimit → wholeHold policy width (held (seededHold (s .hold) delay time) (s .times) (s .lags)) ≡ true
     seeded-whole delay time h l =
         let w = whole-of policy width s whole in
         of-whole policy width _ (peaks-under (seededHold (s .hold) delay time) refl (w .0))
@@ -56,7 +58,7 @@ module _ (policy : DelayPolicy) (width : ℕ) where
           last = w .1 .last;
           since = w .1 .since;
           start = w .1 .start;
-          seed-time = le-leb time latest l;
+          seed-time = le-leb time timeLimit l;
         })
 
     pub interrupted-whole : wholeHold policy width (held (withLower (s .hold) timerOff) (s .times) (s .lags)) ≡ true

@@ -11,13 +11,14 @@ use borrow.Author.Tests.{le-leb, lt-leb, leb-true, leb-false, eq-eqb, ne-eqb}
 use lib.Dec.{leb}
 use lib.ListN.{length, take, drop, getD, set, length-append, length-drop, length-set}
 use lib.Seq.{drop-append-le, getD-drop, getD-take, length-take-le, drop-set-add}
+use Rattle.base.specs.Limits.{nanos, spanLimit}
 use Rattle.base.specs.Choice.{pick}
 use Rattle.base.specs.Lists.{padded, shifted}
 use Rattle.base.proofs.Pads.{length-padded, getD-padded, padded-set, padded-push, shifted-padded, take-padded}
 use Rattle.delay_hold.specs.declared.Lag.{Lag}
 use Rattle.delay_hold.specs.declared.Lag.the-variants.{None, Of}
-use Rattle.delay_hold.specs.Peaks.{isNewAt, oldCount, joinTimes, joinLags, timesAfter, lagsAfter}
-use Rattle.delay_hold.specs.Places.{countJoined, timesJoined, lagsJoined, Placed}
+use Rattle.delay_hold.specs.Step4Peaks.{isNewAt, oldCount, joinTimes, joinLags, timesAfter, lagsAfter, mostPeaks}
+use Rattle.delay_hold.specs.Step4InPlace.{countJoined, timesJoined, lagsJoined, Placed}
 use Rattle.delay_hold.proofs.Loops.{new-pos}
 
 pub joined-same : (ts ls : List ℕ) (lag : Lag) (time : ℕ) → length ls ≡ length ts → length (joinLags ts ls lag time) ≡ length (joinTimes ts lag time)
@@ -68,11 +69,11 @@ old-front (t ∷ ts) w time h = by-test (leb w (time - t)) refl (old-front ts w 
 pub new-none : (n : ℕ) (ts : List ℕ) (time : ℕ) → n ≡ 0 → isNewAt n ts time ≡ true
 new-none n ts time h = simp (eq-eqb n 0 h)
 
-pub new-some : (n : ℕ) (ts : List ℕ) (time : ℕ) → 1 ≤ n → isNewAt n ts time ≡ leb 1_000_000_000 (time - getD ts (n - 1) 0)
+pub new-some : (n : ℕ) (ts : List ℕ) (time : ℕ) → 1 ≤ n → isNewAt n ts time ≡ leb nanos (time - getD ts (n - 1) 0)
 new-some n ts time h = simp (ne-eqb n 0 (omega arith))
 
 -- ---- the two orders, of the peaks in use
-module _ (ts : List ℕ) (w time : ℕ) (least : 1_000_000_000 ≤ w) where
+module _ (ts : List ℕ) (w time : ℕ) (least : nanos ≤ w) where
   abbrev k : ℕ
   k = oldCount ts w time
 
@@ -80,18 +81,18 @@ module _ (ts : List ℕ) (w time : ℕ) (least : 1_000_000_000 ≤ w) where
   length-left = length-drop k ts
 
   -- the old ones gone or not, the newest is as new
-  new-same : isNewAt (length ts - k) (padded 600 (drop k ts)) time ≡ isNewAt (length ts) ts time
-  new-same = ⊎-elim (λ z. new-none (length ts - k) (padded 600 (drop k ts)) time z ∙ sym (⊎-elim (none z) (all-old z) (eq-zero-or-pos (length ts)))) left (eq-zero-or-pos (length ts - k)) where
+  new-same : isNewAt (length ts - k) (padded mostPeaks (drop k ts)) time ≡ isNewAt (length ts) ts time
+  new-same = ⊎-elim (λ z. new-none (length ts - k) (padded mostPeaks (drop k ts)) time z ∙ sym (⊎-elim (none z) (all-old z) (eq-zero-or-pos (length ts)))) left (eq-zero-or-pos (length ts - k)) where
     none : length ts - k ≡ 0 → length ts ≡ 0 → isNewAt (length ts) ts time ≡ true
     none z z′ = new-none (length ts) ts time z′
 
     all-old : length ts - k ≡ 0 → 0 < length ts → isNewAt (length ts) ts time ≡ true
-    all-old z p = new-some (length ts) ts time (omega arith) ∙ le-leb 1_000_000_000 (time - getD ts (length ts - 1) 0) (omega (arith, old-each ts w time (length ts - 1) (omega (arith, old-le ts w time))))
+    all-old z p = new-some (length ts) ts time (omega arith) ∙ le-leb nanos (time - getD ts (length ts - 1) 0) (omega (arith, old-each ts w time (length ts - 1) (omega (arith, old-le ts w time))))
 
-    left : 0 < length ts - k → isNewAt (length ts - k) (padded 600 (drop k ts)) time ≡ isNewAt (length ts) ts time
+    left : 0 < length ts - k → isNewAt (length ts - k) (padded mostPeaks (drop k ts)) time ≡ isNewAt (length ts) ts time
     left p =
         let e : k + (length ts - k - 1) ≡ length ts - 1 = omega arith in
-        new-some (length ts - k) (padded 600 (drop k ts)) time (omega arith) ∙ rw (getD-padded 600 (drop k ts), getD-drop, e) (sym (new-some (length ts) ts time (omega arith)))
+        new-some (length ts - k) (padded mostPeaks (drop k ts)) time (omega arith) ∙ rw (getD-padded mostPeaks (drop k ts), getD-drop, e) (sym (new-some (length ts) ts time (omega arith)))
 
   module _ (l : ℕ) where
     times-new : isNewAt (length ts) ts time ≡ true → timesAfter ts (Of l) w time ≡ drop k ts ++ (time ∷ [])
@@ -112,13 +113,13 @@ module _ (ts : List ℕ) (w time : ℕ) (least : 1_000_000_000 ≤ w) where
       lags-old e = rw e
 
 -- the room that a new peak wants
-pub far : (ts : List ℕ) (n : ℕ) → ((i : ℕ) → i + 1 < n → getD ts i 0 + 1_000_000_000 ≤ getD ts (i + 1) 0) → (k j : ℕ) → k + j < n → getD ts k 0 + j * 1_000_000_000 ≤ getD ts (k + j) 0
+pub far : (ts : List ℕ) (n : ℕ) → ((i : ℕ) → i + 1 < n → getD ts i 0 + nanos ≤ getD ts (i + 1) 0) → (k j : ℕ) → k + j < n → getD ts k 0 + j * nanos ≤ getD ts (k + j) 0
 far ts n sp k zero h = let e : k + 0 ≡ k = omega arith in rw e (omega arith)
 far ts n sp k (suc j) h = let e : k + suc j ≡ k + j + 1 = omega arith in rw e (omega (arith, far ts n sp k j (omega arith), sp (k + j) (omega arith)))
 
 -- ---- what the code leaves is what the document says, of the peaks in use
-module _ (ts ls : List ℕ) (w time : ℕ) (same : length ls ≡ length ts) (in600 : length ts ≤ 600) (least : 1_000_000_000 ≤ w) (most : w ≤ 600000000000)
-    (spaced : (i : ℕ) → i + 1 < length ts → getD ts i 0 + 1_000_000_000 ≤ getD ts (i + 1) 0) where
+module _ (ts ls : List ℕ) (w time : ℕ) (same : length ls ≡ length ts) (in600 : length ts ≤ mostPeaks) (least : nanos ≤ w) (most : w ≤ spanLimit)
+    (spaced : (i : ℕ) → i + 1 < length ts → getD ts i 0 + nanos ≤ getD ts (i + 1) 0) where
   abbrev gone : ℕ
   gone = oldCount ts w time
 
@@ -126,17 +127,17 @@ module _ (ts ls : List ℕ) (w time : ℕ) (same : length ls ≡ length ts) (in6
   m = length ts - gone
 
   abbrev P : List ℕ
-  P = padded 600 (drop gone ts)
+  P = padded mostPeaks (drop gone ts)
 
   abbrev Q : List ℕ
-  Q = padded 600 (drop gone ls)
+  Q = padded mostPeaks (drop gone ls)
 
-  pub room : isNewAt m P time ≡ true → m < 600
+  pub room : isNewAt m P time ≡ true → m < mostPeaks
   room e = ⊎-elim (λ z. omega arith) some (eq-zero-or-pos m) where
-    some : 0 < m → m < 600
+    some : 0 < m → m < mostPeaks
     some p =
-        let f : 1_000_000_000 ≤ time - getD P (m - 1) 0 = leb-true 1_000_000_000 (time - getD P (m - 1) 0) (sym (new-some m P time (omega arith)) ∙ e) in
-        let g : getD P (m - 1) 0 ≡ getD ts (gone + (m - 1)) 0 = getD-padded 600 (drop gone ts) (m - 1) ∙ getD-drop gone ts (m - 1) 0 in
+        let f : nanos ≤ time - getD P (m - 1) 0 = leb-true nanos (time - getD P (m - 1) 0) (sym (new-some m P time (omega arith)) ∙ e) in
+        let g : getD P (m - 1) 0 ≡ getD ts (gone + (m - 1)) 0 = getD-padded mostPeaks (drop gone ts) (m - 1) ∙ getD-drop gone ts (m - 1) 0 in
         omega (arith, far ts (length ts) spaced gone (m - 1) (omega arith), old-front ts w time (omega arith))
 
   left-long : length (drop gone ts) ≡ m
@@ -154,36 +155,36 @@ module _ (ts ls : List ℕ) (w time : ℕ) (same : length ls ≡ length ts) (in6
   count-is None = sym left-long
   count-is (Of l) = count-of l (isNewAt (length ts) ts time) refl
 
-  pub count-in : (lag : Lag) → length (timesAfter ts lag w time) ≤ 600
+  pub count-in : (lag : Lag) → length (timesAfter ts lag w time) ≤ mostPeaks
   unfolding timesAfter joinTimes
   count-in None = omega (arith, left-long)
   count-in (Of l) = by-new (isNewAt (length ts) ts time) refl where
-    by-new : (b : Bool) → isNewAt (length ts) ts time ≡ b → length (timesAfter ts (Of l) w time) ≤ 600
-    by-new true e = let r : m < 600 = room (new-same ts w time least ∙ e) in rw (times-new ts w time least l e) (simp length-append (omega (arith, left-long)))
+    by-new : (b : Bool) → isNewAt (length ts) ts time ≡ b → length (timesAfter ts (Of l) w time) ≤ mostPeaks
+    by-new true e = let r : m < mostPeaks = room (new-same ts w time least ∙ e) in rw (times-new ts w time least l e) (simp length-append (omega (arith, left-long)))
     by-new false e = rw (times-old ts w time least l e) (omega (arith, left-long))
 
-  times-of : (l : ℕ) (b : Bool) → isNewAt (length ts) ts time ≡ b → timesJoined m P (Of l) time ≡ padded 600 (timesAfter ts (Of l) w time)
+  times-of : (l : ℕ) (b : Bool) → isNewAt (length ts) ts time ≡ b → timesJoined m P (Of l) time ≡ padded mostPeaks (timesAfter ts (Of l) w time)
   times-of l true e =
-      let r : m < 600 = room (new-same ts w time least ∙ e) in
-      rw (new-same ts w time least, e, times-new ts w time least l e) (ap (λ (j : ℕ). set P j time) (sym left-long) ∙ padded-push 600 (drop gone ts) time (omega (arith, left-long)))
+      let r : m < mostPeaks = room (new-same ts w time least ∙ e) in
+      rw (new-same ts w time least, e, times-new ts w time least l e) (ap (λ (j : ℕ). set P j time) (sym left-long) ∙ padded-push mostPeaks (drop gone ts) time (omega (arith, left-long)))
   times-of l false e = rw (new-same ts w time least, e, times-old ts w time least l e)
 
-  pub times-is : (lag : Lag) → timesJoined m P lag time ≡ padded 600 (timesAfter ts lag w time)
+  pub times-is : (lag : Lag) → timesJoined m P lag time ≡ padded mostPeaks (timesAfter ts lag w time)
   unfolding timesAfter joinTimes
   times-is None = refl
   times-is (Of l) = times-of l (isNewAt (length ts) ts time) refl
 
-  lags-of : (l : ℕ) (b : Bool) → isNewAt (length ts) ts time ≡ b → lagsJoined m P Q (Of l) time ≡ padded 600 (lagsAfter ts ls (Of l) w time)
+  lags-of : (l : ℕ) (b : Bool) → isNewAt (length ts) ts time ≡ b → lagsJoined m P Q (Of l) time ≡ padded mostPeaks (lagsAfter ts ls (Of l) w time)
   lags-of l true e =
-      let r : m < 600 = room (new-same ts w time least ∙ e) in
-      rw (new-same ts w time least, e, lags-new ts w time least l ls same e) (ap (λ (j : ℕ). set Q j l) (sym lags-long) ∙ padded-push 600 (drop gone ls) l (omega (arith, lags-long)))
+      let r : m < mostPeaks = room (new-same ts w time least ∙ e) in
+      rw (new-same ts w time least, e, lags-new ts w time least l ls same e) (ap (λ (j : ℕ). set Q j l) (sym lags-long) ∙ padded-push mostPeaks (drop gone ls) l (omega (arith, lags-long)))
   lags-of l false e =
       let p : 1 ≤ m = new-pos m P time (new-same ts w time least ∙ e) in
       let f : length ls - 1 ≡ gone + (m - 1) = omega arith in
-      rw (new-same ts w time least, e, lags-old ts w time least l ls same e, f, drop-set-add gone ls (m - 1) (max (getD ls (gone + (m - 1)) 0) l), getD-padded 600 (drop gone ls) (m - 1), getD-drop gone ls (m - 1) 0)
-      (padded-set 600 (drop gone ls) (m - 1) (max (getD ls (gone + (m - 1)) 0) l) (omega (arith, lags-long)))
+      rw (new-same ts w time least, e, lags-old ts w time least l ls same e, f, drop-set-add gone ls (m - 1) (max (getD ls (gone + (m - 1)) 0) l), getD-padded mostPeaks (drop gone ls) (m - 1), getD-drop gone ls (m - 1) 0)
+      (padded-set mostPeaks (drop gone ls) (m - 1) (max (getD ls (gone + (m - 1)) 0) l) (omega (arith, lags-long)))
 
-  pub lags-is : (lag : Lag) → lagsJoined m P Q lag time ≡ padded 600 (lagsAfter ts ls lag w time)
+  pub lags-is : (lag : Lag) → lagsJoined m P Q lag time ≡ padded mostPeaks (lagsAfter ts ls lag w time)
   unfolding lagsAfter joinTimes joinLags
   lags-is None = refl
   lags-is (Of l) = lags-of l (isNewAt (length ts) ts time) refl
@@ -205,62 +206,62 @@ module _ (n : ℕ) (ts ls : List ℕ) (w time : ℕ) (ok : Placed n ts ls w) (k 
   pub k-in : k ≤ n
   k-in = omega (arith, old-le T w time, T-long)
 
-  spaced-in : (i : ℕ) → i + 1 < length T → getD T i 0 + 1_000_000_000 ≤ getD T (i + 1) 0
+  spaced-in : (i : ℕ) → i + 1 < length T → getD T i 0 + nanos ≤ getD T (i + 1) 0
   spaced-in i h = let g : i + 1 < n = omega (arith, T-long) in let f : i < n = omega arith in rw (getD-take n ts i 0 f, getD-take n ts (i + 1) 0 g) (ok .spaced i g)
 
   module _ (ts₁ ls₁ : List ℕ) (t-is : ts₁ ≡ shifted k ts) (l-is : ls₁ ≡ shifted k ls) where
-    t-pad : ts₁ ≡ padded 600 (drop (oldCount T w time) T)
-    t-pad = t-is ∙ ap (λ (j : ℕ). shifted j ts) k-is ∙ ap (shifted (oldCount T w time)) (ok .times-padded) ∙ shifted-padded 600 (oldCount T w time) T (old-le T w time) (omega (arith, T-long, ok .count))
+    t-pad : ts₁ ≡ padded mostPeaks (drop (oldCount T w time) T)
+    t-pad = t-is ∙ ap (λ (j : ℕ). shifted j ts) k-is ∙ ap (shifted (oldCount T w time)) (ok .times-padded) ∙ shifted-padded mostPeaks (oldCount T w time) T (old-le T w time) (omega (arith, T-long, ok .count))
 
-    l-pad : ls₁ ≡ padded 600 (drop (oldCount T w time) L)
-    l-pad = l-is ∙ ap (λ (j : ℕ). shifted j ls) k-is ∙ ap (shifted (oldCount T w time)) (ok .lags-padded) ∙ shifted-padded 600 (oldCount T w time) L (omega (arith, old-le T w time, T-long, L-long)) (omega (arith, L-long, ok .count))
+    l-pad : ls₁ ≡ padded mostPeaks (drop (oldCount T w time) L)
+    l-pad = l-is ∙ ap (λ (j : ℕ). shifted j ls) k-is ∙ ap (shifted (oldCount T w time)) (ok .lags-padded) ∙ shifted-padded mostPeaks (oldCount T w time) L (omega (arith, old-le T w time, T-long, L-long)) (omega (arith, L-long, ok .count))
 
     m-is : n - k ≡ length T - oldCount T w time
     m-is = omega (arith, T-long)
 
-    long : (length ts₁ ≡ 600) × (length ls₁ ≡ 600)
+    long : (length ts₁ ≡ mostPeaks) × (length ls₁ ≡ mostPeaks)
     long = (
-      ap length t-pad ∙ length-padded 600 (drop (oldCount T w time) T) (simp length-drop (omega (arith, T-long, ok .count))),
-      ap length l-pad ∙ length-padded 600 (drop (oldCount T w time) L) (simp length-drop (omega (arith, L-long, ok .count))),
+      ap length t-pad ∙ length-padded mostPeaks (drop (oldCount T w time) T) (simp length-drop (omega (arith, T-long, ok .count))),
+      ap length l-pad ∙ length-padded mostPeaks (drop (oldCount T w time) L) (simp length-drop (omega (arith, L-long, ok .count))),
     )
 
     pub join-asks : (n - k ≤ length ts₁) × (n - k ≤ length ls₁) × (isNewAt (n - k) ts₁ time ≡ true → (n - k < length ts₁) × (n - k < length ls₁))
     join-asks = (
       omega (arith, long .0, ok .count),
       omega (arith, long .1, ok .count),
-      λ e. let r : length T - oldCount T w time < 600 = room T L w time (L-long ∙ sym T-long) (omega (arith, T-long, ok .count)) (ok .window-least) (ok .window-most) spaced-in (rw (m-is, t-pad) at e) in (omega (arith, long .0, m-is), omega (arith, long .1, m-is)),
+      λ e. let r : length T - oldCount T w time < mostPeaks = room T L w time (L-long ∙ sym T-long) (omega (arith, T-long, ok .count)) (ok .window-least) (ok .window-most) spaced-in (rw (m-is, t-pad) at e) in (omega (arith, long .0, m-is), omega (arith, long .1, m-is)),
     )
 
     module _ (lag : Lag) where
       count-ok : countJoined (n - k) ts₁ lag time ≡ length (timesAfter T lag w time)
       count-ok = rw (m-is, t-pad) (count-is T L w time (L-long ∙ sym T-long) (omega (arith, T-long, ok .count)) (ok .window-least) (ok .window-most) spaced-in lag)
 
-      times-ok : timesJoined (n - k) ts₁ lag time ≡ padded 600 (timesAfter T lag w time)
+      times-ok : timesJoined (n - k) ts₁ lag time ≡ padded mostPeaks (timesAfter T lag w time)
       times-ok = rw (m-is, t-pad) (times-is T L w time (L-long ∙ sym T-long) (omega (arith, T-long, ok .count)) (ok .window-least) (ok .window-most) spaced-in lag)
 
-      lags-ok : lagsJoined (n - k) ts₁ ls₁ lag time ≡ padded 600 (lagsAfter T L lag w time)
+      lags-ok : lagsJoined (n - k) ts₁ ls₁ lag time ≡ padded mostPeaks (lagsAfter T L lag w time)
       lags-ok = rw (m-is, t-pad, l-pad) (lags-is T L w time (L-long ∙ sym T-long) (omega (arith, T-long, ok .count)) (ok .window-least) (ok .window-most) spaced-in lag)
 
       -- all three
       pub peaks-are :
           (countJoined (n - k) ts₁ lag time ≡ length (timesAfter T lag w time))
-          × (timesJoined (n - k) ts₁ lag time ≡ padded 600 (timesAfter T lag w time))
-          × (lagsJoined (n - k) ts₁ ls₁ lag time ≡ padded 600 (lagsAfter T L lag w time))
+          × (timesJoined (n - k) ts₁ lag time ≡ padded mostPeaks (timesAfter T lag w time))
+          × (lagsJoined (n - k) ts₁ ls₁ lag time ≡ padded mostPeaks (lagsAfter T L lag w time))
       peaks-are = (count-ok, times-ok, lags-ok)
 
 -- ---- and what the caller of `peaks_next` wants of the lists that it leaves
 module _ (n : ℕ) (ts ls : List ℕ) (w time : ℕ) (ok : Placed n ts ls w) (lag : Lag) where
-  pub after-in : length (timesAfter (take n ts) lag w time) ≤ 600
+  pub after-in : length (timesAfter (take n ts) lag w time) ≤ mostPeaks
   after-in =
       count-in (take n ts) (take n ls) w time (L-long n ts ls w time ok (oldCount (take n ts) w time) refl ∙ sym (T-long n ts ls w time ok (oldCount (take n ts) w time) refl))
       (omega (arith, T-long n ts ls w time ok (oldCount (take n ts) w time) refl, ok .count)) (ok .window-least) (ok .window-most) (spaced-in n ts ls w time ok (oldCount (take n ts) w time) refl) lag
 
-  pub lags-left : take (length (timesAfter (take n ts) lag w time)) (padded 600 (lagsAfter (take n ts) (take n ls) lag w time)) ≡ lagsAfter (take n ts) (take n ls) lag w time
+  pub lags-left : take (length (timesAfter (take n ts) lag w time)) (padded mostPeaks (lagsAfter (take n ts) (take n ls) lag w time)) ≡ lagsAfter (take n ts) (take n ls) lag w time
   lags-left =
-      take-padded 600 (lagsAfter (take n ts) (take n ls) lag w time) (length (timesAfter (take n ts) lag w time))
+      take-padded mostPeaks (lagsAfter (take n ts) (take n ls) lag w time) (length (timesAfter (take n ts) lag w time))
       (after-same (take n ts) (take n ls) lag w time (L-long n ts ls w time ok (oldCount (take n ts) w time) refl ∙ sym (T-long n ts ls w time ok (oldCount (take n ts) w time) refl)))
 
-  pub after-fits : (r : ℕ) (ls₁ : List ℕ) → r ≡ length (timesAfter (take n ts) lag w time) → ls₁ ≡ padded 600 (lagsAfter (take n ts) (take n ls) lag w time) → r ≤ length ls₁
+  pub after-fits : (r : ℕ) (ls₁ : List ℕ) → r ≡ length (timesAfter (take n ts) lag w time) → ls₁ ≡ padded mostPeaks (lagsAfter (take n ts) (take n ls) lag w time) → r ≤ length ls₁
   after-fits r ls₁ e f =
       let same = after-same (take n ts) (take n ls) lag w time (L-long n ts ls w time ok (oldCount (take n ts) w time) refl ∙ sym (T-long n ts ls w time ok (oldCount (take n ts) w time) refl)) in
-      omega (arith, after-in, ap length f ∙ length-padded 600 (lagsAfter (take n ts) (take n ls) lag w time) (omega (arith, after-in, same)))
+      omega (arith, after-in, ap length f ∙ length-padded mostPeaks (lagsAfter (take n ts) (take n ls) lag w time) (omega (arith, after-in, same)))

@@ -8,6 +8,7 @@ use native.Mathlib.Omega.{arith}
 use lib.Dec.{leb, ltb}
 use borrow.Author.Tests.{leb-true, ltb-true, le-leb, lt-ltb}
 use Rattle.base.proofs.Choices.{pick-rule, lt-rule}
+use Rattle.base.proofs.Tests.{not-both}
 use Rattle.policy.specs.declared.DelayPolicy.{DelayPolicy}
 use Rattle.delay_hold.specs.declared.Moment.{Moment}
 use Rattle.delay_hold.specs.declared.Moment.the-variants.{Never, At}
@@ -15,8 +16,8 @@ use Rattle.delay_hold.specs.declared.Lag.{Lag}
 use Rattle.delay_hold.specs.declared.Lag.the-variants.{None, Of}
 use Rattle.delay_hold.specs.declared.DelayHold.{DelayHold}
 use Rattle.delay_hold.specs.declared.Next.{Next}
-use Rattle.delay_hold.specs.Peaks.{largerLag}
-use Rattle.delay_hold.specs.Decide.{timerOff, timerMet, heldSince, withLower, keeps, changes, lowering, weighed, needFor, urgentAt, decideAt, decideFor, decide, missing}
+use Rattle.delay_hold.specs.Step4Peaks.{largerLag}
+use Rattle.delay_hold.specs.Steps5To8.{timerOff, timerMet, heldSince, withLower, keeps, changes, lowering, weighed, needFor, urgentAt, decideAt, decideFor, decide, missing}
 use Rattle.delay_hold.specs.Checks.{lagUpTo}
 
 abbrev pub Till : ℕ → Moment → Type 0
@@ -40,9 +41,6 @@ and-left false b e = e
 pub and-right : (a b : Bool) → (a && b) ≡ true → b ≡ true
 and-right true b e = e
 and-right false b e = let z : _≡_ {A = ℕ} 0 1 = cc in absurd (omega arith)
-
-not-both : (b : Bool) → b ≡ true → b ≡ false → ⊥
-not-both b p q = let z : _≡_ {A = ℕ} 0 1 = cc in omega arith
 
 held-of : (last : Moment) (t hold time : ℕ) → Till t last → hold ≤ time - t → heldSince last hold time ≡ true
 held-of Never t hold time l h = refl
@@ -78,7 +76,7 @@ module _ (millisecond : ℕ) (mayLower : Bool) (h : DelayHold) (need : ℕ) (urg
       pick-rule (Outcome millisecond mayLower h need urgent current hold time) (mayLower && leb hold (time - since) && heldSince (h .«last_change») hold time) _ _
       (λ e. due e)
       (λ e. waits low calm (λ may t s l. lt-of-not-le (λ w.
-      not-both _ (and-both _ _ (and-both _ _ may (le-leb hold (time - since) (omega arith))) (held-of (h .«last_change») t hold time l (omega arith))) e)))
+      not-both (and-both _ _ (and-both _ _ may (le-leb hold (time - since) (omega arith))) (held-of (h .«last_change») t hold time l (omega arith))) e)))
     where
       due :
           (mayLower && leb hold (time - timerMet (h .lower) need time .since) && heldSince (h .«last_change») hold time) ≡ true →
@@ -95,7 +93,7 @@ module _ (millisecond : ℕ) (mayLower : Bool) (h : DelayHold) (need : ℕ) (urg
       (λ e. lt-rule current (need + millisecond) _ _ (Outcome millisecond mayLower h need urgent current hold time) (λ l. quits l (calm e)) (λ l. lowering-outcome l (calm e)))
     where
       calm : (ltb current need && urgent) ≡ false → urgent ≡ true → need ≤ current
-      calm e u = let k : current < suc current = omega arith in below (lt-of-not-le (λ w. not-both _ (and-both _ _ (lt-ltb current need w) u) e))
+      calm e u = let k : current < suc current = omega arith in below (lt-of-not-le (λ w. not-both (and-both _ _ (lt-ltb current need w) u) e))
         where
           below : need < suc current → need ≤ current
           below l = omega arith
@@ -158,5 +156,5 @@ module _ (millisecond : ℕ) (mayLower : Bool) (policy : DelayPolicy) (h : Delay
   late-rule None v e f = pick-rule Q (not late) (keeps h) _ (λ n. absurd (no-late n)) (λ n. decided-at v (f v (omega arith)))
     where
       no-late : not late ≡ true → ⊥
-      no-late n = not-both _ n (ap not e)
+      no-late n = not-both n (ap not e)
   late-rule (Of p) v e f = high-rule (Of p) v refl f

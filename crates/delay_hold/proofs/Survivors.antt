@@ -10,10 +10,11 @@ use native.Mathlib.Omega.{arith}
 use borrow.Author.Tests.{leb-true, leb-false}
 use lib.ListN.{length, drop, getD, set, length-append, length-drop, List·getD-append}
 use lib.Seq.{getD-append-add, getD-drop, getD-set-same, getD-set-other}
+use Rattle.base.specs.Limits.{nanos}
 use Rattle.base.proofs.Choices.{by-bool, yes-pick, no-pick}
 use Rattle.delay_hold.specs.declared.Lag.{Lag}
 use Rattle.delay_hold.specs.declared.Lag.the-variants.{None, Of}
-use Rattle.delay_hold.specs.Peaks.{isNewAt, oldCount, joinTimes, joinLags, timesAfter, lagsAfter, greatest}
+use Rattle.delay_hold.specs.Step4Peaks.{isNewAt, oldCount, joinTimes, joinLags, timesAfter, lagsAfter, greatest}
 use Rattle.base.specs.Rows.{spanOf}
 use Rattle.base.proofs.Rows.{span-some}
 use Rattle.delay_hold.proofs.Loops.{new-pos}
@@ -58,7 +59,7 @@ module _ (times lags : List ℕ) (same : length lags ≡ length times) (P : ℕ 
   joined-rule :
       (lag : Lag) (time : ℕ) →
       ((v : ℕ) → lag ≡ Of v → P time v) →
-      ((v t l : ℕ) → lag ≡ Of v → time - t < 1_000_000_000 → P t l → P t (max l v)) →
+      ((v t l : ℕ) → lag ≡ Of v → time - t < nanos → P t l → P t (max l v)) →
       (i : ℕ) → i < length (joinTimes times lag time) → P (getD (joinTimes times lag time) i 0) (getD (joinLags times lags lag time) i 0)
   unfolding joinTimes joinLags
   joined-rule None time new join i l = old i l
@@ -80,7 +81,7 @@ module _ (times lags : List ℕ) (same : length lags ≡ length times) (P : ℕ 
           let p : 1 ≤ length times = new-pos (length times) times time e in
           let k : i < length times = omega (arith, ap length (join-old times v time e)) in
           let m = length lags - 1 in
-          let young : time - getD times (length times - 1) 0 < 1_000_000_000 = leb-false 1_000_000_000 (time - getD times (length times - 1) 0) (sym (new-some (length times) times time p) ∙ e) in
+          let young : time - getD times (length times - 1) 0 < nanos = leb-false nanos (time - getD times (length times - 1) 0) (sym (new-some (length times) times time p) ∙ e) in
           rw (join-old times v time e, lags-old times v time lags e)
           (⊎-elim
           (λ q.
@@ -95,7 +96,7 @@ module _ (times lags : List ℕ) (same : length lags ≡ length times) (P : ℕ 
   pub after-rule :
       (lag : Lag) (window time : ℕ) →
       ((v : ℕ) → lag ≡ Of v → P time v) →
-      ((v t l : ℕ) → lag ≡ Of v → time - t < 1_000_000_000 → P t l → P t (max l v)) →
+      ((v t l : ℕ) → lag ≡ Of v → time - t < nanos → P t l → P t (max l v)) →
       (i : ℕ) → i < length (timesAfter times lag window time) → P (getD (timesAfter times lag window time) i 0) (getD (lagsAfter times lags lag window time) i 0)
   unfolding timesAfter lagsAfter
   after-rule lag window time new join i l =
@@ -113,30 +114,30 @@ joined-first times (Of v) time h =
     (λ e. ap (λ (xs : List ℕ). getD xs 0 0) (join-old times v time e))
 
 -- ---- the times, each at least 1 s after the one before
-module _ (times : List ℕ) (spaced : (i : ℕ) → i + 1 < length times → getD times i 0 + 1_000_000_000 ≤ getD times (i + 1) 0) where
-  joined-spaced : (lag : Lag) (time i : ℕ) → i + 1 < length (joinTimes times lag time) → getD (joinTimes times lag time) i 0 + 1_000_000_000 ≤ getD (joinTimes times lag time) (i + 1) 0
+module _ (times : List ℕ) (spaced : (i : ℕ) → i + 1 < length times → getD times i 0 + nanos ≤ getD times (i + 1) 0) where
+  joined-spaced : (lag : Lag) (time i : ℕ) → i + 1 < length (joinTimes times lag time) → getD (joinTimes times lag time) i 0 + nanos ≤ getD (joinTimes times lag time) (i + 1) 0
   unfolding joinTimes
   joined-spaced None time i l = spaced i l
   joined-spaced (Of v) time i l = by-bool (isNewAt (length times) times time) is-new is-old
     where
-      is-new : isNewAt (length times) times time ≡ true → getD (joinTimes times (Of v) time) i 0 + 1_000_000_000 ≤ getD (joinTimes times (Of v) time) (i + 1) 0
+      is-new : isNewAt (length times) times time ≡ true → getD (joinTimes times (Of v) time) i 0 + nanos ≤ getD (joinTimes times (Of v) time) (i + 1) 0
       is-new e =
           let n : i + 1 < length times + 1 = omega (arith, snoc-length times time, ap length (join-new times v time e)) in
           rw (join-new times v time e, snoc-old times time i (omega arith))
           (⊎-elim
           (λ k. rw (snoc-old times time (i + 1) k) (spaced i k))
           (λ q.
-          let old : 1_000_000_000 ≤ time - getD times (length times - 1) 0 = leb-true 1_000_000_000 (time - getD times (length times - 1) 0) (sym (new-some (length times) times time (omega arith)) ∙ e) in
+          let old : nanos ≤ time - getD times (length times - 1) 0 = leb-true nanos (time - getD times (length times - 1) 0) (sym (new-some (length times) times time (omega arith)) ∙ e) in
           let w : length times - 1 ≡ i = omega arith in
-          let old-i : 1_000_000_000 ≤ time - getD times i 0 = rw w at old in
+          let old-i : nanos ≤ time - getD times i 0 = rw w at old in
           rw (snoc-new times time (i + 1) q) (omega arith))
           (below-snoc (length times) (i + 1) n))
 
-      is-old : isNewAt (length times) times time ≡ false → getD (joinTimes times (Of v) time) i 0 + 1_000_000_000 ≤ getD (joinTimes times (Of v) time) (i + 1) 0
+      is-old : isNewAt (length times) times time ≡ false → getD (joinTimes times (Of v) time) i 0 + nanos ≤ getD (joinTimes times (Of v) time) (i + 1) 0
       is-old e = rw (join-old times v time e) (spaced i (omega (arith, ap length (join-old times v time e))))
 
   module _ (lag : Lag) (window time : ℕ) where
-    pub after-spaced : (i : ℕ) → i + 1 < length (timesAfter times lag window time) → getD (timesAfter times lag window time) i 0 + 1_000_000_000 ≤ getD (timesAfter times lag window time) (i + 1) 0
+    pub after-spaced : (i : ℕ) → i + 1 < length (timesAfter times lag window time) → getD (timesAfter times lag window time) i 0 + nanos ≤ getD (timesAfter times lag window time) (i + 1) 0
     unfolding timesAfter
     after-spaced i l =
         let J = joinTimes times lag time in
@@ -191,16 +192,16 @@ module _ (times : List ℕ) (spaced : (i : ℕ) → i + 1 < length times → get
         (λ v t _ e y p. p) i l
 
 -- ---- the newest survives
-newest-young : (times : List ℕ) (v time : ℕ) → time - getD (joinTimes times (Of v) time) (length (joinTimes times (Of v) time) - 1) 0 < 1_000_000_000
+newest-young : (times : List ℕ) (v time : ℕ) → time - getD (joinTimes times (Of v) time) (length (joinTimes times (Of v) time) - 1) 0 < nanos
 newest-young times v time = by-bool (isNewAt (length times) times time) is-new is-old
   where
-    is-new : isNewAt (length times) times time ≡ true → time - getD (joinTimes times (Of v) time) (length (joinTimes times (Of v) time) - 1) 0 < 1_000_000_000
+    is-new : isNewAt (length times) times time ≡ true → time - getD (joinTimes times (Of v) time) (length (joinTimes times (Of v) time) - 1) 0 < nanos
     is-new e = rw (join-new times v time e, snoc-new times time (length (times ++ (time ∷ [])) - 1) (omega (arith, snoc-length times time))) (omega arith)
 
-    is-old : isNewAt (length times) times time ≡ false → time - getD (joinTimes times (Of v) time) (length (joinTimes times (Of v) time) - 1) 0 < 1_000_000_000
+    is-old : isNewAt (length times) times time ≡ false → time - getD (joinTimes times (Of v) time) (length (joinTimes times (Of v) time) - 1) 0 < nanos
     is-old e =
         rw (join-old times v time e)
-        (leb-false 1_000_000_000 (time - getD times (length times - 1) 0) (sym (new-some (length times) times time (new-pos (length times) times time e)) ∙ e))
+        (leb-false nanos (time - getD times (length times - 1) 0) (sym (new-some (length times) times time (new-pos (length times) times time e)) ∙ e))
 
 joined-some : (times : List ℕ) (v time : ℕ) → 1 ≤ length (joinTimes times (Of v) time)
 joined-some times v time =
@@ -208,7 +209,7 @@ joined-some times v time =
     (λ e. omega (arith, snoc-length times time, ap length (join-new times v time e)))
     (λ e. omega (arith, new-pos (length times) times time e, ap length (join-old times v time e)))
 
-newest-kept : (times : List ℕ) (v window time : ℕ) → 1_000_000_000 ≤ window → oldCount (joinTimes times (Of v) time) window time < length (joinTimes times (Of v) time)
+newest-kept : (times : List ℕ) (v window time : ℕ) → nanos ≤ window → oldCount (joinTimes times (Of v) time) window time < length (joinTimes times (Of v) time)
 newest-kept times v window time w =
     let J = joinTimes times (Of v) time in
     lt-of-not-le (λ h. let o : window ≤ time - getD J (length J - 1) 0 = old-each J window time (length J - 1) (omega (arith, joined-some times v time)) in omega (arith, newest-young times v time))
@@ -226,7 +227,7 @@ newest-high times lags v time same = by-bool (isNewAt (length times) times time)
         rw (join-old times v time e, lags-old times v time lags e, z, getD-set-same lags m (max (getD lags m 0) v) 0 (omega (arith, new-pos (length times) times time e))) (omega arith)
 
 -- the lag that joined is at most the greatest peak that is left
-pub newest-survives : (times lags : List ℕ) (v window time : ℕ) → length lags ≡ length times → 1_000_000_000 ≤ window → v ≤ greatest (lagsAfter times lags (Of v) window time)
+pub newest-survives : (times lags : List ℕ) (v window time : ℕ) → length lags ≡ length times → nanos ≤ window → v ≤ greatest (lagsAfter times lags (Of v) window time)
 unfolding lagsAfter
 newest-survives times lags v window time same w =
     let J = joinTimes times (Of v) time in
@@ -236,7 +237,7 @@ newest-survives times lags v window time same w =
     let g : getD (drop k K) (length J - 1 - k) 0 ≡ getD K (length J - 1) 0 = getD-drop k K (length J - 1 - k) 0 ∙ ap (λ (j : ℕ). getD K j 0) q in
     omega (arith, getD-greatest (drop k K) (length J - 1 - k), newest-high times lags v time same)
 
-pub newest-some : (times lags : List ℕ) (v window time : ℕ) → length lags ≡ length times → 1_000_000_000 ≤ window → 1 ≤ length (lagsAfter times lags (Of v) window time)
+pub newest-some : (times lags : List ℕ) (v window time : ℕ) → length lags ≡ length times → nanos ≤ window → 1 ≤ length (lagsAfter times lags (Of v) window time)
 unfolding lagsAfter
 newest-some times lags v window time same w =
     let k = oldCount (joinTimes times (Of v) time) window time in

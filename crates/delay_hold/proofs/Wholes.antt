@@ -7,6 +7,7 @@ use native.Mathlib.Omega.{arith}
 use borrow.Author.Tests.{leb-true, ltb-true, le-leb, lt-ltb}
 use lib.ListN.{length, getD, take}
 use lib.Seq.{getD-take, length-take-le}
+use Rattle.base.specs.Limits.{nanos, spanLimit, timeLimit}
 use Rattle.base.specs.Lists.{blankFrom}
 use Rattle.base.proofs.All.{both-yes}
 use Rattle.base.proofs.Points.{both-true}
@@ -14,30 +15,30 @@ use Rattle.policy.specs.declared.DelayPolicy.{DelayPolicy}
 use Rattle.delay_hold.specs.declared.Seed.{Seed}
 use Rattle.delay_hold.specs.declared.Seed.the-variants.{Nothing, From}
 use Rattle.delay_hold.specs.declared.DelayHold.{DelayHold}
-use Rattle.delay_hold.specs.Peaks.{greatest}
-use Rattle.delay_hold.specs.Places.{Placed}
-use Rattle.delay_hold.specs.Decide.{floorOf}
+use Rattle.delay_hold.specs.Step4Peaks.{greatest, mostPeaks}
+use Rattle.delay_hold.specs.Step4InPlace.{Placed}
+use Rattle.delay_hold.specs.Steps5To8.{floorOf}
 use Rattle.delay_hold.specs.Next.{Held, timesIn, lagsIn}
 use Rattle.base.specs.Rows.{spanOf}
-use Rattle.delay_hold.specs.Whole.{latest, peakMost, momentTimely, seedFits, seedTimely, timerFits, wholePeaks, wholeTimes, wholeHold}
+use Rattle.delay_hold.specs.Whole.{peakMost, momentTimely, seedFits, seedTimely, timerFits, wholePeaks, wholeTimes, wholeHold}
 use Rattle.base.proofs.Rows.{apart-at, apart-intro, upTo-at, upTo-intro, blank-padded}
 use Rattle.delay_hold.proofs.Bounds.{greatest-up}
 
 pub record WholePeaks (policy : DelayPolicy) (width : ℕ) (s : Held) : Type 0 where
-  pub count : s .hold .peaks ≤ 600
-  pub spaced : (i : ℕ) → i < s .hold .peaks - 1 → 1_000_000_000 ≤ getD (s .times) (i + 1) 0 - getD (s .times) i 0
+  pub count : s .hold .peaks ≤ mostPeaks
+  pub spaced : (i : ℕ) → i < s .hold .peaks - 1 → nanos ≤ getD (s .times) (i + 1) 0 - getD (s .times) i 0
   pub span : spanOf (s .hold .peaks) (s .times) < policy .window
   pub times-blank : blankFrom (s .hold .peaks) (s .times) ≡ true
   pub lags-blank : blankFrom (s .hold .peaks) (s .lags) ≡ true
   pub lags-in : (i : ℕ) → i < s .hold .peaks → getD (s .lags) i 0 ≤ peakMost policy width
-  pub times-in : (i : ℕ) → i < s .hold .peaks → getD (s .times) i 0 ≤ latest
+  pub times-in : (i : ℕ) → i < s .hold .peaks → getD (s .times) i 0 ≤ timeLimit
 
 -- and of the rest
 pub record WholeTimes (policy : DelayPolicy) (h : DelayHold) : Type 0 where
   pub seed : seedFits (h .seeded) (policy .«delay_max») ≡ true
   pub timer : timerFits (h .lower) (policy .«delay_max») ≡ true
   pub last : momentTimely (h .«last_change») ≡ true
-  pub since : h .lower .since ≤ latest
+  pub since : h .lower .since ≤ timeLimit
   pub start : momentTimely (h .started) ≡ true
   pub seed-time : seedTimely (h .seeded) ≡ true
 
@@ -104,13 +105,13 @@ pub seed-floor : (seed : Seed) (maximum : ℕ) → seedFits seed maximum ≡ tru
 seed-floor Nothing maximum h = omega arith
 seed-floor (From t d) maximum h = leb-true d maximum h
 
-module _ {policy : DelayPolicy} {width : ℕ} {s : Held} (w : WholePeaks policy width s) (times-long : length (s .times) ≡ 600) (lags-long : length (s .lags) ≡ 600) where
-  pub placed-of : (window : ℕ) → 1_000_000_000 ≤ window → window ≤ 600_000_000_000 → Placed (s .hold .peaks) (s .times) (s .lags) window
+module _ {policy : DelayPolicy} {width : ℕ} {s : Held} (w : WholePeaks policy width s) (times-long : length (s .times) ≡ mostPeaks) (lags-long : length (s .lags) ≡ mostPeaks) where
+  pub placed-of : (window : ℕ) → nanos ≤ window → window ≤ spanLimit → Placed (s .hold .peaks) (s .times) (s .lags) window
   placed-of window l m =
       record {
         count = w .count;
-        times-padded = blank-padded 600 (s .hold .peaks) (s .times) times-long (w .count) (w .times-blank);
-        lags-padded = blank-padded 600 (s .hold .peaks) (s .lags) lags-long (w .count) (w .lags-blank);
+        times-padded = blank-padded mostPeaks (s .hold .peaks) (s .times) times-long (w .count) (w .times-blank);
+        lags-padded = blank-padded mostPeaks (s .hold .peaks) (s .lags) lags-long (w .count) (w .lags-blank);
         times-long = times-long;
         lags-long = lags-long;
         spaced = λ i h. omega (arith, w .spaced i (omega arith));
@@ -130,7 +131,7 @@ module _ {policy : DelayPolicy} {width : ℕ} {s : Held} (w : WholePeaks policy 
     length-take-le (s .hold .peaks) (s .lags) (omega (arith, w .count)),
   )
 
-  pub spaced-in-use : (i : ℕ) → i + 1 < length (timesIn s) → getD (timesIn s) i 0 + 1_000_000_000 ≤ getD (timesIn s) (i + 1) 0
+  pub spaced-in-use : (i : ℕ) → i + 1 < length (timesIn s) → getD (timesIn s) i 0 + nanos ≤ getD (timesIn s) (i + 1) 0
   spaced-in-use i h =
       let a : i + 1 < s .hold .peaks = omega (arith, in-use .0) in
       let b : i < s .hold .peaks = omega arith in

@@ -6,7 +6,7 @@ use mathlib.Core.List.{List}
 use lib.Dec.{leb, eqb}
 use lib.ListN.{length}
 use Rattle.base.specs.Choice.{ask, both, accepted}
-use Rattle.base.specs.Limits.{nanos, spanLimit}
+use Rattle.base.specs.Limits.{nanos, spanLimit, timely, widthLimit}
 use Rattle.policy.specs.declared.DelayPolicy.{DelayPolicy}
 use Rattle.policy.specs.Settings.{reachesAllowed, timesAllowed, marginsAllowed, Sound}
 use Rattle.delay_hold.specs.declared.Lag.{Lag}
@@ -17,13 +17,14 @@ use Rattle.delay_hold.specs.declared.Answer.{Answer}
 use Rattle.delay_hold.specs.declared.Answer.the-variants.{Kept, Changed, Refused}
 use Rattle.delay_hold.specs.declared.DelayHold.{DelayHold}
 use Rattle.delay_hold.specs.declared.NewHold.{NewHold}
+use Rattle.delay_hold.specs.Step4Peaks.{mostPeaks}
 use Rattle.delay_hold.specs.Next.{Held, held, Decided, nextOf, freshHold, clearedHold, oneMillisecond, alwaysLower}
-use Rattle.delay_hold.specs.Whole.{latest, peakMost, wholeHold}
+use Rattle.delay_hold.specs.Whole.{peakMost, wholeHold}
 
 -- ---- making a hold
 -- 5: both lists have 600 places
 unfoldable pub listsFit : Held → Bool
-listsFit s = both (eqb (length (s .times)) 600) (eqb (length (s .lags)) 600)
+listsFit s = both (eqb (length (s .times)) mostPeaks) (eqb (length (s .lags)) mostPeaks)
 
 unfoldable pub newNumber : Held → ℕ
 newNumber s = ask 5 (listsFit s) 0
@@ -52,23 +53,23 @@ unfoldable pub settingsNumber : (policy : DelayPolicy) (width : ℕ) → ℕ
 settingsNumber policy width =
     ask 2 (reachesAllowed policy)
     (ask 2 (leb 1 width)
-    (ask 2 (leb width 4800)
+    (ask 2 (leb width widthLimit)
     (ask 3 (timesAllowed policy)
     (ask 4 (marginsAllowed policy) 0))))
 
 -- 5. 6. 8. 15: "current at most maximum, p999 at most offset + maximum + W"
-unfoldable pub stateNumber : (policy : DelayPolicy) (width : ℕ) (s : Held) (p999 : Lag) (current time : ℕ) → ℕ
-stateNumber policy width s p999 current time =
+unfoldable pub heldNumber : (policy : DelayPolicy) (width : ℕ) (s : Held) (p999 : Lag) (current time : ℕ) → ℕ
+heldNumber policy width s p999 current time =
     ask 5 (listsFit s)
     (ask 6 (wholeHold policy width s)
-    (ask 8 (leb time latest)
+    (ask 8 (timely time)
     (ask 15 (leb current (policy .«delay_max»))
     (ask 15 (lagUpTo p999 (peakMost policy width)) 0))))
 
 -- the first check of `next` that says no, or 0
 unfoldable pub nextNumber : (policy : DelayPolicy) (width : ℕ) (s : Held) (p999 : Lag) (current time : ℕ) → ℕ
 nextNumber policy width s p999 current time =
-    accepted (settingsNumber policy width) (settingsNumber policy width) (stateNumber policy width s p999 current time)
+    accepted (settingsNumber policy width) (settingsNumber policy width) (heldNumber policy width s p999 current time)
 
 -- the answer for a number and a change
 abbrev pub nextAnswer : ℕ → (change : Change) → Answer
@@ -92,8 +93,8 @@ pub record Reply : Type 0 where
   pub answer : Answer
   pub held : Held
 
-abbrev pub left : (r : Answer) (h : DelayHold) (times lags : List ℕ) → Reply
-left r h times lags = record { answer = r; held = held h times lags }
+abbrev pub leftHold : (r : Answer) (h : DelayHold) (times lags : List ℕ) → Reply
+leftHold r h times lags = record { answer = r; held = held h times lags }
 
 -- the reply for a number and what was decided
 abbrev pub replyOf : (number : ℕ) (s : Held) (d : Decided) → Reply
@@ -108,9 +109,9 @@ pub record AskedFor (width : ℕ) (policy : DelayPolicy) (s : Held) (p999 : Lag)
   pub sound : Sound policy
   pub window-least : nanos ≤ policy .window
   pub window-most : policy .window ≤ spanLimit
-  pub width-most : width ≤ 4800
-  pub times-long : length (s .times) ≡ 600
-  pub lags-long : length (s .lags) ≡ 600
+  pub width-most : width ≤ widthLimit
+  pub times-long : length (s .times) ≡ mostPeaks
+  pub lags-long : length (s .lags) ≡ mostPeaks
   pub whole : wholeHold policy width s ≡ true
   pub current-in : current ≤ policy .«delay_max»
   pub p999-in : lagUpTo p999 (peakMost policy width) ≡ true

@@ -1,4 +1,5 @@
 -- Document 01, "DelayHold": steps 1 to 8 in their order, on a hold with its two lent lists of 600; and what is left of it. Assumes nothing.
+-- What each step does stands in Steps1To3, Step4Peaks and Steps5To8.
 use Prim.Native.Nat.{ℕ}
 use mathlib.Core.Bool.{Bool, true, false}
 use mathlib.Core.List.{List}
@@ -12,9 +13,9 @@ use Rattle.delay_hold.specs.declared.Change.{Change}
 use Rattle.delay_hold.specs.declared.Change.the-variants.{Keep, To}
 use Rattle.delay_hold.specs.declared.DelayHold.{DelayHold}
 use Rattle.delay_hold.specs.declared.Next.{Next}
-use Rattle.delay_hold.specs.Steps.{inStartup, capped, lagOf, lateOf, noted}
-use Rattle.delay_hold.specs.Peaks.{largerLag, timesAfter, lagsAfter, worstOf}
-use Rattle.delay_hold.specs.Decide.{decide, timerOff}
+use Rattle.delay_hold.specs.Steps1To3.{inStartup, capped, lagOf, lateOf, noted}
+use Rattle.delay_hold.specs.Step4Peaks.{mostPeaks, largerLag, timesAfter, lagsAfter, worstOf}
+use Rattle.delay_hold.specs.Steps5To8.{decide, timerOff}
 
 -- document 01's 48: one millisecond of samples
 abbrev pub oneMillisecond : ℕ
@@ -96,8 +97,8 @@ decision millisecond mayLower policy s p999 largest current time =
 unfoldable pub nextOf : (millisecond : ℕ) (mayLower : Bool) (policy : DelayPolicy) (s : Held) (p999 largest : Lag) (current time : ℕ) → Decided
 nextOf millisecond mayLower policy s p999 largest current time =
     decided (decision millisecond mayLower policy s p999 largest current time)
-    (padded 600 (timesNow policy s p999 largest time))
-    (padded 600 (lagsNow policy s p999 largest time))
+    (padded mostPeaks (timesNow policy s p999 largest time))
+    (padded mostPeaks (lagsNow policy s p999 largest time))
 
 -- the delay after a change
 abbrev pub delayAfter : (current : ℕ) → Change → ℕ

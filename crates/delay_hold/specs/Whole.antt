@@ -3,7 +3,7 @@ use Prim.Native.Nat.{ℕ, _+_, _-_}
 use mathlib.Core.Bool.{Bool, true}
 use lib.Dec.{leb, ltb, eqb}
 use Rattle.base.specs.Choice.{pick, both}
-use Rattle.base.specs.Limits.{nanos, timeLimit}
+use Rattle.base.specs.Limits.{nanos, timeLimit, timely, samplesLimit, widthLimit}
 use Rattle.base.specs.Lists.{blankFrom}
 use Rattle.policy.specs.declared.DelayPolicy.{DelayPolicy}
 use Rattle.delay_hold.specs.declared.Moment.{Moment}
@@ -13,15 +13,13 @@ use Rattle.delay_hold.specs.declared.Seed.the-variants.{Nothing, From}
 use Rattle.delay_hold.specs.declared.LowerTimer.{LowerTimer}
 use Rattle.delay_hold.specs.declared.DelayHold.{DelayHold}
 use Rattle.base.specs.Rows.{apart, upTo, spanOf}
+use Rattle.delay_hold.specs.Step4Peaks.{mostPeaks}
 use Rattle.delay_hold.specs.Next.{Held}
 
--- "times within 8": at most 4 times 10^18
-abbrev pub latest : ℕ
-latest = timeLimit
-
+-- "times within 8"
 abbrev pub momentTimely : Moment → Bool
 momentTimely Never = true
-momentTimely (At t) = leb t latest
+momentTimely (At t) = timely t
 
 -- "seeds .. at most maximum", and its time
 abbrev pub seedFits : Seed → (maximum : ℕ) → Bool
@@ -30,7 +28,7 @@ seedFits (From t delay) maximum = leb delay maximum
 
 abbrev pub seedTimely : Seed → Bool
 seedTimely Nothing = true
-seedTimely (From t delay) = leb t latest
+seedTimely (From t delay) = timely t
 
 -- "timer needs at most maximum"; a timer that is off is an unused place
 unfoldable pub timerFits : (timer : LowerTimer) (maximum : ℕ) → Bool
@@ -43,16 +41,20 @@ timerFits timer maximum =
 abbrev pub peakMost : (policy : DelayPolicy) (width : ℕ) → ℕ
 peakMost policy width = policy .«read_offset» + policy .«delay_max» + width
 
+-- and the most that this is, whatever the settings
+abbrev pub peakLimit : ℕ
+peakLimit = samplesLimit + samplesLimit + widthLimit
+
 -- "peaks within number, each at least 1 s after the one before, .. less than window; .. unused places zero; peaks at most offset + maximum + W"
 unfoldable pub wholePeaks : (policy : DelayPolicy) (width : ℕ) (s : Held) → Bool
 wholePeaks policy width s =
-    both (leb (s .hold .peaks) 600)
+    both (leb (s .hold .peaks) mostPeaks)
     (both (apart nanos (s .hold .peaks - 1) (s .times))
     (both (ltb (spanOf (s .hold .peaks) (s .times)) (policy .window))
     (both (blankFrom (s .hold .peaks) (s .times))
     (both (blankFrom (s .hold .peaks) (s .lags))
     (both (upTo (peakMost policy width) (s .hold .peaks) (s .lags))
-    (upTo latest (s .hold .peaks) (s .times)))))))
+    (upTo timeLimit (s .hold .peaks) (s .times)))))))
 
 -- "seeds, timer needs at most maximum; .. times within 8"
 unfoldable pub wholeTimes : (policy : DelayPolicy) (h : DelayHold) → Bool
@@ -60,7 +62,7 @@ wholeTimes policy h =
     both (seedFits (h .seeded) (policy .«delay_max»))
     (both (timerFits (h .lower) (policy .«delay_max»))
     (both (momentTimely (h .«last_change»))
-    (both (leb (h .lower .since) latest)
+    (both (timely (h .lower .since))
     (both (momentTimely (h .started))
     (seedTimely (h .seeded))))))
 

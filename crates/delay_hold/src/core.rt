@@ -2,9 +2,10 @@
 ghost use mathlib.Core.Path.{_≡_};
 ghost use Prim.Native.Nat.{_≤_, _<_, _^_};
 ghost use lib.ListN.{length, take};
-ghost use Rattle.delay_hold.specs.Peaks.{worstOf};
-ghost use Rattle.delay_hold.specs.Decide.{timerOff, withLower};
-ghost use Rattle.delay_hold.specs.Next.{held, decided, nextOf, oneMillisecond, alwaysLower, freshHold, clearedHold, seededHold, withPeaks};
+ghost use Rattle.base.specs.Limits.{samplesLimit};
+ghost use Rattle.delay_hold.specs.Step4Peaks.{worstOf, mostPeaks};
+ghost use Rattle.delay_hold.specs.Steps5To8.{timerOff, withLower};
+ghost use Rattle.delay_hold.specs.Next.{held, decided, nextOf, freshHold, clearedHold, seededHold, withPeaks};
 ghost use Rattle.delay_hold.specs.Whole.{peakMost, wholeHold};
 ghost use Rattle.delay_hold.specs.Checks.{Asked};
 use super::DelayHold;
@@ -13,11 +14,17 @@ use super::LowerTimer;
 use super::Moment;
 use super::Next;
 use super::Seed;
-use super::peaks::peaks_next;
-use super::steps::cap;
-use super::steps::in_startup;
+use super::step_4::peaks_next;
+use super::steps_1_to_3::cap;
+use super::steps_1_to_3::in_startup;
 use base::most;
 use policy::DelayPolicy;
+
+// One millisecond of samples: the delay goes down only where the need is at least so much lower.
+pub const DELAY_LOWER_SAMPLES: u32 = 48;
+
+// A lowering that is due happens at once.
+pub const ALWAYS_LOWER: bool = true;
 
 // A fresh hold.
 pub fn fresh() -> DelayHold
@@ -83,7 +90,7 @@ pub fn worst(lags: &[u32], n: usize) -> Lag
 
 // Check 6 of one hold, in lists of 600.
 pub fn whole(hold: DelayHold, policy: DelayPolicy, width: u32, times: &[u64], lags: &[u32]) -> bool
-    requires { ⌜ (peakMost policy width < 2 ^ 32) × (length (now times) ≡ 600) × (length (now lags) ≡ 600) ⌝ }
+    requires { ⌜ (peakMost policy width < 2 ^ 32) × (length (now times) ≡ mostPeaks) × (length (now lags) ≡ mostPeaks) ⌝ }
     ensures { λ r. ⌜ r ≡ wholeHold policy width (held hold (now (times .entry)) (now (lags .entry))) ⌝ }
 {
     if !hold.whole_peaks(policy, width, times, lags) {
@@ -101,7 +108,7 @@ impl DelayHold {
     }
 }
 
-// Steps 1 to 8.
+// Steps 1 to 8, with so many samples in a millisecond; a lowering that is due waits where it may not happen now.
 pub fn next(
     hold: DelayHold,
     times: &mut [u64],
@@ -111,9 +118,12 @@ pub fn next(
     current: u32,
     policy: DelayPolicy,
     time: u64,
+    millisecond: u32,
+    may_lower: bool,
 ) -> Next
     requires { ⌜ Asked policy (held hold (now times) (now lags)) p999 current ⌝ }
-    ensures { λ r. ⌜ decided r (now (times .exit)) (now (lags .exit)) ≡ nextOf oneMillisecond alwaysLower policy (held hold (now (times .entry)) (now (lags .entry))) p999 «max_lag» current time ⌝ }
+    requires { ⌜ millisecond ≤ samplesLimit ⌝ }
+    ensures { λ r. ⌜ decided r (now (times .exit)) (now (lags .exit)) ≡ nextOf millisecond «may_lower» policy (held hold (now (times .entry)) (now (lags .entry))) p999 «max_lag» current time ⌝ }
 {
     let begun = hold.started;
     let startup = in_startup(begun.started(time), hold.startup_late, time);
@@ -123,6 +133,17 @@ pub fn next(
     let late = lag.late(policy.read_offset + current);
     let n = peaks_next(times, lags, hold.peaks, lag.larger(p999), window, time);
     let peak = worst(lags, n);
-    let before = hold.noted(policy, lag, startup, late, time).with_peaks(n);
-    before.decided(policy, late, p999, peak, current, hold_now, time)
+    let before = hold.noted(policy, lag, startup, late, time, millisecond)
+        .with_peaks(n);
+    before.decided(
+        policy,
+        late,
+        p999,
+        peak,
+        current,
+        hold_now,
+        time,
+        millisecond,
+        may_lower,
+    )
 }

@@ -5,18 +5,15 @@ ghost use Prim.Native.Nat.{_<_, _^_};
 ghost use Rattle.delay_hold.specs.declared.DelayHold.{DelayHold};
 ghost use Rattle.delay_hold.specs.Next.{held};
 ghost use Rattle.delay_hold.specs.Whole.{peakMost};
-ghost use Rattle.delay_hold.specs.Checks.{lagUpTo, listsFit, newLeft, newReply, settingsNumber, stateNumber, nextNumber, left, nextReply};
+ghost use Rattle.delay_hold.specs.Checks.{lagUpTo, listsFit, newLeft, newReply, settingsNumber, heldNumber, nextNumber, leftHold, nextReply};
 use policy::DelayPolicy;
 
 // Functions that ask something of their caller; the crates above use them after their checks.
 pub mod core;
-mod decide;
-mod peaks;
-mod steps;
+mod step_4;
+mod steps_1_to_3;
+mod steps_5_to_8;
 mod whole;
-
-// The widest bucket, in samples.
-const MOST_WIDTH: u32 = 4800;
 
 // A moment that may not have been yet.
 pub enum Moment {
@@ -121,7 +118,7 @@ fn settings_number(policy: DelayPolicy, width: u32) -> u32
     if width < 1 {
         return 2;
     }
-    if MOST_WIDTH < width {
+    if base::WIDTH_LIMIT < width {
         return 2;
     }
     if !policy.times_allowed() {
@@ -165,7 +162,7 @@ impl DelayHold {
         time: u64,
     ) -> u32
         requires { ⌜ peakMost policy width < 2 ^ 32 ⌝ }
-        ensures { λ r. ⌜ r ≡ stateNumber policy width (held self (now (times .entry)) (now (lags .entry))) p999 current time ⌝ }
+        ensures { λ r. ⌜ r ≡ heldNumber policy width (held self (now (times .entry)) (now (lags .entry))) p999 current time ⌝ }
     {
         if !lists_fit(times, lags) {
             return 5;
@@ -219,7 +216,7 @@ impl DelayHold {
         width: u32,
         time: u64,
     ) -> Answered
-        ensures { λ r. ⌜ left (r .answer) (r .hold) (now (times .exit)) (now (lags .exit)) ≡ nextReply policy width (held self (now (times .entry)) (now (lags .entry))) p999 «max_lag» current time ⌝ }
+        ensures { λ r. ⌜ leftHold (r .answer) (r .hold) (now (times .exit)) (now (lags .exit)) ≡ nextReply policy width (held self (now (times .entry)) (now (lags .entry))) p999 «max_lag» current time ⌝ }
     {
         let number = self.next_number(times, lags, p999, current, policy, width, time);
         if number != 0 {
@@ -228,7 +225,18 @@ impl DelayHold {
                 answer: Answer::Refused(number),
             };
         }
-        let next = core::next(self, times, lags, p999, max_lag, current, policy, time);
+        let next = core::next(
+            self,
+            times,
+            lags,
+            p999,
+            max_lag,
+            current,
+            policy,
+            time,
+            core::DELAY_LOWER_SAMPLES,
+            core::ALWAYS_LOWER,
+        );
         let hold = next.hold;
         let change = next.change;
         let Change::To(delay) = change else {
@@ -255,7 +263,7 @@ impl DelayHold {
         width: u32,
         time: u64,
     ) -> Answer
-        ensures { λ r. ⌜ left r (now (self .exit)) (now (times .exit)) (now (lags .exit)) ≡ nextReply policy width (held (now (self .entry)) (now (times .entry)) (now (lags .entry))) p999 «max_lag» current time ⌝ }
+        ensures { λ r. ⌜ leftHold r (now (self .exit)) (now (times .exit)) (now (lags .exit)) ≡ nextReply policy width (held (now (self .entry)) (now (times .entry)) (now (lags .entry))) p999 «max_lag» current time ⌝ }
     {
         let n = DelayHold::decide_next(
             *self,

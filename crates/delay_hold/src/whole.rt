@@ -4,6 +4,7 @@ ghost use Prim.Native.Nat.{_<_, _^_};
 ghost use lib.ListN.{length};
 ghost use Rattle.delay_hold.specs.Next.{held};
 ghost use Rattle.delay_hold.specs.Whole.{momentTimely, seedFits, seedTimely, timerFits, peakMost, wholePeaks, wholeTimes};
+ghost use Rattle.delay_hold.specs.Step4Peaks.{mostPeaks};
 use super::DelayHold;
 use super::LowerTimer;
 use super::Moment;
@@ -64,7 +65,7 @@ impl DelayHold {
         times: &[u64],
         lags: &[u32],
     ) -> bool
-        requires { ⌜ (peakMost policy width < 2 ^ 32) × (length (now times) ≡ 600) × (length (now lags) ≡ 600) ⌝ }
+        requires { ⌜ (peakMost policy width < 2 ^ 32) × (length (now times) ≡ mostPeaks) × (length (now lags) ≡ mostPeaks) ⌝ }
         ensures { λ r. ⌜ r ≡ wholePeaks policy width (held self (now (times .entry)) (now (lags .entry))) ⌝ }
     {
         let n = self.peaks;

@@ -1,6 +1,6 @@
 -- A double that is not negative and at most p / r, and how such a bound goes through a product or a quotient by a literal, each rounded once:
 -- a bound that is itself a double is kept by rounding. Assumes nothing.
-use mathlib.Core.Path.{_≡_, refl, sym, ap, _∙_, subst}
+use mathlib.Core.Path.{_≡_, sym, ap, _∙_, subst}
 use mathlib.Core.Logic.{inl, inr}
 use mathlib.Core.Bool.{Bool, true, false, cond, _&&_, _||_, true≢false}
 use Prim.Native.Nat.{ℕ, suc, _+_, _-_, _*_, _/_, _^_, _≤_, _<_, zero-le, min}
@@ -17,6 +17,7 @@ use lib.Ieee.Order.{round-mono}
 use Rattle.doubles.specs.Doubles.{halfAway, toU32}
 use Rattle.doubles.proofs.Halves.{twice-pos}
 use Rattle.doubles.proofs.Products.{le-says, le-negative, minus-zero, no-factor, round-zero, halves-cross}
+use Rattle.doubles.proofs.Values.{zero-is, or-l}
 
 abbrev pub Upto : Float → ℕ → ℕ → Type 0
 Upto nan p r = ⊥
@@ -59,9 +60,6 @@ upto-trans (fin false m e) (fin false n d) p r z h u =
     (down-pos d)
 
 -- ---- q / 2 ^ j is a double, so rounding keeps it as a bound
-zero-is : round binary64 false 0 1 ≡ fin false 0 (pos 0)
-unfolding round
-zero-is = refl
 
 exact : (q j : ℕ) → q < 2 ^ 53 → j ≤ 1074 → HasValue (round binary64 false q (2 ^ j)) false q (2 ^ j)
 exact q j h l =
@@ -161,9 +159,6 @@ toU32-upto (fin s m e) p r R u = le-trans (least (halfAway (fin s m e))) (halfAw
     least a = omega arith
 
 -- ---- back to the comparisons, at a bound that is a literal p * 2 ^ k
-or-l : (a b : Bool) → T a → T (a || b)
-or-l true b t = tt
-or-l false b t = absurd t
 
 or-r : (a b : Bool) → T b → T (a || b)
 or-r true b t = tt

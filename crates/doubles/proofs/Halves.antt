@@ -62,8 +62,8 @@ halves (fin true m e) p q = absurd (unfold lt in p)
 halves (fin false m e) p q = unfold halfAway in half-up (m * up e) (down e) (down-pos e)
 
 -- ---- not above zero
-none : (n d : ℕ) → n ≡ 0 → 0 < d → (2 * n + d) / (2 * d) ≡ 0
-none n d e D = div-eq-of-lt (small n d e D)
+pub no-halves : (n d : ℕ) → n ≡ 0 → 0 < d → (2 * n + d) / (2 * d) ≡ 0
+no-halves n d e D = div-eq-of-lt (small n d e D)
   where
     small : (n d : ℕ) → n ≡ 0 → 0 < d → 2 * n + d < 2 * d
     small n d e D = omega arith
@@ -80,7 +80,7 @@ unfolding halfAway
 halves-none nan p = refl
 halves-none (inf s) p = refl
 halves-none (fin true m e) p = refl
-halves-none (fin false m e) p = none (m * up e) (down e) (at-zero m e p) (down-pos e)
+halves-none (fin false m e) p = no-halves (m * up e) (down e) (at-zero m e p) (down-pos e)
 
 pub twice-pos : (d : ℕ) → 0 < d → 0 < 2 * d
 twice-pos d h = omega arith

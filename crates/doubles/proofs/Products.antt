@@ -3,7 +3,7 @@ use mathlib.Core.Path.{_≡_, refl, sym, ap, _∙_, subst}
 use mathlib.Core.Logic.{_⊎_, inl, inr}
 use mathlib.Core.Bool.{Bool, true, false, _&&_, _||_, true≢false}
 use Prim.Native.Nat.{ℕ, _+_, _-_, _*_, _/_, _^_, _≤_, _<_, zero-le}
-use native.Mathlib.Nat.{le-trans, le-of-eq, le-of-lt, lt-irrefl, eq-zero-or-pos, mul-one, zero-mul, mul-comm, mul-assoc, mul-left-comm, mul-pos, mul-le-mul-right, mul-le-mul, add-mul, div-eq-of-lt}
+use native.Mathlib.Nat.{le-trans, le-of-eq, le-of-lt, lt-irrefl, eq-zero-or-pos, mul-one, zero-mul, mul-comm, mul-assoc, mul-left-comm, mul-pos, mul-le-mul-right, mul-le-mul, add-mul}
 use native.Mathlib.Omega.{arith}
 use lib.Dec.{T, ltb, leb, eqb, ltb→lt, lt→ltb, leb→le, eqb→eq}
 use lib.IntN.{ℤ, pos}
@@ -15,7 +15,8 @@ use lib.Ieee.Nearest.{div-mono}
 use lib.Ieee.Order.{round-mono}
 use lib.Ieee.Scale.{round-same}
 use Rattle.doubles.specs.Doubles.{double, halfAway}
-use Rattle.doubles.proofs.Halves.{twice-pos}
+use Rattle.doubles.proofs.Halves.{twice-pos, no-halves}
+use Rattle.doubles.proofs.Values.{or-l}
 
 -- ---- what `<=` says
 or-split : (a b : Bool) → T (a || b) → T a ⊎ T b
@@ -91,13 +92,7 @@ halves-cross A d B D h = le-trans (le-of-eq (expand A d D)) (le-trans (step (A *
     step p q r s a b = omega arith
 
 zero-halves : (n d : ℕ) → n ≡ 0 → 0 < d → (2 * n + d) / (2 * d) ≤ 0
-zero-halves n d e D = le-of-eq (native (2 * n + d) (2 * d) (small n d e D))
-  where
-    small : (n d : ℕ) → n ≡ 0 → 0 < d → 2 * n + d < 2 * d
-    small n d e D = omega arith
-
-    native : (a b : ℕ) → a < b → a / b ≡ 0
-    native a b h = div-eq-of-lt h
+zero-halves n d e D = le-of-eq (no-halves n d e D)
 
 -- 2 ^ 62 is the bound of `round_half_away`; any would do, to rule out an infinity
 pub halfAway-mono : (x y : Float) → T (le x y) → T (lt y (fin false 1 (pos 62))) → halfAway x ≤ halfAway y
@@ -114,9 +109,6 @@ halfAway-mono (fin false m e) (fin false n d) h f =
     (halves-cross (m * up e) (down e) (n * up d) (down d) (le-says m e n d h))
 
 -- ---- a whole number up to 2 ^ 32 times a share from 0 to 10
-or-l : (a b : Bool) → T a → T (a || b)
-or-l true b t = tt
-or-l false b t = absurd t
 
 negative-le : (y : Float) (a c : ℕ) → HasValue y true a c → T (le y (fin false 5 (pos 33)))
 negative-le nan a c v = absurd v

@@ -5,7 +5,7 @@ ghost use lib.Dec.{T};
 ghost use lib.IntN.{pos};
 ghost use lib.Ieee.{fin, lt};
 ghost use Rattle.doubles.specs.Doubles.{halfAway};
-ghost use Rattle.doubles.specs.Quantile.{Quantile, placeOf};
+ghost use Rattle.doubles.specs.Quantile.{TargetAsked, targetOf};
 
 // x rounded to a whole number, halves away from zero; 0 where x is not above zero. The caller owes x below 2^62.
 // The fraction of twice x is cut, which is exact, so that no half is judged after a rounding.
@@ -21,8 +21,8 @@ pub fn round_half_away(x: f64) -> u64
 
 // The place of the quantile q among `total` lags: total times q as a double, raised to the next whole number, at least 1.
 pub fn quantile_place(total: u64, q: f64) -> u64
-    requires { ⌜ Quantile total q ⌝ }
-    ensures { λ r. ⌜ r ≡ placeOf total q ⌝ }
+    requires { ⌜ TargetAsked total q ⌝ }
+    ensures { λ r. ⌜ r ≡ targetOf total q ⌝ }
 {
     let x = total as f64 * q;
     let t = std::num::truncating_f64_to_u64(x);

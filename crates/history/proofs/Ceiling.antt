@@ -12,11 +12,12 @@ use Rattle.base.proofs.Choices.{by-le}
 use Rattle.policy.specs.declared.DelayPolicy.{DelayPolicy}
 use Rattle.policy.specs.Need.{needOf}
 use Rattle.policy.proofs.Laws.{need-covers}
-use Rattle.rules_window.specs.Window.{Window, bucketsOf, bucketOf, pushedAll}
+use Rattle.rules_window.specs.Window.{Window, bucketsOf, bucketOf, pushedAll, tenth}
+use Rattle.rules_record.specs.Lent.{bucketsFor}
 use Rattle.rules_window.specs.Checks.{roomFor}
-use Rattle.history.specs.View.{Rules, InputView, Tick, tickedView}
+use Rattle.history.specs.View.{Rules, InputView, Tick, tickedView, rulesWith}
 use Rattle.history.specs.Events.{ticks, after, history, Lawful}
-use Rattle.history.specs.Stretch.{Allowed, runningTicks, NonEmpty, NoneAbove, Stretch, ending, bucketEnd}
+use Rattle.history.specs.Stretch.{Allowed, runningTicks, NonEmpty, NoneAbove, TickStretch, ending, bucketEnd}
 use Rattle.history.specs.Whole.{Kept}
 use Rattle.history.proofs.Phase.{early, phase-lower, at-last}
 use Rattle.history.proofs.Windows.{buckets-some, div-mono, Ready, Windowed, first-windowed, step-windowed}
@@ -26,10 +27,10 @@ use Rattle.history.proofs.Sanity.{Sane, sane-later}
 
 module _ (policy : DelayPolicy) (width : ℕ) (allowed : Allowed policy width) (millisecond : ℕ) where
   abbrev rules : Rules
-  rules = record { policy = policy; millisecond = millisecond }
+  rules = rulesWith policy millisecond
 
   abbrev buckets : ℕ
-  buckets = bucketsOf (policy .«read_offset») (policy .«delay_max») width
+  buckets = bucketsFor policy width
 
   used : 0 < buckets
   used = omega (arith, buckets-some policy width)
@@ -100,7 +101,7 @@ module _ (policy : DelayPolicy) (width : ℕ) (allowed : Allowed policy width) (
           (h .steady)
 
       run-within :
-          (t : ℕ) (view : InputView) (later : List Tick) → Within t view → Stretch L t later → Lawful rules t view (runningTicks later) →
+          (t : ℕ) (view : InputView) (later : List Tick) → Within t view → TickStretch L t later → Lawful rules t view (runningTicks later) →
           Within (ending t later) (history rules view (runningTicks later))
       unfolding history after
       run-within t view [] k s l = k
@@ -111,7 +112,7 @@ module _ (policy : DelayPolicy) (width : ℕ) (allowed : Allowed policy width) (
 
       ceiling-low :
           (before : ℕ) (view : InputView) (lags : List ℕ) (mayLower : Bool) (later : List Tick) → Kept policy width view → Sane began view →
-          mayLower ≡ true → NonEmpty lags → NoneAbove L lags → Stretch L began later → Lawful rules before view (runningTicks (record { time = began; lags = lags; mayLower = mayLower } ∷ later)) →
+          mayLower ≡ true → NonEmpty lags → NoneAbove L lags → TickStretch L began later → Lawful rules before view (runningTicks (record { time = began; lags = lags; mayLower = mayLower } ∷ later)) →
           began + max (10 * nanos + policy .window) (policy .hold) + 2 * policy .hold + 10 * nanos ≤ ending began later →
           history rules view (runningTicks (record { time = began; lags = lags; mayLower = mayLower } ∷ later)) .delay ≤ needOf policy (bucketEnd policy width L) + (millisecond - 1)
       unfolding history after
@@ -135,15 +136,15 @@ module _ (policy : DelayPolicy) (width : ℕ) (allowed : Allowed policy width) (
       let limit : ℕ = policy .«read_offset» + policy .«delay_max» in
       let b : ℕ = limit / width in
       let m : b ≤ L / width = div-mono width limit L (allowed .width-least) (omega arith) in
-      let n : b ≤ (limit + 4800) / width = div-mono width limit (limit + 4800) (allowed .width-least) (omega arith) in
-      let q : b + 1 ≤ bucketOf L width ((limit + 4800) / width + 2) + 1 = omega arith in
+      let n : b ≤ (limit + tenth) / width = div-mono width limit (limit + tenth) (allowed .width-least) (omega arith) in
+      let q : b + 1 ≤ bucketOf L width ((limit + tenth) / width + 2) + 1 = omega arith in
       omega (arith, mul-le-mul-right width q, lt-div-mul-add {a = limit} {b = width} (allowed .width-least), add-mul b 1 width)
 
   -- ---- the theorem, for a tick and the ticks after it
   pub ceiling :
       1 ≤ millisecond →
       (before L : ℕ) (view : InputView) (first : Tick) (later : List Tick) → Kept policy width view → Sane before view →
-      Lawful rules before view (runningTicks (first ∷ later)) → first .mayLower ≡ true → NonEmpty (first .lags) → NoneAbove L (first .lags) → Stretch L (first .time) later →
+      Lawful rules before view (runningTicks (first ∷ later)) → first .mayLower ≡ true → NonEmpty (first .lags) → NoneAbove L (first .lags) → TickStretch L (first .time) later →
       first .time + (30 * nanos + policy .window + 3 * policy .hold) ≤ ending (first .time) later →
       history rules view (runningTicks (first ∷ later)) .delay ≤ needOf policy (bucketEnd policy width L) + (millisecond - 1)
   ceiling one before L view first later k s l may e few r long =

@@ -1,26 +1,24 @@
 -- The third demand of one input, from a fresh input on: floor and ceiling after every list of events whose clock does not go back.
 -- Assumes nothing.
-use Prim.Native.Nat.{ℕ, _+_, _-_, _*_, _≤_}
+use Prim.Native.Nat.{ℕ, _+_, _-_, _≤_}
 use mathlib.Core.Path.{_≡_, refl, sym, subst, _∙_}
-use mathlib.Core.Bool.{true}
 use mathlib.Core.List.{List, [], _∷_, _++_}
 use native.Mathlib.Omega.{arith}
-use Rattle.base.specs.Limits.{nanos}
 use Rattle.policy.specs.declared.DelayPolicy.{DelayPolicy}
 use Rattle.policy.specs.Need.{needOf}
 use Rattle.delay_hold.specs.declared.Lag.{Lag}
 use Rattle.delay_hold.specs.declared.Lag.the-variants.{Of}
-use Rattle.delay_hold.specs.Peaks.{worstOf}
+use Rattle.delay_hold.specs.Step4Peaks.{worstOf}
 use Rattle.delay_hold.specs.Next.{nextOf, delayAfter, oneMillisecond}
 use Rattle.delay_hold.proofs.Wholes.{in-use}
 use Rattle.delay_hold.proofs.Covers.{next-covers}
 use Rattle.rules_window.specs.Window.{pushedAll}
 use Rattle.rules_tick.specs.AutoDelay.{p999Of}
-use Rattle.history.specs.View.{Rules, InputView, Tick, tickedView}
+use Rattle.history.specs.View.{Rules, InputView, Tick, tickedView, rulesWith}
 use Rattle.history.specs.Events.{Event, ticks, freshView, after, history, timeOf, Lawful, clock}
-use Rattle.history.specs.Stretch.{Allowed, runningTicks, NonEmpty, NoneAbove, Stretch, ending, bucketEnd}
+use Rattle.history.specs.Stretch.{Allowed, runningTicks, bucketEnd}
 use Rattle.history.specs.Whole.{Kept}
-use Rattle.history.specs.Demand.{StaysWhole, Floor, Ceiling}
+use Rattle.history.specs.Demand.{StaysWhole, Floor, Ceiling, FloorWith, CeilingWith}
 use Rattle.history.proofs.Kept.{kept-peaks, kept-fresh, kept-after}
 use Rattle.history.proofs.Sanity.{Sane, sane-fresh, sane-after}
 use Rattle.history.proofs.Ceiling.{ceiling}
@@ -45,7 +43,7 @@ lawful-append rules before view (event ∷ events) more l =
 
 module _ (policy : DelayPolicy) (width : ℕ) (allowed : Allowed policy width) (millisecond : ℕ) where
   abbrev rules : Rules
-  rules = record { policy = policy; millisecond = millisecond }
+  rules = rulesWith policy millisecond
 
   pub kept-history : (before : ℕ) (view : InputView) (events : List Event) → Lawful rules before view events → Kept policy width view → Kept policy width (history rules view events)
   unfolding history
@@ -77,27 +75,19 @@ module _ (policy : DelayPolicy) (width : ℕ) (allowed : Allowed policy width) (
             (sym e) (next-covers policy (view .held) (u .1 ∙ sym (u .0)) (allowed .window-least) p999 l fits (tick .time) millisecond (tick .mayLower) (view .delay)),
       )
 
-  pub floor-history :
-      (events : List Event) (tick : Tick) (l : ℕ) → Lawful rules 0 (freshView policy width) (events ++ (ticks tick ∷ [])) →
-      worstOf (tick .lags) ≡ Of l → l ≤ policy .«read_offset» + policy .«delay_max» →
-      l ≤ policy .«read_offset» + history rules (freshView policy width) (events ++ (ticks tick ∷ [])) .delay
+  pub floor-history : FloorWith millisecond policy width
   unfolding history after
   floor-history events tick l law e fits =
       let a = lawful-append rules 0 (freshView policy width) events (ticks tick ∷ []) law in
-      rw (history-append rules (freshView policy width) events (ticks tick ∷ []))
+      subst (λ (x : InputView). l ≤ policy .«read_offset» + x .delay) (sym (history-append rules (freshView policy width) events (ticks tick ∷ [])))
       (floor-tick (history rules (freshView policy width) events) tick l
       (kept-history 0 (freshView policy width) events (a .0) (kept-fresh policy width allowed)) e fits)
 
-  pub ceiling-history :
-      1 ≤ millisecond →
-      (events : List Event) (first : Tick) (later : List Tick) (L : ℕ) → Lawful rules 0 (freshView policy width) (events ++ runningTicks (first ∷ later)) →
-      first .mayLower ≡ true → NonEmpty (first .lags) → NoneAbove L (first .lags) → Stretch L (first .time) later →
-      first .time + (30 * nanos + policy .window + 3 * policy .hold) ≤ ending (first .time) later →
-      history rules (freshView policy width) (events ++ runningTicks (first ∷ later)) .delay ≤ needOf policy (bucketEnd policy width L) + (millisecond - 1)
+  pub ceiling-history : 1 ≤ millisecond → CeilingWith millisecond (millisecond - 1) policy width
   ceiling-history one events first later L law may e few r long =
       let a = lawful-append rules 0 (freshView policy width) events (runningTicks (first ∷ later)) law in
       let k = kept-fresh policy width allowed in
-      rw (history-append rules (freshView policy width) events (runningTicks (first ∷ later)))
+      subst (λ (x : InputView). x .delay ≤ needOf policy (bucketEnd policy width L) + (millisecond - 1)) (sym (history-append rules (freshView policy width) events (runningTicks (first ∷ later))))
       (ceiling policy width allowed millisecond one (clock 0 events) L (history rules (freshView policy width) events) first later
       (kept-history 0 (freshView policy width) events (a .0) k)
       (sane-history 0 (freshView policy width) events (a .0) k (sane-fresh policy width 0))

@@ -10,17 +10,17 @@ use lib.Ieee.{fin, round, mul, ofInt, le}
 use Rattle.base.specs.Limits.{nanos}
 use Rattle.base.specs.Lists.{padded, sum}
 use Rattle.doubles.specs.Doubles.{halfAway, ceilOf}
-use Rattle.doubles.specs.Quantile.{placeOf}
+use Rattle.doubles.specs.Quantile.{targetOf}
 use Rattle.policy.specs.declared.DelayPolicy.{DelayPolicy}
 use Rattle.policy.specs.Need.{needOf, shareOf}
 use Rattle.rules_window.specs.Window.{fresh, bucketsOf, inUse, laid, opened, dropped, counted, pushed, pushedAll}
 use Rattle.rules_window.specs.Checks.{newestOf}
-use Rattle.rules_window.specs.Quantile.{column, within, running, reach, quantileIn}
-use Rattle.delay_hold.specs.Steps.{noted}
-use Rattle.delay_hold.specs.Peaks.{joinTimes, joinLags, oldCount, timesAfter, lagsAfter}
-use Rattle.delay_hold.specs.Decide.{lowering, weighed, decideAt, decide}
+use Rattle.rules_window.specs.Quantile.{column, within, running, reach, quantileIn, thousandths}
+use Rattle.delay_hold.specs.Steps1To3.{noted}
+use Rattle.delay_hold.specs.Step4Peaks.{joinTimes, joinLags, oldCount, timesAfter, lagsAfter}
+use Rattle.delay_hold.specs.Steps5To8.{lowering, weighed, decideAt, decide}
 use Rattle.delay_hold.specs.Next.{nextOf}
-use Rattle.rules_tick.specs.AutoDelay.{permille999, p999Of}
+use Rattle.rules_tick.specs.AutoDelay.{p999Of}
 use Rattle.history.specs.View.{Tick, tickOf, tickedView}
 use Rattle.history.specs.Events.{freshView, after, history}
 use Rattle.history.specs.Stretch.{Allowed, runningTicks, bucketEnd}
@@ -44,7 +44,7 @@ after-calm n = delayOf small 480 (runningTicks (late ∷ calm n (5 * nanos)))
 
 -- it covers the late lag while that counts, and falls to the need of 960, the end of the bucket of 480
 fell : after-calm 0 ∷ after-calm 2 ∷ after-calm 3 ∷ after-calm 8 ∷ needOf small (bucketEnd small 480 480) ∷ [] ≡ 4800 ∷ 4800 ∷ 816 ∷ 816 ∷ 816 ∷ []
-unfolding history after freshView tickedView p999Of permille999 bucketEnd pushedAll pushed laid counted dropped opened inUse padded fresh bucketsOf quantileIn running within column reach sum placeOf ceilOf halfAway needOf shareOf mul ofInt round nextOf noted joinTimes joinLags oldCount timesAfter lagsAfter lowering weighed decideAt decide
+unfolding history after freshView tickedView p999Of thousandths bucketEnd pushedAll pushed laid counted dropped opened inUse padded fresh bucketsOf quantileIn running within column reach sum targetOf ceilOf halfAway needOf shareOf mul ofInt round nextOf noted joinTimes joinLags oldCount timesAfter lagsAfter lowering weighed decideAt decide
 fell = refl
 
 -- ---- 15 s + window + 3 holds would be too soon: the timer lowers to an older need first, and then starts anew
@@ -58,7 +58,7 @@ tickAt second lag = tickOf (second * nanos) (lag ∷ [])
 
 -- a lag of 4,000, one of 2,000 a second later, then 480 from that time on, 20 s long: the delay is still the need of 2,000's bucket, far above that of 480's
 slow : delayOf brief 480 (runningTicks (tickAt 0 4000 ∷ tickAt 1 2000 ∷ tickAt 1 480 ∷ tickAt 6 480 ∷ tickAt 11 480 ∷ tickAt 16 480 ∷ tickAt 21 480 ∷ [])) ∷ needOf brief (bucketEnd brief 480 480) ∷ [] ≡ 2976 ∷ 816 ∷ []
-unfolding history after freshView tickedView p999Of permille999 bucketEnd pushedAll pushed laid counted dropped opened inUse padded fresh bucketsOf quantileIn running within column reach sum placeOf ceilOf halfAway needOf shareOf mul ofInt round nextOf noted joinTimes joinLags oldCount timesAfter lagsAfter lowering weighed decideAt decide
+unfolding history after freshView tickedView p999Of thousandths bucketEnd pushedAll pushed laid counted dropped opened inUse padded fresh bucketsOf quantileIn running within column reach sum targetOf ceilOf halfAway needOf shareOf mul ofInt round nextOf noted joinTimes joinLags oldCount timesAfter lagsAfter lowering weighed decideAt decide
 slow = refl
 
 -- ---- while no lowering is allowed the delay stays, and the calm ticks are no stretch
@@ -69,7 +69,7 @@ waiting (suc n) t = record { time = t; lags = 480 ∷ []; mayLower = false } ∷
 
 -- after eight of them the delay is that of the late tick; the tick after them lowers it
 waited : delayOf small 480 (runningTicks (late ∷ waiting 8 (5 * nanos))) ∷ delayOf small 480 (runningTicks (late ∷ (waiting 8 (5 * nanos) ++ calm 1 (45 * nanos)))) ∷ [] ≡ 4800 ∷ 816 ∷ []
-unfolding history after freshView tickedView p999Of permille999 bucketEnd pushedAll pushed laid counted dropped opened inUse padded fresh bucketsOf quantileIn running within column reach sum placeOf ceilOf halfAway needOf shareOf mul ofInt round nextOf noted joinTimes joinLags oldCount timesAfter lagsAfter lowering weighed decideAt decide
+unfolding history after freshView tickedView p999Of thousandths bucketEnd pushedAll pushed laid counted dropped opened inUse padded fresh bucketsOf quantileIn running within column reach sum targetOf ceilOf halfAway needOf shareOf mul ofInt round nextOf noted joinTimes joinLags oldCount timesAfter lagsAfter lowering weighed decideAt decide
 waited = refl
 
 -- ---- the theorem's hypotheses can be met: the calm ticks are a stretch, long enough, of an accepted list
@@ -91,7 +91,7 @@ abbrev first : Tick
 first = tickOf (5 * nanos) (480 ∷ [])
 
 accepted : Accepted small 480 (runningTicks (late ∷ []) ++ runningTicks (first ∷ calm 7 (10 * nanos)))
-unfolding history after freshView tickedView p999Of permille999 pushedAll pushed laid counted dropped opened inUse padded fresh bucketsOf newestOf
+unfolding history after freshView tickedView p999Of thousandths pushedAll pushed laid counted dropped opened inUse padded fresh bucketsOf newestOf
 accepted = (
   omega arith,
   omega arith,

@@ -1,70 +1,42 @@
 -- Each event keeps an input whole: check 6 never refuses what the calls themselves leave. Assumes nothing.
-use Prim.Native.Nat.{ℕ, _+_, _-_, _*_, _≤_}
+use Prim.Native.Nat.{ℕ, _+_, _-_, _≤_}
 use mathlib.Core.Path.{_≡_, refl, _∙_, subst}
 use mathlib.Core.Bool.{Bool, true, false}
 use mathlib.Core.List.{List}
 use native.Mathlib.Omega.{arith}
 use borrow.Author.Tests.{le-leb, leb-true}
 use lib.ListN.{length, length-replicate}
-use Rattle.base.specs.Limits.{nanos, timeLimit}
+use Rattle.base.specs.Limits.{timeLimit}
 use Rattle.base.specs.Choice.{pick}
-use Rattle.base.proofs.Choices.{le-rule}
-use Rattle.base.proofs.Points.{both-true, true-both, zeros-at}
+use Rattle.base.proofs.Points.{both-true, true-both}
 use Rattle.policy.specs.declared.DelayPolicy.{DelayPolicy}
 use Rattle.base.specs.Rows.{spanOf}
-use Rattle.rules_window.specs.Window.{Window, fresh, bucketsOf, pushedAll}
-use Rattle.rules_window.specs.Whole as windows
+use Rattle.rules_window.specs.Window.{Window, fresh, pushedAll, bucketsOf}
+use Rattle.rules_record.specs.Lent.{bucketsFor}
 use Rattle.rules_window.specs.Quantile.{quantileUpto}
+use Rattle.rules_window.specs.WholeWindow as windows
 use Rattle.rules_window.specs.Checks.{roomFor, newest}
-use Rattle.rules_window.proofs.WholeAt as window-facts
+use Rattle.rules_window.proofs.Laws.{fresh-sound}
 use Rattle.delay_hold.specs.Checks.{lagUpTo, AskedFor}
-use Rattle.delay_hold.specs.Peaks.{worstOf}
+use Rattle.delay_hold.specs.Step4Peaks.{worstOf}
 use Rattle.delay_hold.specs.Next.{Held, held, clearedHold}
 use Rattle.delay_hold.specs.Whole.{peakMost, wholeHold}
 use Rattle.delay_hold.proofs.Wholes as hold-facts
 use Rattle.delay_hold.proofs.Marks as marks
 use Rattle.delay_hold.proofs.Keeps.{next-keeps-whole, next-keeps-lengths, next-delay-fits}
-use Rattle.rules_tick.specs.AutoDelay.{permille999, quantileLag, p999Of}
+use Rattle.rules_tick.specs.AutoDelay.{p999Of}
+use Rattle.rules_tick.proofs.P999.{p999-most}
 use Rattle.history.specs.View.{InputView, tickedView}
 use Rattle.history.specs.Events.{Event, ticks, rests, seeds, clears, sets, freshView, interrupted, after, timeOf, Fits, Room}
 use Rattle.history.specs.Stretch.{Allowed}
 use Rattle.history.specs.Whole.{wholeView, Kept}
-use Rattle.history.proofs.Quantiles.{quantile-most}
 use Rattle.history.proofs.Windows.{Ready, ready-all, buckets-some}
-
--- ---- a window without seconds is whole
-
-fresh-whole : (buckets width : ℕ) → window-facts.Whole (fresh buckets width)
-unfolding fresh
-fresh-whole buckets width =
-    record {
-      few = omega arith;
-      ls = refl;
-      lt = refl;
-      lc = length-replicate (11 * buckets) 0;
-      gap = λ i l. absurd (omega arith);
-      span = omega arith;
-      early = λ i l. absurd (omega arith);
-      small = λ i l. absurd (omega arith);
-      sums = λ i l. absurd (omega arith);
-      blankS = λ i l. zeros-at 11 i;
-      blankT = λ i l. zeros-at 11 i;
-      blankC = λ i l. zeros-at (11 * buckets) i;
-    }
-
-fresh-sound : (buckets width : ℕ) → 1 ≤ width → width ≤ 4800 → 2 ≤ buckets → buckets ≤ 4096 → windows.Sound (fresh buckets width)
-unfolding fresh
-fresh-sound buckets width a b c d =
-    record {
-      shaped = record { width-low = a; width-high = b; buckets-low = c; buckets-high = d; starts-long = refl; totals-long = refl; counts-long = length-replicate (11 * buckets) 0 };
-      whole = window-facts.of-whole (fresh buckets width) (fresh-whole buckets width);
-    }
 
 -- ---- the parts of a kept input
 
 module _ (policy : DelayPolicy) (width : ℕ) (allowed : Allowed policy width) where
   abbrev buckets : ℕ
-  buckets = bucketsOf (policy .«read_offset») (policy .«delay_max») width
+  buckets = bucketsFor policy width
 
   module _ (view : InputView) (k : Kept policy width view) where
     parts : (windows.wholeWindow (view .window) ≡ true) × (wholeHold policy width (view .held) ≡ true) × (view .delay ≤ policy .«delay_max»)
@@ -109,11 +81,7 @@ module _ (policy : DelayPolicy) (width : ℕ) (allowed : Allowed policy width) w
   -- ---- the ticks
 
   p999-up : (w : Window) → w .width ≡ width → lagUpTo (p999Of policy w) (peakMost policy width) ≡ true
-  unfolding p999Of
-  p999-up w e =
-      let limit : ℕ = policy .«read_offset» + policy .«delay_max» in
-      le-rule nanos (spanOf (w .seconds) (w .starts)) _ _ (λ x. lagUpTo x (peakMost policy width) ≡ true)
-      (λ l. subst (λ (x : ℕ). lagUpTo (quantileLag (quantileUpto permille999 limit w)) (limit + x) ≡ true) e (quantile-most permille999 limit w)) (λ l. refl)
+  p999-up w e = subst (λ (x : ℕ). lagUpTo (p999Of policy w) (peakMost policy x) ≡ true) e (p999-most policy w)
 
   module _ (time : ℕ) (soon : time ≤ timeLimit) (lags : List ℕ) (view : InputView) (k : Kept policy width view) (room : roomFor time (length lags) (view .window) ≡ true) where
     pub kept-pushed : Ready width buckets time 0 (pushedAll time lags (view .window))

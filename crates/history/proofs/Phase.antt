@@ -15,7 +15,7 @@ use Rattle.delay_hold.specs.declared.Moment.{Moment}
 use Rattle.delay_hold.specs.declared.LowerTimer.{LowerTimer}
 use Rattle.delay_hold.specs.declared.DelayHold.{DelayHold}
 use Rattle.delay_hold.specs.declared.Next.{Next}
-use Rattle.delay_hold.specs.Decide.{timerMet}
+use Rattle.delay_hold.specs.Steps5To8.{timerMet}
 use Rattle.delay_hold.specs.Next.{delayAfter}
 use Rattle.delay_hold.proofs.Outcomes.{Till, Outcome, raises, quits, waits, lowers}
 use Rattle.delay_hold.proofs.Later.{till-later}

@@ -17,7 +17,7 @@ use Rattle.base.proofs.Toward.{shifted-length}
 use Rattle.base.proofs.Flat.{row-le, flat-in}
 use Rattle.rules_window.specs.Window.{Window, stale, opens, bucketOf, counted, pushed}
 use Rattle.rules_window.specs.InPlace.{droppedInPlace, openedInPlace, pushedInPlace}
-use Rattle.rules_window.proofs.Stales.{stale-le, stale-old, stale-next}
+use Rattle.rules_window.proofs.Stales.{stale-le, stale-old, stale-next, opens-used}
 use Rattle.rules_window.proofs.WholeAt.{Whole, later}
 use Rattle.rules_window.proofs.Keeps.{dropped-whole, opens-dropped, opens-old, near, open-fits, bucket-lt}
 use Rattle.rules_window.proofs.InUse.{in-place}
@@ -60,11 +60,7 @@ same-place r q B b c h k e = let z : r ≡ q = same-row r q B b c h k e in (z, o
 
 opens-not : (t n : ℕ) (xs : List ℕ) → opens t n xs ≡ false → (r : ℕ) → r + 1 ≡ n → t < getD xs r 0 + nanos
 opens-not t zero xs e r h = absurd (omega arith)
-opens-not t (suc n) xs e r h = let q : r ≡ n = omega arith in rw q (omega (arith, leb-false 1000000000 (t - getD xs n 0) e))
-
-opens-used : (t n : ℕ) (xs : List ℕ) → opens t n xs ≡ false → 0 < n
-opens-used t zero xs e = let z : _≡_ {A = ℕ} 0 1 = cc in omega arith
-opens-used t (suc n) xs e = omega arith
+opens-not t (suc n) xs e r h = let q : r ≡ n = omega arith in rw q (omega (arith, leb-false nanos (t - getD xs n 0) e))
 
 module _ (lag time : ℕ) (w : Window) (h : Whole w) (some : 0 < w .buckets) where
   abbrev old : ℕ

@@ -1,12 +1,8 @@
--- Where every count is in a bucket up to c, and there is one up to the limit, the quantile is at most the end of bucket c;
--- and it is never more than a bucket above the limit. Assumes nothing.
+-- Where every count is in a bucket up to c, and there is one up to the limit, the quantile is at most the end of bucket c.
+-- Assumes nothing.
 use Prim.Native.Nat.{ℕ, _+_, _*_, _≤_, _<_}
-use mathlib.Core.Path.{_≡_, refl, subst, sym}
-use mathlib.Core.Bool.{true}
-use mathlib.Core.Logic.{⊎-elim}
-use native.Mathlib.Nat.{add-mul}
+use mathlib.Core.Path.{_≡_, subst, sym}
 use native.Mathlib.Omega.{arith}
-use borrow.Author.Tests.{le-leb}
 use lib.Ieee.{Float}
 use lib.ListN.{getD}
 use Rattle.base.proofs.Choices.{by-le}
@@ -14,8 +10,7 @@ use Rattle.base.proofs.Points.{sum-zero, sum-at-le}
 use Rattle.rules_window.specs.declared.Quantile.{Quantile}
 use Rattle.rules_window.specs.Window.{Window}
 use Rattle.rules_window.specs.Quantile.{column, lagsIn, quantileUpto, Placeable}
-use Rattle.rules_window.proofs.Laws.{Holds, quantile-bucket, quantile-at-most, quantile-exists, quantile-cases}
-use Rattle.delay_hold.specs.Checks.{lagUpTo}
+use Rattle.rules_window.proofs.Laws.{Holds, quantile-at-most, quantile-exists}
 use Rattle.delay_hold.proofs.Outcomes.{AtMost}
 use Rattle.rules_tick.specs.AutoDelay.{quantileLag}
 use Rattle.history.proofs.Pushed.{countAt}
@@ -39,15 +34,6 @@ lag-more c w h k =
     record { row = k .row; bucket = k .bucket; row-in = k .row-in; bucket-in = k .bucket-in; low = k .low; reaches = omega (arith, k .reaches); counted = k .counted }
 
 module _ (q : Float) (limit : ℕ) (w : Window) where
-  pub quantile-most : lagUpTo (quantileLag (quantileUpto q limit w)) (limit + w .width) ≡ true
-  quantile-most =
-      ⊎-elim (λ e. subst (λ (x : Quantile). lagUpTo (quantileLag x) (limit + w .width) ≡ true) (sym e) refl)
-      (λ s.
-      let b = quantile-bucket q limit w (s .0) (s .1) in
-      let f : s .0 ≤ limit + w .width = omega (arith, b .1 .1, b .1 .0 .shown, add-mul (b .0) 1 (w .width)) in
-      subst (λ (x : Quantile). lagUpTo (quantileLag x) (limit + w .width) ≡ true) (sym (s .1)) (le-leb (s .0) (limit + w .width) f))
-      (quantile-cases q limit w)
-
   module _ (c : ℕ) (low : LowCounts c w) where
     -- a bucket above c holds no lag
     above-none : (b : ℕ) → c < b → b < w .buckets → lagsIn w b ≡ 0

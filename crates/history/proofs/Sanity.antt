@@ -7,13 +7,14 @@ use native.Mathlib.Omega.{arith}
 use lib.ListN.{length, replicate}
 use Rattle.base.specs.Limits.{timeLimit}
 use Rattle.policy.specs.declared.DelayPolicy.{DelayPolicy}
-use Rattle.rules_window.specs.Window.{fresh, bucketsOf, pushedAll}
+use Rattle.rules_window.specs.Window.{fresh, pushedAll}
+use Rattle.rules_record.specs.Lent.{bucketsFor}
 use Rattle.rules_window.specs.Checks.{roomFor}
-use Rattle.delay_hold.specs.Peaks.{worstOf}
+use Rattle.delay_hold.specs.Step4Peaks.{worstOf}
 use Rattle.delay_hold.proofs.Later.{HoldTill, hold-later, next-till}
 use Rattle.delay_hold.proofs.Marks.{fresh-till, seeded-till, interrupted-till}
 use Rattle.rules_tick.specs.AutoDelay.{p999Of}
-use Rattle.history.specs.View.{Rules, InputView, tickedView}
+use Rattle.history.specs.View.{Rules, InputView, tickedView, rulesWith}
 use Rattle.history.specs.Events.{Event, ticks, rests, seeds, clears, sets, freshView, after, timeOf, Room}
 use Rattle.history.specs.Stretch.{Allowed}
 use Rattle.history.specs.Whole.{Kept}
@@ -39,7 +40,7 @@ sane-fresh policy width t =
 
 module _ (policy : DelayPolicy) (width : ℕ) (allowed : Allowed policy width) (millisecond : ℕ) where
   abbrev rules : Rules
-  rules = record { policy = policy; millisecond = millisecond }
+  rules = rulesWith policy millisecond
 
   module _
       (time : ℕ) (soon : time ≤ timeLimit) (lags : List ℕ) (mayLower : Bool)
@@ -47,7 +48,7 @@ module _ (policy : DelayPolicy) (width : ℕ) (allowed : Allowed policy width) (
     where
       starts-pushed : StartsTill time (pushedAll time lags (view .window))
       starts-pushed =
-          till-all width (bucketsOf (policy .«read_offset») (policy .«delay_max») width) time (allowed .width-least) (omega (arith, buckets-some policy width)) soon
+          till-all width (bucketsFor policy width) time (allowed .width-least) (omega (arith, buckets-some policy width)) soon
           lags (view .window) (kept-ready policy width allowed view k time (length lags) room) (s .starts)
 
       sane-ticked : Sane time (tickedView rules view (record { time = time; lags = lags; mayLower = mayLower }))

@@ -12,14 +12,15 @@ use Rattle.base.proofs.Choices.{by-le, le-rule}
 use Rattle.policy.specs.declared.DelayPolicy.{DelayPolicy}
 use Rattle.policy.specs.Need.{needOf}
 use Rattle.policy.proofs.Laws.{need-grows}
-use Rattle.rules_window.specs.Window.{Window, bucketsOf, bucketOf}
-use Rattle.rules_window.specs.Whole.{Sound}
+use Rattle.rules_window.specs.Window.{Window, bucketsOf, bucketOf, tenth}
+use Rattle.rules_record.specs.Lent.{bucketsFor}
+use Rattle.rules_window.specs.WholeWindow.{Sound}
 use Rattle.delay_hold.specs.declared.Lag.{Lag}
 use Rattle.delay_hold.specs.declared.Lag.the-variants.{None, Of}
 use Rattle.delay_hold.specs.declared.DelayHold.{DelayHold}
 use Rattle.delay_hold.specs.declared.Change.{Change}
-use Rattle.delay_hold.specs.Steps.{inStartup, lagWithin, lagOf, noted}
-use Rattle.delay_hold.specs.Peaks.{largerLag, greatest, worstOf}
+use Rattle.delay_hold.specs.Steps1To3.{inStartup, lagWithin, lagOf, noted}
+use Rattle.delay_hold.specs.Step4Peaks.{largerLag, greatest, worstOf}
 use Rattle.delay_hold.specs.Next.{Held, holdNow, holdBefore, nextOf, delayAfter}
 use Rattle.delay_hold.specs.Checks.{lagUpTo}
 use Rattle.delay_hold.proofs.Bounds.{larger-up, up-more, worst-up, capped-le}
@@ -42,14 +43,14 @@ module _ (policy : DelayPolicy) (width L : ℕ) (allowed : Allowed policy width)
   unfolding bucketEnd bucketsOf
   end-above h =
       let b : ℕ = L / width in
-      let m : b ≤ (limit + 4800) / width = div-mono width L (limit + 4800) (allowed .width-least) (omega arith) in
-      let q : bucketOf L width ((limit + 4800) / width + 2) ≡ b = omega arith in
+      let m : b ≤ (limit + tenth) / width = div-mono width L (limit + tenth) (allowed .width-least) (omega arith) in
+      let q : bucketOf L width ((limit + tenth) / width + 2) ≡ b = omega arith in
       rw q (omega (arith, lt-div-mul-add {a = L} {b = width} (allowed .width-least), add-mul b 1 width))
 
   pub end-most : bucketEnd policy width L ≤ L + width
   unfolding bucketEnd
   end-most =
-      let B : ℕ = bucketsOf (policy .«read_offset») (policy .«delay_max») width in
+      let B : ℕ = bucketsFor policy width in
       omega (arith, bucket-start L width B, add-mul (bucketOf L width B) 1 width)
 
 -- ---- a tick's largest lag
@@ -76,7 +77,7 @@ module _
     edge = bucketEnd policy width L
 
     abbrev buckets : ℕ
-    buckets = bucketsOf (policy .«read_offset») (policy .«delay_max») width
+    buckets = bucketsFor policy width
 
     -- from here on the need is at most that of the bucket's end
     abbrev calm : ℕ

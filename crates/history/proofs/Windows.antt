@@ -3,12 +3,8 @@
 use Prim.Native.Nat.{ℕ, suc, _+_, _-_, _*_, _/_, _≤_, _<_}
 use mathlib.Core.Path.{_≡_, _∙_, subst}
 use mathlib.Core.List.{List, [], _∷_}
-use mathlib.Core.Bool.{false}
 use native.Mathlib.Nat.{le-div-iff-mul-le, div-mul-le-self, mul-le-mul-right, le-trans}
 use native.Mathlib.Omega.{arith}
-use lib.Dec.{T}
-use lib.Ieee.{fin, round, le}
-use lib.IntN.{pos}
 use lib.ListN.{length}
 use Rattle.base.specs.Limits.{nanos, timeLimit}
 use Rattle.base.proofs.Choices.{le-rule}
@@ -16,15 +12,17 @@ use Rattle.policy.specs.declared.DelayPolicy.{DelayPolicy}
 use Rattle.delay_hold.specs.declared.Lag.the-variants.{None}
 use Rattle.base.specs.Rows.{spanOf}
 use Rattle.rules_window.specs.Window.{Window, bucketsOf, bucketOf, pushed, pushedAll}
-use Rattle.rules_window.specs.Quantile.{quantileUpto}
+use Rattle.rules_record.specs.Lent.{bucketsFor}
+use Rattle.rules_window.specs.Quantile.{quantileUpto, thousandths}
 use Rattle.rules_window.specs.Checks.{newest}
-use Rattle.rules_window.specs.Whole.{Sound}
+use Rattle.rules_window.specs.WholeWindow.{Sound}
 use Rattle.rules_window.proofs.WholeAt.{Whole, whole-of, later, span-ends}
 use Rattle.rules_window.proofs.Ticks as ticks
 use Rattle.rules_window.proofs.Ticks.{push-keeps-sound}
-use Rattle.rules_window.proofs.Totals.{total-few}
+use Rattle.rules_window.proofs.Numbers.{sound-placeable}
+use Rattle.rules_window.proofs.Thousandths.{thousandths-in}
 use Rattle.delay_hold.proofs.Outcomes.{AtMost}
-use Rattle.rules_tick.specs.AutoDelay.{permille999, quantileLag, p999Of}
+use Rattle.rules_tick.specs.AutoDelay.{quantileLag, p999Of}
 use Rattle.history.specs.Stretch.{NonEmpty, NoneAbove}
 use Rattle.history.proofs.Pushed.{Pushed, pushed-facts}
 use Rattle.history.proofs.Quantiles.{HasLag, lag-more, quantile-low}
@@ -32,7 +30,7 @@ use Rattle.history.proofs.Seconds.{StartsTill, Clean, Young, Recent, Ne
 
 -- ---- buckets
 
-pub buckets-some : (policy : DelayPolicy) (width : ℕ) → 2 ≤ bucketsOf (policy .«read_offset») (policy .«delay_max») width
+pub buckets-some : (policy : DelayPolicy) (width : ℕ) → 2 ≤ bucketsFor policy width
 unfolding bucketsOf
 buckets-some policy width = omega arith
 
@@ -148,14 +146,6 @@ module _ (began L width buckets : ℕ) (one : 1 ≤ width) (some : 0 < buckets) 
       rw (span-ends (w .seconds) (w .starts) (omega (arith, n .last)), q)
       (omega (arith, r .apart, later w h 0 (r .before) (omega arith) (omega (arith, r .follows, n .last))))
 
-  zero-low : T (le (fin false 0 (pos 0)) permille999)
-  unfolding permille999 round le
-  zero-low = tt
-
-  low-one : T (le permille999 (fin false 1 (pos 0)))
-  unfolding permille999 round le
-  low-one = tt
-
   pub p999-windowed :
       (policy : DelayPolicy) → L ≤ policy .«read_offset» + policy .«delay_max» →
       (t : ℕ) (w : Window) → began + 10 * nanos < t → Sound w → w .width ≡ width → Windowed began L width buckets t w →
@@ -163,8 +153,8 @@ module _ (began L width buckets : ℕ) (one : 1 ≤ width) (some : 0 < buckets) 
   unfolding p999Of
   p999-windowed policy fits t w f h e k =
       let limit : ℕ = policy .«read_offset» + policy .«delay_max» in
-      le-rule _ (spanOf (w .seconds) (w .starts)) (quantileLag (quantileUpto permille999 limit w)) None (AtMost ((bucketOf L width buckets + 1) * width))
-      (λ l. subst (λ (x : ℕ). AtMost ((bucketOf L width buckets + 1) * x) (quantileLag (quantileUpto permille999 limit w))) e
-      (quantile-low permille999 limit w (bucketOf L width buckets) (young-low began (bucketOf L width buckets) t w f (k .young) (k .clean))
-      (record { few = total-few limit w h; low = zero-low; high = low-one }) (lag-more (bucketOf L width buckets) w fits (k .has-lag))))
+      le-rule _ (spanOf (w .seconds) (w .starts)) (quantileLag (quantileUpto (thousandths 999) limit w)) None (AtMost ((bucketOf L width buckets + 1) * width))
+      (λ l. subst (λ (x : ℕ). AtMost ((bucketOf L width buckets + 1) * x) (quantileLag (quantileUpto (thousandths 999) limit w))) e
+      (quantile-low (thousandths 999) limit w (bucketOf L width buckets) (young-low began (bucketOf L width buckets) t w f (k .young) (k .clean))
+      (sound-placeable (thousandths 999) limit w h (thousandths-in 999 (omega arith))) (lag-more (bucketOf L width buckets) w fits (k .has-lag))))
       (λ l. absurd (omega (arith, span-second t w f (whole-of w h) k)))

@@ -7,19 +7,27 @@ use Rattle.base.specs.Limits.{nanos}
 use Rattle.policy.specs.declared.DelayPolicy.{DelayPolicy}
 use Rattle.policy.specs.Need.{needOf}
 use Rattle.delay_hold.specs.declared.Lag.the-variants.{Of}
-use Rattle.delay_hold.specs.Peaks.{worstOf}
-use Rattle.history.specs.View.{rulesOf, Tick}
+use Rattle.delay_hold.specs.Step4Peaks.{worstOf}
+use Rattle.history.specs.View.{rulesOf, Tick, rulesWith}
+use Rattle.delay_hold.specs.Next.{oneMillisecond}
 use Rattle.history.specs.Events.{Event, ticks, freshView, history, Lawful}
 use Rattle.history.specs.Whole.{wholeView}
-use Rattle.history.specs.Stretch.{runningTicks, NonEmpty, NoneAbove, Stretch, ending, bucketEnd}
+use Rattle.history.specs.Stretch.{runningTicks, NonEmpty, NoneAbove, TickStretch, ending, bucketEnd}
 
--- the delay after events
-abbrev pub delayOf : (policy : DelayPolicy) (width : ℕ) (events : List Event) → ℕ
-delayOf policy width events = history (rulesOf policy) (freshView policy width) events .delay
+-- the delay after events, with so many samples to a millisecond
+abbrev pub delayWith : (millisecond : ℕ) (policy : DelayPolicy) (width : ℕ) (events : List Event) → ℕ
+delayWith millisecond policy width events = history (rulesWith policy millisecond) (freshView policy width) events .delay
 
 -- the events are of accepted calls, from fresh on
+abbrev pub AcceptedWith : (millisecond : ℕ) → DelayPolicy → ℕ → List Event → Type 0
+AcceptedWith millisecond policy width events = Lawful (rulesWith policy millisecond) 0 (freshView policy width) events
+
+-- with document 01's 48 samples
+abbrev pub delayOf : (policy : DelayPolicy) (width : ℕ) (events : List Event) → ℕ
+delayOf = delayWith oneMillisecond
+
 abbrev pub Accepted : DelayPolicy → ℕ → List Event → Type 0
-Accepted policy width events = Lawful (rulesOf policy) 0 (freshView policy width) events
+Accepted = AcceptedWith oneMillisecond
 
 -- what the calls leave is whole: check 6 never refuses it
 abbrev pub StaysWhole : DelayPolicy → ℕ → Type 0
@@ -28,20 +36,26 @@ StaysWhole policy width =
 
 -- "After every accepted tick that leaves it running on automatic and brings it lags, the largest at most read offset + maximum delay,
 -- its delay + read offset is at least that lag." It holds of every tick, whether or not a due lowering happens at it
-abbrev pub Floor : DelayPolicy → ℕ → Type 0
-Floor policy width =
-    (events : List Event) (tick : Tick) (lag : ℕ) → Accepted policy width (events ++ (ticks tick ∷ [])) →
+abbrev pub FloorWith : (millisecond : ℕ) → DelayPolicy → ℕ → Type 0
+FloorWith millisecond policy width =
+    (events : List Event) (tick : Tick) (lag : ℕ) → AcceptedWith millisecond policy width (events ++ (ticks tick ∷ [])) →
     worstOf (tick .lags) ≡ Of lag →
     lag ≤ policy .«read_offset» + policy .«delay_max» →
-    lag ≤ policy .«read_offset» + delayOf policy width (events ++ (ticks tick ∷ []))
+    lag ≤ policy .«read_offset» + delayWith millisecond policy width (events ++ (ticks tick ∷ []))
+
+abbrev pub Floor : DelayPolicy → ℕ → Type 0
+Floor = FloorWith oneMillisecond
 
 -- "take any stretch of successive accepted ticks, each at most 5 s after the one before, that all leave it running on automatic and bring it
 -- lags, none above L, with no accepted route or delay setting for it between them. After each of them that comes 30 s + window + 3 holds or
--- more after the first, its delay is at most the need at the end of L's bucket .., plus 47": it is the last of `first` and `later`.
+-- more after the first, its delay is at most the need at the end of L's bucket .., plus 47" (`more`): it is the last of `first` and `later`.
 -- At each of them a due lowering happens
-abbrev pub Ceiling : DelayPolicy → ℕ → Type 0
-Ceiling policy width =
-    (events : List Event) (first : Tick) (later : List Tick) (L : ℕ) → Accepted policy width (events ++ runningTicks (first ∷ later)) →
-    first .mayLower ≡ true → NonEmpty (first .lags) → NoneAbove L (first .lags) → Stretch L (first .time) later →
+abbrev pub CeilingWith : (millisecond more : ℕ) → DelayPolicy → ℕ → Type 0
+CeilingWith millisecond more policy width =
+    (events : List Event) (first : Tick) (later : List Tick) (L : ℕ) → AcceptedWith millisecond policy width (events ++ runningTicks (first ∷ later)) →
+    first .mayLower ≡ true → NonEmpty (first .lags) → NoneAbove L (first .lags) → TickStretch L (first .time) later →
     first .time + (30 * nanos + policy .window + 3 * policy .hold) ≤ ending (first .time) later →
-    delayOf policy width (events ++ runningTicks (first ∷ later)) ≤ needOf policy (bucketEnd policy width L) + 47
+    delayWith millisecond policy width (events ++ runningTicks (first ∷ later)) ≤ needOf policy (bucketEnd policy width L) + more
+
+abbrev pub Ceiling : DelayPolicy → ℕ → Type 0
+Ceiling = CeilingWith oneMillisecond 47

@@ -7,10 +7,11 @@ use lib.ListN.{length, replicate}
 use Rattle.base.specs.Limits.{timeLimit}
 use Rattle.base.specs.Choice.{pick}
 use Rattle.policy.specs.declared.DelayPolicy.{DelayPolicy}
-use Rattle.rules_window.specs.Window.{fresh, cleared, bucketsOf, pushedAll}
+use Rattle.rules_window.specs.Window.{fresh, cleared, pushedAll}
+use Rattle.rules_record.specs.Lent.{bucketsFor}
 use Rattle.rules_window.specs.Checks.{roomFor}
 use Rattle.delay_hold.specs.declared.DelayHold.{DelayHold}
-use Rattle.delay_hold.specs.Decide.{timerOff, withLower}
+use Rattle.delay_hold.specs.Steps5To8.{timerOff, withLower}
 use Rattle.delay_hold.specs.Next.{held, freshHold, clearedHold, seededHold}
 use Rattle.history.specs.View.{Rules, InputView, Tick, tickedView}
 
@@ -30,7 +31,7 @@ pub data Event : Type 0 where
 unfoldable pub freshView : (policy : DelayPolicy) (width : ℕ) → InputView
 freshView policy width =
     record {
-      window = fresh (bucketsOf (policy .«read_offset») (policy .«delay_max») width) width;
+      window = fresh (bucketsFor policy width) width;
       held = held freshHold (replicate 600 0) (replicate 600 0);
       delay = 0;
     }

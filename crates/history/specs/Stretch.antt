@@ -3,10 +3,11 @@ use Prim.Native.Nat.{ℕ, _+_, _*_, _≤_}
 use mathlib.Core.Path.{_≡_}
 use mathlib.Core.Bool.{true}
 use mathlib.Core.List.{List, [], _∷_}
-use Rattle.base.specs.Limits.{nanos}
+use Rattle.base.specs.Limits.{nanos, widthLimit}
 use Rattle.policy.specs.declared.DelayPolicy.{DelayPolicy}
 use Rattle.policy.specs.Settings as policies
-use Rattle.rules_window.specs.Window.{bucketsOf, bucketOf}
+use Rattle.rules_window.specs.Window.{bucketOf}
+use Rattle.rules_record.specs.Lent.{bucketsFor}
 use Rattle.history.specs.View.{Tick}
 use Rattle.history.specs.Events.{Event, ticks}
 
@@ -17,8 +18,8 @@ pub record Allowed (policy : DelayPolicy) (width : ℕ) : Type 0 where
   pub window-least : nanos ≤ policy .window
   pub window-most : policy .window ≤ 600 * nanos
   pub width-least : 1 ≤ width
-  pub width-most : width ≤ 4800
-  pub buckets-most : bucketsOf (policy .«read_offset») (policy .«delay_max») width ≤ 4096
+  pub width-most : width ≤ widthLimit
+  pub buckets-most : bucketsFor policy width ≤ 4096
 
 -- ticks that all leave the input running on automatic
 abbrev pub runningTicks : List Tick → List Event
@@ -36,10 +37,10 @@ NoneAbove L [] = Unit {0}
 NoneAbove L (lag ∷ lags) = (lag ≤ L) × NoneAbove L lags
 
 -- successive ticks, "each at most 5 s after the one before" (the first after `before`), that may lower and bring lags, none above L
-abbrev pub Stretch : (L before : ℕ) → List Tick → Type 0
-Stretch L before [] = Unit {0}
-Stretch L before (tick ∷ later) =
-    (tick .time ≤ before + 5 * nanos) × (tick .mayLower ≡ true) × NonEmpty (tick .lags) × NoneAbove L (tick .lags) × Stretch L (tick .time) later
+abbrev pub TickStretch : (L before : ℕ) → List Tick → Type 0
+TickStretch L before [] = Unit {0}
+TickStretch L before (tick ∷ later) =
+    (tick .time ≤ before + 5 * nanos) × (tick .mayLower ≡ true) × NonEmpty (tick .lags) × NoneAbove L (tick .lags) × TickStretch L (tick .time) later
 
 -- the time of the last of them
 abbrev pub ending : (before : ℕ) → List Tick → ℕ
@@ -48,4 +49,4 @@ ending before (tick ∷ later) = ending (tick .time) later
 
 -- "the end of L's bucket (the end that `quantile_upto` answers)"
 unfoldable pub bucketEnd : (policy : DelayPolicy) (width L : ℕ) → ℕ
-bucketEnd policy width L = (bucketOf L width (bucketsOf (policy .«read_offset») (policy .«delay_max») width) + 1) * width
+bucketEnd policy width L = (bucketOf L width (bucketsFor policy width) + 1) * width

@@ -5,7 +5,7 @@ use mathlib.Core.Bool.{Bool}
 use mathlib.Core.List.{List}
 use Rattle.policy.specs.declared.DelayPolicy.{DelayPolicy}
 use Rattle.rules_window.specs.Window.{Window, pushedAll}
-use Rattle.delay_hold.specs.Peaks.{worstOf}
+use Rattle.delay_hold.specs.Step4Peaks.{worstOf}
 use Rattle.delay_hold.specs.Next.{Held, Decided, nextOf, delayAfter, oneMillisecond, alwaysLower}
 use Rattle.rules_tick.specs.AutoDelay.{p999Of}
 
@@ -14,9 +14,12 @@ pub record Rules : Type 0 where
   pub policy : DelayPolicy
   pub millisecond : ℕ
 
+abbrev pub rulesWith : (policy : DelayPolicy) (millisecond : ℕ) → Rules
+rulesWith policy millisecond = record { policy = policy; millisecond = millisecond }
+
 -- document 01's: 48 samples are a millisecond
 abbrev pub rulesOf : DelayPolicy → Rules
-rulesOf policy = record { policy = policy; millisecond = oneMillisecond }
+rulesOf policy = rulesWith policy oneMillisecond
 
 -- one input, with the parts of the lent lists that are its own
 pub record InputView : Type 0 where

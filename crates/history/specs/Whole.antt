@@ -6,8 +6,8 @@ use lib.Dec.{leb}
 use lib.ListN.{length}
 use Rattle.base.specs.Choice.{both}
 use Rattle.policy.specs.declared.DelayPolicy.{DelayPolicy}
-use Rattle.rules_window.specs.Window.{bucketsOf}
-use Rattle.rules_window.specs.Whole as windows
+use Rattle.rules_record.specs.Lent.{bucketsFor}
+use Rattle.rules_window.specs.WholeWindow as windows
 use Rattle.delay_hold.specs.Whole.{wholeHold}
 use Rattle.history.specs.View.{InputView}
 
@@ -20,7 +20,7 @@ wholeView policy width view =
 pub record Kept (policy : DelayPolicy) (width : ℕ) (view : InputView) : Type 0 where
   pub whole : wholeView policy width view ≡ true
   pub widths : view .window .width ≡ width
-  pub bucketed : view .window .buckets ≡ bucketsOf (policy .«read_offset») (policy .«delay_max») width
+  pub bucketed : view .window .buckets ≡ bucketsFor policy width
   pub shaped : windows.Shaped (view .window)
   pub times-long : length (view .held .times) ≡ 600
   pub lags-long : length (view .held .lags) ≡ 600

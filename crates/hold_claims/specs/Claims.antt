@@ -18,7 +18,7 @@ use Rattle.delay_hold.specs.declared.LowerTimer.{LowerTimer}
 use Rattle.delay_hold.specs.declared.Change.the-variants.{Keep, To}
 use Rattle.delay_hold.specs.declared.DelayHold.{DelayHold}
 use Rattle.delay_hold.specs.declared.Answer.the-variants.{Refused}
-use Rattle.delay_hold.specs.Decide.{timerOff}
+use Rattle.delay_hold.specs.Steps5To8.{timerOff}
 use Rattle.delay_hold.specs.Next.{Held, held, Decided, nextOf, freshHold, oneMillisecond, alwaysLower}
 use Rattle.delay_hold.specs.Checks.{newReply, nextNumber, nextReply}
 

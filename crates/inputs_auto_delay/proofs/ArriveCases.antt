@@ -12,10 +12,10 @@ use Rattle.rules_record.specs.declared.Slot.{Slot}
 use Rattle.rules_record.specs.declared.Inputs.{Inputs}
 use Rattle.rules_record.specs.Slots.{withLagSeconds, withLastLag}
 use Rattle.rules_record.specs.Inputs.{slotAt, putSlot}
-use Rattle.rules_record.specs.Lent.{lists}
+use Rattle.rules_record.specs.Lent.{lists, bucketsIn}
 use Rattle.inputs_window.specs.Windows.{windowIn}
 use Rattle.rules_record.specs.Effects.{silent}
-use Rattle.rules_tick.specs.Arrival.{windowAfter, lastLag, arrived}
+use Rattle.rules_tick.specs.Lags.{windowAfter, lastLag, arrived}
 
 -- ---- the last lag
 default-same : (xs : List ℕ) (i a b : ℕ) → i < length xs → getD xs i a ≡ getD xs i b
@@ -38,19 +38,19 @@ last-some lags before h = default-same lags (length lags - 1) 0 before (omega ar
 -- ---- the steps of the code
 module _ (s : Inputs) (i time : ℕ) (lags : List ℕ) (a b c a′ b′ c′ : List ℕ) {slot counted changed : Slot} {before w : LagWindow} {last : ℕ}
     (is-slot : slot ≡ slotAt s i)
-    (is-before : before ≡ windowIn s slot)
+    (is-before : before ≡ windowIn (s .policy) (s .width) slot)
     (is-window : lent w a′ b′ c′ ≡ placed i (pushedAll time lags (partOf i (lent before a b c))) (lent before a b c))
     (is-counted : counted ≡ withLagSeconds slot (w .seconds))
     (is-last : last ≡ lastLag lags (slot .«last_lag»))
     (is-changed : changed ≡ withLastLag counted last) where
   abbrev from : LagWindow
-  from = windowIn s (slotAt s i)
+  from = windowIn (s .policy) (s .width) (slotAt s i)
 
   pushed-is : lent w a′ b′ c′ ≡ placed i (pushedAll time lags (partOf i (lent from a b c))) (lent from a b c)
-  pushed-is = is-window ∙ ap (λ (x : LagWindow). placed i (pushedAll time lags (partOf i (lent x a b c))) (lent x a b c)) (is-before ∙ ap (windowIn s) is-slot)
+  pushed-is = is-window ∙ ap (λ (x : LagWindow). placed i (pushedAll time lags (partOf i (lent x a b c))) (lent x a b c)) (is-before ∙ ap (windowIn (s .policy) (s .width)) is-slot)
 
   pub arrived-by : (times peaks : List ℕ) → silent (putSlot s i changed) (lists a′ b′ c′ times peaks) ≡ arrived i time lags s (lists a b c times peaks)
-  unfolding arrived windowAfter
+  unfolding arrived windowAfter bucketsIn
   arrived-by times peaks =
       (λ t. silent (putSlot s i (is-changed t)) (lists a′ b′ c′ times peaks))
       ∙ (λ t. silent (putSlot s i (withLastLag (is-counted t) (is-last t))) (lists a′ b′ c′ times peaks))

@@ -11,24 +11,25 @@ use Rattle.rules_window.specs.declared.Quantile.the-variants as Quantile
 use Rattle.base.specs.Rows.{spanOf}
 use Rattle.lag_window.specs.Lent.{lent}
 use Rattle.rules_window.specs.Parts.{partOf}
-use Rattle.rules_window.specs.Quantile.{quantileUpto}
+use Rattle.rules_window.specs.Quantile.{quantileUpto, thousandths}
 use Rattle.delay_hold.specs.declared.Lag.the-variants.{None}
 use Rattle.rules_record.specs.declared.Slot.{Slot}
 use Rattle.rules_record.specs.declared.Inputs.{Inputs}
-use Rattle.rules_record.specs.Lent.{lists, windowFor}
+use Rattle.rules_record.specs.Lent.{lists, bucketsIn, windowFor}
 use Rattle.inputs_window.specs.Windows.{windowIn}
-use Rattle.rules_tick.specs.AutoDelay.{permille999, reachOf, quantileLag, p999Of}
+use Rattle.rules_tick.specs.AutoDelay.{reachOf, quantileLag, p999Of}
 use Rattle.rules_tick.proofs.P999.{p999-short, p999-long}
 
-module _ (s : Inputs) (slot : Slot) (i : ℕ) (starts counts : List ℕ) {w : LagWindow} (is-window : w ≡ windowIn s slot) {span : ℕ} (is-span : span ≡ spanOf (w .seconds) (part (i * 11) 11 starts)) where
+module _ (s : Inputs) (slot : Slot) (i : ℕ) (starts counts : List ℕ) {w : LagWindow} (is-window : w ≡ windowIn (s .policy) (s .width) slot) {span : ℕ} (is-span : span ≡ spanOf (w .seconds) (part (i * 11) 11 starts)) where
   span-is : span ≡ spanOf (slot .«lag_seconds») (part (i * 11) 11 starts)
   span-is = is-span ∙ ap (λ (x : LagWindow). spanOf (x .seconds) (part (i * 11) 11 starts)) is-window
 
   pub short-by : span < nanos → (totals times peaks : List ℕ) → None ≡ p999Of (s .policy) (windowFor s (lists starts totals counts times peaks) i slot)
   short-by h totals times peaks = p999-short (s .policy) (windowFor s (lists starts totals counts times peaks) i slot) (subst (λ (x : ℕ). x < nanos) span-is h)
 
-  pub long-by : {x : Float} → x ≡ permille999 → nanos ≤ span → {q : Quantile} → q ≡ quantileUpto x (reachOf (s .policy)) (partOf i (lent w [] [] counts)) → (totals times peaks : List ℕ)
+  pub long-by : {x : Float} → x ≡ thousandths 999 → nanos ≤ span → {q : Quantile} → q ≡ quantileUpto x (reachOf (s .policy)) (partOf i (lent w [] [] counts)) → (totals times peaks : List ℕ)
       → quantileLag q ≡ p999Of (s .policy) (windowFor s (lists starts totals counts times peaks) i slot)
+  unfolding bucketsIn
   long-by is-x h e totals times peaks =
       p999-long (s .policy) (windowFor s (lists starts totals counts times peaks) i slot) (subst (λ (x : ℕ). nanos ≤ x) span-is h)
       (e ∙ (λ t. quantileUpto (is-x t) (reachOf (s .policy)) (partOf i (lent (is-window t) [] [] counts))))

@@ -6,7 +6,8 @@ ghost use lib.ListN.{length};
 ghost use Rattle.rules_record.specs.Inputs.{putSlot};
 ghost use Rattle.rules_record.specs.Lent.{lists};
 ghost use Rattle.rules_record.specs.Effects.{silent, Effected};
-ghost use Rattle.rules_tick.specs.Arrival.{arrived, largestOf, lateSlot};
+ghost use Rattle.rules_tick.specs.Lags.{arrived, largestOf};
+ghost use Rattle.rules_tick.specs.LateEvents.{lateSlot};
 ghost use Rattle.rules_tick.specs.AutoDelay.{autoDelayed};
 ghost use Rattle.rules_tick.specs.InputReady.{ArriveAsked, LateAsked, AutoAsked};
 use super::steps;
@@ -30,7 +31,8 @@ pub fn arrive(
     ensures { λ r. ⌜ ((times peaks : List ℕ) → silent (putSlot inputs i r) (lists (now (starts .exit)) (now (totals .exit)) (now (counts .exit)) times peaks) ≡ arrived i time (now (lags .entry)) inputs (lists (now (starts .entry)) (now (totals .entry)) (now (counts .entry)) times peaks)) ⌝ }
 {
     let slot = inputs_slots::slot_at(inputs, i);
-    let before = inputs_window::core::window_in(inputs, slot);
+    let policy = inputs.policy;
+    let before = inputs_window::core::window_in(policy, inputs.width, slot);
     let window = inputs_window::core::push_all(before, i, lags, time, starts, totals, counts);
     let counted = inputs_slots::with_lag_seconds(slot, window.seconds);
     inputs_slots::with_last_lag(counted, steps::last_lag(lags, slot.last_lag))
@@ -72,13 +74,13 @@ pub fn auto_delay(
     let slot = inputs_slots::slot_at(inputs, i);
     let state = slot.state;
     let code = inputs_slots::code(state);
-    if code == steps::STALLED {
+    if code == inputs_slots::STALLED {
         return Sent {
             inputs: steps::interrupted(inputs, i, slot),
             used,
         };
     }
-    if code != steps::RUNNING {
+    if code != inputs_slots::RUNNING {
         return Sent { inputs, used };
     }
     if !inputs_slots::automatic(slot) {

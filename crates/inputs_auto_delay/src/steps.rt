@@ -3,16 +3,19 @@ ghost use mathlib.Core.Path.{_≡_};
 ghost use mathlib.Core.List.{List};
 ghost use Prim.Native.Nat.{ℕ, _+_, _<_, _≤_};
 ghost use lib.ListN.{length};
+ghost use Rattle.base.specs.Limits.{samplesLimit, counterLimit};
 ghost use Rattle.policy.specs.Settings.{Sound};
 ghost use Rattle.rules_record.specs.Slots.{withHold};
 ghost use Rattle.rules_record.specs.Inputs.{slotAt, putSlot};
 ghost use Rattle.rules_record.specs.Commands.{Did};
-ghost use Rattle.delay_hold.specs.Decide.{timerOff, withLower};
+ghost use Rattle.delay_hold.specs.Steps5To8.{timerOff, withLower};
 ghost use Rattle.rules_record.specs.Lent.{lists, windowFor};
-ghost use Rattle.rules_tick.specs.Arrival.{lastLag, lateNow, lateEvents};
+ghost use Rattle.rules_tick.specs.Lags.{lastLag};
+ghost use Rattle.rules_tick.specs.LateEvents.{lateNow, lateEvents};
 ghost use Rattle.rules_tick.specs.AutoDelay.{p999Of, currentOf, nextFor, Answered, answered};
 ghost use Rattle.rules_tick.specs.InputReady.{P999Asked, AutoAsked};
 use delay_hold::Change;
+use delay_hold::DelayHold;
 use delay_hold::Lag;
 use delay_hold::Next;
 use policy::DelayPolicy;
@@ -22,18 +25,10 @@ use rules_record::Sent;
 use rules_record::Slot;
 use rules_window::Quantile;
 
-// The number of a running input's state, and of a stalled one's.
-pub(crate) const RUNNING: u32 = 2;
-
-pub(crate) const STALLED: u32 = 3;
-
 // How long the seconds of lags must span before the first automatic setting.
 const MIN_LAG_SECONDS: u64 = 1;
 
 const MIN_SPAN: u64 = MIN_LAG_SECONDS * base::NANOS;
-
-// How many peaks an input has room for.
-const PEAKS: usize = 600;
 
 // The last of the lags, or the one before where there are none.
 pub(crate) fn last_lag(lags: &[u32], before: u32) -> u32
@@ -48,11 +43,11 @@ pub(crate) fn last_lag(lags: &[u32], before: u32) -> u32
 
 // Whether a block of a running input was late: above what the applied delay covers, and within what the largest delay would.
 pub(crate) fn late_now(policy: DelayPolicy, slot: Slot, applied: u32, max_lag: Lag) -> bool
-    requires { ⌜ Sound policy × (applied ≤ 96000) ⌝ }
+    requires { ⌜ Sound policy × (applied ≤ samplesLimit) ⌝ }
     ensures { λ r. ⌜ r ≡ lateNow policy slot applied «max_lag» ⌝ }
 {
     let state = slot.state;
-    if inputs_slots::code(state) != RUNNING {
+    if inputs_slots::code(state) != inputs_slots::RUNNING {
         return false;
     }
     let Lag::Of(lag) = max_lag else {
@@ -66,7 +61,7 @@ pub(crate) fn late_now(policy: DelayPolicy, slot: Slot, applied: u32, max_lag: L
 
 // The late events: one more where the tick before was not late.
 pub(crate) fn late_events(slot: Slot, late: bool) -> u64
-    requires { ⌜ slot .«late_events» < 9223372036854775808 ⌝ }
+    requires { ⌜ slot .«late_events» < counterLimit ⌝ }
     ensures { λ r. ⌜ r ≡ lateEvents slot late ⌝ }
 {
     if !late {
@@ -93,7 +88,7 @@ fn p999(inputs: Inputs, slot: Slot, i: usize, starts: &[u64], counts: &[u32]) ->
     ensures { λ r. ⌜ ((totals times peaks : List ℕ) → r ≡ p999Of (inputs .policy) (windowFor inputs (lists (now (starts .entry)) totals (now (counts .entry)) times peaks) i slot)) ⌝ }
 {
     let policy = inputs.policy;
-    let window = inputs_window::core::window_in(inputs, slot);
+    let window = inputs_window::core::window_in(policy, inputs.width, slot);
     if inputs_window::core::span(window, i, starts) < MIN_SPAN {
         return Lag::None;
     }
@@ -134,8 +129,8 @@ pub(crate) fn next_for(
     let policy = inputs.policy;
     let hold = slot.hold;
     let p999 = p999(inputs, slot, i, starts, counts);
-    let from = i * PEAKS;
-    let to = from + PEAKS;
+    let from = i * DelayHold::PLACES;
+    let to = from + DelayHold::PLACES;
     delay_hold::core::next(
         hold,
         &mut times[from..to],
@@ -145,6 +140,8 @@ pub(crate) fn next_for(
         current(slot),
         policy,
         time,
+        delay_hold::core::DELAY_LOWER_SAMPLES,
+        delay_hold::core::ALWAYS_LOWER,
     )
 }
 
@@ -158,7 +155,7 @@ pub(crate) fn answer(
     commands: &mut [u32],
     used: usize,
 ) -> Sent
-    requires { ⌜ (used + 3 ≤ length (now commands)) × (i < 16) × (slot .«delay_changes» < 9223372036854775808) ⌝ }
+    requires { ⌜ (used + 3 ≤ length (now commands)) × (i < 16) × (slot .«delay_changes» < counterLimit) ⌝ }
     ensures { λ r. ⌜ Did 3 (answered change i time slot inputs) r (now (commands .entry)) (now (commands .exit)) used ⌝ }
 {
     let Change::To(delay) = change else {

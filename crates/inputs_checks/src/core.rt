@@ -3,22 +3,20 @@ ghost use mathlib.Core.Path.{_≡_};
 ghost use Prim.Native.Nat.{_+_, _*_, _≤_};
 ghost use lib.ListN.{length};
 ghost use Rattle.policy.specs.Settings.{Sound};
-ghost use Rattle.rules_window.specs.Window.{bucketsOf};
 ghost use Rattle.lag_window.specs.Lent.{lent};
-ghost use Rattle.rules_window.specs.Parts.{Held};
+ghost use Rattle.rules_window.specs.Parts.{PartsIn};
 ghost use Rattle.rules_record.specs.declared.Inputs.{Inputs};
 ghost use Rattle.rules_record.specs.Inputs.{slotAt};
 ghost use Rattle.rules_record.specs.Lent.{lists};
-ghost use Rattle.rules_record.specs.Record.{wholeInput, wholeInputs, wholeRecord};
+ghost use Rattle.inputs_window.specs.Windows.{windowIn};
+ghost use Rattle.rules_record.specs.WholeRecord.{wholeInput, wholeInputs, wholeRecord};
 ghost use Rattle.rules_record.specs.Checks.{listsFit, commandsFit, Fitting};
+use delay_hold::DelayHold;
 use lag_window::LagWindow;
 use policy::DelayPolicy;
 use rules_record::Commands;
 use rules_record::Inputs;
 use rules_record::Slot;
-
-// The peaks that are kept of an input.
-const PEAKS: usize = 600;
 
 // Has each lent list its exact length, for n inputs and so many buckets a second (check 5)?
 pub fn lists_fit(
@@ -42,10 +40,10 @@ pub fn lists_fit(
     if counts.len() != n * (LagWindow::SECONDS * buckets) {
         return false;
     }
-    if times.len() != n * PEAKS {
+    if times.len() != n * DelayHold::PLACES {
         return false;
     }
-    peaks.len() == n * PEAKS
+    peaks.len() == n * DelayHold::PLACES
 }
 
 // The commands have 12 words an input, where the call takes them (check 5).
@@ -74,21 +72,17 @@ fn whole_input(
     peaks: &[u32],
 ) -> bool
     requires { ⌜ Sound policy ⌝ }
-    requires { ⌜ Held i (lent (record { seconds = slot .«lag_seconds»; buckets = bucketsOf (policy .«read_offset») (policy .«delay_max») width; width = width }) (now starts) (now totals) (now counts)) ⌝ }
+    requires { ⌜ PartsIn i (lent (windowIn policy width slot) (now starts) (now totals) (now counts)) ⌝ }
     requires { ⌜ (i * 600 + 600 ≤ length (now times)) × (i * 600 + 600 ≤ length (now peaks)) ⌝ }
     ensures { λ r. ⌜ ((s : Inputs) → (policy ≡ s .policy) → (width ≡ s .width) → (flows ≡ s .«flow_count») → (slot ≡ slotAt s i) → r ≡ wholeInput s (lists (now (starts .entry)) (now (totals .entry)) (now (counts .entry)) (now (times .entry)) (now (peaks .entry))) i) ⌝ }
 {
-    let window = LagWindow {
-        seconds: slot.lag_seconds,
-        buckets: lag_rows::core::buckets_of(policy.read_offset, policy.delay_max, width),
-        width,
-    };
+    let window = inputs_window::core::window_in(policy, width, slot);
     if !inputs_window::core::whole(window, i, starts, totals, counts) {
         return false;
     }
     let hold = slot.hold;
-    let a = i * PEAKS;
-    let e = a + PEAKS;
+    let a = i * DelayHold::PLACES;
+    let e = a + DelayHold::PLACES;
     if !delay_hold::core::whole(hold, policy, width, &times[a..e], &peaks[a..e]) {
         return false;
     }

@@ -30,10 +30,10 @@ pub fn buckets_allowed(policy: DelayPolicy, width: u32) -> bool
     if width < 1 {
         return false;
     }
-    if 4_800 < width {
+    if base::WIDTH_LIMIT < width {
         return false;
     }
-    lag_rows::core::buckets_of(policy.read_offset, policy.delay_max, width) <= 4_096
+    lag_rows::core::buckets_of(policy.read_offset, policy.delay_max, width) <= base::BUCKETS_LIMIT
 }
 
 // Are hold and stall at most 600 s, window 1 to 600 s (check 3)?

@@ -2,11 +2,10 @@
 use Prim.Native.Nat.{ℕ, _*_, _<_}
 use mathlib.Core.Path.{_≡_, sym, ap, subst, _∙_}
 use mathlib.Core.List.{List}
-use native.Mathlib.Omega.{arith}
 use lib.ListN.{length, replicate}
 use Rattle.base.specs.Lists.{part, patched}
 use Rattle.lag_window.specs.declared.LagWindow.{LagWindow}
-use Rattle.rules_window.specs.Window.{Window, bucketsOf, fresh}
+use Rattle.rules_window.specs.Window.{Window, fresh}
 use Rattle.lag_window.specs.Lent.{lent}
 use Rattle.rules_window.specs.Window as window
 use Rattle.rules_window.specs.Parts as parts
@@ -17,10 +16,10 @@ use Rattle.rules_record.specs.declared.Inputs.{Inputs}
 use Rattle.rules_record.specs.Slots.{withLagSeconds, withHold}
 use Rattle.rules_record.specs.Inputs.{putSlot}
 use Rattle.rules_record.specs.Lent.{Lists, lists, bucketsIn}
+use Rattle.inputs_window.specs.Windows.{windowIn}
 use Rattle.rules_record.specs.Checks.{Fitting}
 use Rattle.rules_record.specs.Effects.{silent}
-use Rattle.base.proofs.Blocks.{block-within}
-use Rattle.rules_record.proofs.Shapes.{buckets-least}
+use Rattle.rules_record.proofs.Shapes.{window-held}
 use Rattle.rules_routing.specs.Clear.{cleared}
 
 -- ---- the hold
@@ -32,39 +31,23 @@ hold-by i times lags {k} is-k e =
     ∙ (λ t. held freshHold (patched (i * 600) (is-k t) (replicate (length (part (i * 600) (is-k t) times)) 0) times) (patched (i * 600) (is-k t) (replicate (length (part (i * 600) (is-k t) lags)) 0) lags))
 
 -- ---- the window
-module _ (s : Inputs) (i : ℕ) (seconds : ℕ) {buckets : ℕ} (is-buckets : buckets ≡ bucketsOf (s .policy .«read_offset») (s .policy .«delay_max») (s .width)) where
-  abbrev before : ℕ → LagWindow
-  before b = record { seconds = seconds; buckets = b; width = s .width }
-
-  pub window-held : (l : Lists) → Fitting s l → i < s .count → parts.Held i (lent (before buckets) (l .starts) (l .totals) (l .counts))
-  unfolding bucketsIn
-  window-held l f h =
-      subst (λ (b : ℕ). parts.Held i (lent (before b) (l .starts) (l .totals) (l .counts))) (sym is-buckets)
-      (record {
-        width-low = f .allowed .width-least;
-        width-high = f .allowed .width-most;
-        buckets-low = buckets-least s l f;
-        buckets-high = f .allowed .buckets-most;
-        starts-in = omega (arith, block-within i (s .count) 11 h, f .long .starts);
-        totals-in = omega (arith, block-within i (s .count) 11 h, f .long .totals);
-        counts-in = omega (arith, block-within i (s .count) (11 * bucketsIn s) h, f .long .counts);
-      })
+pub before-held : (s : Inputs) (i : ℕ) (slot : Slot) {before : LagWindow} → before ≡ windowIn (s .policy) (s .width) slot → (l : Lists) → Fitting s l → i < s .count → parts.PartsIn i (lent before (l .starts) (l .totals) (l .counts))
+unfolding bucketsIn
+before-held s i slot is-before l f h = subst (λ (w : LagWindow). parts.PartsIn i (lent w (l .starts) (l .totals) (l .counts))) (sym is-before) (window-held s l f i slot h)
 
 -- ---- both
-module _ (s : Inputs) (i : ℕ) (slot : Slot) (a b c times lags a′ b′ c′ times′ lags′ : List ℕ) {buckets : ℕ} {w : LagWindow} {hold : DelayHold} {counted changed : Slot} {r : Inputs}
-    (is-buckets : buckets ≡ bucketsOf (s .policy .«read_offset») (s .policy .«delay_max») (s .width))
-    (is-window : lent w a′ b′ c′ ≡ parts.placed i (window.cleared (parts.partOf i (lent (record { seconds = slot .«lag_seconds»; buckets = buckets; width = s .width }) a b c))) (lent (record { seconds = slot .«lag_seconds»; buckets = buckets; width = s .width }) a b c))
+module _ (s : Inputs) (i : ℕ) (slot : Slot) (a b c times lags a′ b′ c′ times′ lags′ : List ℕ) {before w : LagWindow} {hold : DelayHold} {counted changed : Slot} {r : Inputs}
+    (is-before : before ≡ windowIn (s .policy) (s .width) slot)
+    (is-window : lent w a′ b′ c′ ≡ parts.placed i (window.cleared (parts.partOf i (lent before a b c))) (lent before a b c))
     (is-hold : held hold times′ lags′ ≡ held freshHold (patched (i * 600) 600 (replicate (length (part (i * 600) 600 times)) 0) times) (patched (i * 600) 600 (replicate (length (part (i * 600) 600 lags)) 0) lags))
     (is-counted : counted ≡ withLagSeconds slot (w .seconds))
     (is-changed : changed ≡ withHold counted hold)
     (is-put : r ≡ putSlot s i changed) where
-  abbrev placing : ℕ → Window
-  placing n =
-      parts.placed i (window.cleared (parts.partOf i (lent (record { seconds = slot .«lag_seconds»; buckets = n; width = s .width }) a b c)))
-      (lent (record { seconds = slot .«lag_seconds»; buckets = n; width = s .width }) a b c)
+  abbrev placing : LagWindow → Window
+  placing x = parts.placed i (window.cleared (parts.partOf i (lent x a b c))) (lent x a b c)
 
-  window-is : lent w a′ b′ c′ ≡ placing (bucketsOf (s .policy .«read_offset») (s .policy .«delay_max») (s .width))
-  window-is = is-window ∙ ap placing is-buckets
+  window-is : lent w a′ b′ c′ ≡ placing (windowIn (s .policy) (s .width) slot)
+  window-is = is-window ∙ ap placing is-before
 
   pub cleared-by : silent r (lists a′ b′ c′ times′ lags′) ≡ cleared i slot s (lists a b c times lags)
   unfolding cleared bucketsIn fresh

@@ -9,20 +9,16 @@ ghost use Rattle.rules_record.specs.Checks.{Fitting};
 ghost use Rattle.rules_record.specs.Effects.{silent};
 ghost use Rattle.rules_routing.specs.Clear.{cleared};
 use delay_hold::DelayHold;
-use lag_window::LagWindow;
 use rules_record::Inputs;
 use rules_record::Slot;
-
-// How many peaks an input has room for.
-const PEAKS: usize = 600;
 
 // Every place of the peaks of input i is written zero.
 fn clear_hold(i: usize, times: &mut [u64], peaks: &mut [u32]) -> DelayHold
     requires { ⌜ (i < 16) × (i * 600 + 600 ≤ length (now times)) × (i * 600 + 600 ≤ length (now peaks)) ⌝ }
     ensures { λ r. ⌜ held r (now (times .exit)) (now (peaks .exit)) ≡ held freshHold (patched (i * 600) 600 (replicate (length (part (i * 600) 600 (now (times .entry)))) 0) (now (times .entry))) (patched (i * 600) 600 (replicate (length (part (i * 600) 600 (now (peaks .entry)))) 0) (now (peaks .entry))) ⌝ }
 {
-    let from = i * PEAKS;
-    let to = from + PEAKS;
+    let from = i * DelayHold::PLACES;
+    let to = from + DelayHold::PLACES;
     delay_hold::core::cleared(&mut times[from..to], &mut peaks[from..to])
 }
 
@@ -42,12 +38,7 @@ pub fn clear(
     ensures { λ r. ⌜ silent r (lists (now (starts .exit)) (now (totals .exit)) (now (counts .exit)) (now (times .exit)) (now (peaks .exit))) ≡ cleared i slot inputs (lists (now (starts .entry)) (now (totals .entry)) (now (counts .entry)) (now (times .entry)) (now (peaks .entry))) ⌝ }
 {
     let policy = inputs.policy;
-    let buckets = lag_rows::core::buckets_of(policy.read_offset, policy.delay_max, inputs.width);
-    let before = LagWindow {
-        seconds: slot.lag_seconds,
-        buckets,
-        width: inputs.width,
-    };
+    let before = inputs_window::core::window_in(policy, inputs.width, slot);
     let window = inputs_window::core::clear(before, i, starts, totals, counts);
     let hold = clear_hold(i, times, peaks);
     let counted = inputs_slots::with_lag_seconds(slot, window.seconds);

@@ -3,7 +3,7 @@ ghost use mathlib.Core.Path.{_≡_};
 ghost use Prim.Native.Nat.{_≤_};
 ghost use lib.ListN.{getD};
 ghost use Rattle.base.specs.First.{first};
-ghost use Rattle.rules_record.specs.Flows.{sameFlow, emptyEntry, known, placeOf, distinctFlows, admits, flowAt, enrolled, recalled, kept, differs, remembered, rememberedFor};
+ghost use Rattle.rules_record.specs.Flows.{sameFlow, emptyEntry, known, flowPlace, distinctFlows, admits, flowAt, enrolled, recalled, kept, differs, remembered, rememberedFor};
 use rules_record::Flow;
 use rules_record::FlowEntry;
 use rules_record::Inputs;
@@ -62,7 +62,7 @@ fn find_below(table: [FlowEntry; 64], flow: Flow, n: usize) -> usize
 
 // The flow's place, or the number of places in use where it has none.
 pub fn find(inputs: Inputs, flow: Flow) -> usize
-    ensures { λ r. ⌜ r ≡ placeOf inputs flow ⌝ }
+    ensures { λ r. ⌜ r ≡ flowPlace inputs flow ⌝ }
 {
     let n = places(inputs);
     let table = inputs.flows;

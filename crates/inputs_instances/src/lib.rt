@@ -9,7 +9,8 @@ ghost use Rattle.base.specs.Any.{any};
 ghost use Rattle.rules_record.specs.Inputs.{slotAt};
 ghost use Rattle.rules_record.specs.declared.Instance.{Instance};
 ghost use Rattle.rules_record.specs.declared.Extra.the-variants.{Nothing};
-ghost use Rattle.rules_record.specs.Instances.{sameKey, noKey, held, foundKey, distinctKeys, made, usesKey, isExtra, pruned};
+ghost use Rattle.rules_record.specs.Instances.{sameKey, noKey, keysHeld, foundKey, distinctKeys, made};
+ghost use Rattle.rules_record.specs.Prune.{usesKey, isExtra, pruned};
 use rules_record::Extra;
 use rules_record::Inode;
 use rules_record::Inputs;
@@ -28,7 +29,7 @@ pub fn same(a: Instance, b: Instance) -> bool
 
 // How many places of the table are in use; there are 18.
 fn places(inputs: Inputs) -> usize
-    ensures { λ r. ⌜ r ≡ held inputs ⌝ }
+    ensures { λ r. ⌜ r ≡ keysHeld inputs ⌝ }
 {
     if inputs.instance_count < 18 {
         return inputs.instance_count;
@@ -97,7 +98,7 @@ fn read_by(slot: Slot) -> Extra
     ensures { λ r. ⌜ ((key : Instance) → isExtra r key ≡ usesKey slot key) ⌝ }
 {
     let state = slot.state;
-    if inputs_slots::code(state) < 2 {
+    if inputs_slots::code(state) < inputs_slots::RUNNING {
         return Extra::Nothing;
     }
     let to = slot.route;

@@ -3,7 +3,7 @@ ghost use mathlib.Core.Path.{_≡_};
 ghost use Prim.Native.Nat.{_*_};
 ghost use lib.Dec.{eqb};
 ghost use Rattle.rules_record.specs.Lent.{lists};
-ghost use Rattle.rules_record.specs.Reply.{left};
+ghost use Rattle.rules_record.specs.Reply.{leftInputs};
 ghost use Rattle.rules_calls.specs.NewRecord.{policyOf, blank, blankFor, noInputs};
 ghost use Rattle.rules_calls.specs.NewStart.{zeroedLists};
 ghost use Rattle.rules_calls.specs.NewChecks.{marginFits, settingsNumber};
@@ -96,7 +96,7 @@ fn no_inputs() -> Inputs
 fn margin_fits(settings: Settings) -> bool
     ensures { λ r. ⌜ r ≡ marginFits settings ⌝ }
 {
-    if 96_000 < settings.margin {
+    if base::SAMPLES_LIMIT < settings.margin {
         return false;
     }
     if settings.percent >= 0.0 {
@@ -194,7 +194,7 @@ pub fn new(
     peaks: &mut [u32],
     commands: &mut [u32],
 ) -> InputsAnswer
-    ensures { λ r. ⌜ left r (lists (now (starts .exit)) (now (totals .exit)) (now (counts .exit)) (now (times .exit)) (now (peaks .exit))) (now (commands .exit)) ≡ newReply settings kinds (now (flows .entry)) (now (delays .entry)) time (lists (now (starts .entry)) (now (totals .entry)) (now (counts .entry)) (now (times .entry)) (now (peaks .entry))) (now (commands .entry)) ⌝ }
+    ensures { λ r. ⌜ leftInputs r (lists (now (starts .exit)) (now (totals .exit)) (now (counts .exit)) (now (times .exit)) (now (peaks .exit))) (now (commands .exit)) ≡ newReply settings kinds (now (flows .entry)) (now (delays .entry)) time (lists (now (starts .entry)) (now (totals .entry)) (now (counts .entry)) (now (times .entry)) (now (peaks .entry))) (now (commands .entry)) ⌝ }
 {
     let number = settings_number(
         settings,

@@ -4,7 +4,7 @@ ghost use mathlib.Core.Bool.{true};
 ghost use lib.Dec.{ltb};
 ghost use Rattle.base.specs.Choice.{pick};
 ghost use Rattle.delay_hold.specs.Whole.{momentTimely};
-ghost use Rattle.rules_record.specs.Places.{proposalFits, routeFits, wholeSlot, neverYet, noSeed, noRoute, noInode, noProposal, noDelay, unusedTimer, unusedHold, unusedParts, unusedNumbers, unusedSlot, unusedEntry, entriesFit, wholeFlows, unusedKey, keysFit, wholeInstances};
+ghost use Rattle.rules_record.specs.WholePlaces.{proposalFits, routeFits, wholeSlot, neverYet, noSeed, noRoute, noInode, noProposal, noDelay, unusedTimer, unusedHold, unusedParts, unusedNumbers, unusedSlot, unusedEntry, entriesFit, wholeFlows, unusedKey, keysFit, wholeInstances};
 use delay_hold::DelayHold;
 use delay_hold::LowerTimer;
 use delay_hold::Moment;
@@ -36,7 +36,7 @@ fn route_fits(to: Routed, state: State, n: usize) -> bool
     ensures { λ r. ⌜ r ≡ routeFits to state n ⌝ }
 {
     let Routed::To(route) = to else {
-        return inputs_slots::code(state) == 0;
+        return inputs_slots::code(state) == inputs_slots::UNROUTED;
     };
     if n <= route.flow {
         return false;
@@ -187,7 +187,7 @@ fn unused_parts(slot: Slot) -> bool
         return false;
     }
     let state = slot.state;
-    if inputs_slots::code(state) != 0 {
+    if inputs_slots::code(state) != inputs_slots::UNROUTED {
         return false;
     }
     let to = slot.route;

@@ -1,7 +1,7 @@
 // Routing an input (document 01, "Supervision").
 ghost use mathlib.Core.Path.{_≡_};
 ghost use Rattle.rules_record.specs.Lent.{lists};
-ghost use Rattle.rules_record.specs.Reply.{left};
+ghost use Rattle.rules_record.specs.Reply.{leftInputs};
 ghost use Rattle.rules_calls.specs.RouteChecks.{wantedFits, routeNumber};
 ghost use Rattle.rules_calls.specs.RouteReply.{routeReply};
 use rules_calls::Wanted;
@@ -77,7 +77,7 @@ pub fn route(
     peaks: &mut [u32],
     commands: &mut [u32],
 ) -> InputsAnswer
-    ensures { λ r. ⌜ left r (lists (now (starts .exit)) (now (totals .exit)) (now (counts .exit)) (now (times .exit)) (now (peaks .exit))) (now (commands .exit)) ≡ routeReply inputs (lists (now (starts .entry)) (now (totals .entry)) (now (counts .entry)) (now (times .entry)) (now (peaks .entry))) (now (commands .entry)) input wanted time world ⌝ }
+    ensures { λ r. ⌜ leftInputs r (lists (now (starts .exit)) (now (totals .exit)) (now (counts .exit)) (now (times .exit)) (now (peaks .exit))) (now (commands .exit)) ≡ routeReply inputs (lists (now (starts .entry)) (now (totals .entry)) (now (counts .entry)) (now (times .entry)) (now (peaks .entry))) (now (commands .entry)) input wanted time world ⌝ }
 {
     let number = route_number(
         inputs,

@@ -1,6 +1,7 @@
 // The record of one input and of all inputs, by value, with a function for each part that changes.
 ghost use mathlib.Core.Path.{_≡_};
-ghost use Rattle.rules_record.specs.Slots.{withConfig, withState, withRoute, withInode, withHead, withReopens, withLagSeconds, withLastLag, withDelay, withProposed, withHold, withDelayChanges, withLate, stateNumber, isAuto, emptySlot};
+ghost use Rattle.rules_record.specs.Slots.{withConfig, withState, withRoute, withInode, withHead, withReopens, withLagSeconds, withLastLag, withDelay, withProposed, withHold, withDelayChanges, withLate, isAuto, emptySlot};
+ghost use Rattle.rules_record.specs.States.{stateNumber};
 ghost use Rattle.rules_record.specs.Inputs.{slotAt, putSlot};
 use delay_hold::DelayHold;
 use delay_hold::Moment;
@@ -14,15 +15,24 @@ use rules_record::Routed;
 use rules_record::Slot;
 use rules_record::State;
 
-// The state's number, as document 01 gives it.
+// The states' numbers, as document 01 gives them.
+pub const UNROUTED: u32 = 0;
+
+pub const WAITING: u32 = 1;
+
+pub const RUNNING: u32 = 2;
+
+pub const STALLED: u32 = 3;
+
+// The state's number.
 pub fn code(state: State) -> u32
     ensures { λ r. ⌜ r ≡ stateNumber state ⌝ }
 {
     match state {
-        State::Unrouted => 0,
-        State::Waiting => 1,
-        State::Running => 2,
-        State::Stalled => 3,
+        State::Unrouted => UNROUTED,
+        State::Waiting => WAITING,
+        State::Running => RUNNING,
+        State::Stalled => STALLED,
     }
 }
 

@@ -10,18 +10,19 @@ use Rattle.doubles.specs.Doubles.{msOf}
 use Rattle.lag_window.specs.declared.LagWindow.{LagWindow}
 use Rattle.rules_window.specs.declared.Quantile.the-variants as Quantile
 use Rattle.lag_window.specs.Lent.{lent}
-use Rattle.rules_window.specs.Whole.{Sound}
+use Rattle.rules_window.specs.WholeWindow.{Sound}
 use Rattle.rules_window.specs.Parts.{partOf}
-use Rattle.rules_window.specs.Quantile.{Placeable, ShortRows}
+use Rattle.rules_window.specs.Quantile.{Placeable, ShortRows, thousandths}
 use Rattle.rules_window.proofs.WholeAt.{whole-of}
 use Rattle.rules_window.proofs.Totals.{rows-short}
 use Rattle.rules_window.proofs.Numbers.{sound-placeable}
+use Rattle.rules_window.proofs.Thousandths.{thousandths-in}
 use Rattle.delay_hold.proofs.Wholes as holds
 use Rattle.rules_record.specs.declared.Slot.{Slot}
 use Rattle.rules_record.specs.declared.Inputs.{Inputs}
-use Rattle.rules_record.specs.Slots.{stateNumber}
+use Rattle.rules_record.specs.States.{stateNumber}
 use Rattle.rules_record.specs.Inputs.{slotAt}
-use Rattle.rules_record.specs.Lent.{Lists, windowOf, heldOf}
+use Rattle.rules_record.specs.Lent.{Lists, bucketsIn, windowOf, heldOf}
 use Rattle.inputs_window.specs.Windows.{windowIn}
 use Rattle.base.proofs.Blocks.{block-within}
 use Rattle.rules_record.specs.Facts.{Checked}
@@ -31,9 +32,8 @@ use Rattle.rules_calls.specs.declared.Milliseconds.{Milliseconds}
 use Rattle.rules_calls.specs.declared.Arrival.{Arrival}
 use Rattle.rules_calls.specs.declared.Arrival.the-variants as Arrival
 use Rattle.rules_calls.specs.declared.InputStatus.{InputStatus}
-use Rattle.rules_calls.specs.Status.{sourceOf, channelsShown, proposedMs, thousandths, arrivalIn, worstMs, statusFor, statusOf}
+use Rattle.rules_calls.specs.Status.{sourceOf, channelsShown, proposedMs, arrivalIn, worstMs, statusFor, statusOf}
 use Rattle.inputs_status.specs.StatusAsked.{Countable}
-use Rattle.rules_calls.proofs.StatusShows.{thousandths-in}
 
 pub quantile-asks : {w : LagWindow} {i : ℕ} {counts : List ℕ} → Countable w i counts → {q : Float} (k : ℕ) → q ≡ thousandths k → k ≤ 1000 →
     ((w .seconds ≤ 11) × (w .buckets ≤ 4096) × (1 ≤ w .width) × (w .width ≤ 4800))
@@ -50,9 +50,10 @@ module _ (s : Inputs) (l : Lists) (c : Checked s l) (i : ℕ) (h : i < s .count)
   window-is-sound : Sound (windowOf s l i)
   window-is-sound = window-sound s l c i h
 
-  pub countable : {w : LagWindow} → w ≡ windowIn s slot → Countable w i (l .counts)
+  pub countable : {w : LagWindow} → w ≡ windowIn (s .policy) (s .width) slot → Countable w i (l .counts)
+  unfolding bucketsIn
   countable is-window =
-      subst (λ (x : LagWindow). Countable x i (l .counts)) (sym (is-window ∙ ap (windowIn s) is-slot))
+      subst (λ (x : LagWindow). Countable x i (l .counts)) (sym (is-window ∙ ap (windowIn (s .policy) (s .width)) is-slot))
       (record {
         few = whole-of _ window-is-sound .few;
         buckets-most = window-is-sound .shaped .buckets-high;
@@ -63,22 +64,22 @@ module _ (s : Inputs) (l : Lists) (c : Checked s l) (i : ℕ) (h : i < s .count)
         short = rows-short (windowOf s l i) window-is-sound;
       })
 
-  pub peaks-in : {k : ℕ} → k ≡ 600 → slot .hold .peaks ≤ length (part (i * 600) k (l .lags))
+  pub peaks-in : {k : ℕ} → k ≡ 600 → slot .hold .peaks ≤ length (part (i * 600) k (l .peaks))
   peaks-in {k} is-k =
-      subst (λ (x : Slot). x .hold .peaks ≤ length (part (i * 600) k (l .lags))) (sym is-slot)
-      (omega (arith, ap (λ (x : ℕ). length (part (i * 600) x (l .lags))) is-k, held-lags s l (c .fitting) i h, holds.whole-of (s .policy) (s .width) (heldOf s l i) (c .whole .inputs i h .hold) .0 .count))
+      subst (λ (x : Slot). x .hold .peaks ≤ length (part (i * 600) k (l .peaks))) (sym is-slot)
+      (omega (arith, ap (λ (x : ℕ). length (part (i * 600) x (l .peaks))) is-k, held-lags s l (c .fitting) i h, holds.whole-of (s .policy) (s .width) (heldOf s l i) (c .whole .inputs i h .hold) .0 .count))
 
-  pub lags-within : i * 600 + 600 ≤ length (l .lags)
-  lags-within = omega (arith, block-within i (s .count) 600 h, c .fitting .long .lags)
+  pub lags-within : i * 600 + 600 ≤ length (l .peaks)
+  lags-within = omega (arith, block-within i (s .count) 600 h, c .fitting .long .peaks)
 
 -- ---- the whole status
 module _ (s : Inputs) (l : Lists) (i applied channels : ℕ) {slot : Slot} (is-slot : slot ≡ slotAt s i) where
   pub status-by : {code shown k : ℕ} {source : Sourced} {w : LagWindow} {arrival : Arrival} {worst proposed : Milliseconds} {extra effective last : Float}
       → source ≡ sourceOf s (slot .route)
-      → w ≡ windowIn s slot
+      → w ≡ windowIn (s .policy) (s .width) slot
       → arrival ≡ arrivalIn (partOf i (lent w [] [] (l .counts)))
       → k ≡ 600
-      → worst ≡ worstMs slot (part (i * 600) k (l .lags))
+      → worst ≡ worstMs slot (part (i * 600) k (l .peaks))
       → proposed ≡ proposedMs (slot .proposed)
       → code ≡ stateNumber (slot .state)
       → shown ≡ channelsShown (slot .state) channels
@@ -103,7 +104,7 @@ module _ (s : Inputs) (l : Lists) (i applied channels : ℕ) {slot : Slot} (is-s
         reopens = slot .reopens;
       })
       (statusOf s l i applied channels)
-  unfolding statusFor arrivalIn
+  unfolding statusFor arrivalIn bucketsIn
   status-by is-source is-window is-arrival is-k is-worst is-proposed is-code is-shown is-extra is-effective is-last =
       (λ t. record {
         number = 0;
@@ -116,7 +117,7 @@ module _ (s : Inputs) (l : Lists) (i applied channels : ℕ) {slot : Slot} (is-s
         «proposed_delay_ms» = is-proposed t;
         «lag_ms» = is-last t;
         «arrival_lag_ms» = (is-arrival ∙ (λ u. arrivalIn (partOf i (lent (is-window u) [] [] (l .counts))))) t;
-        «worst_lag_ms» = (is-worst ∙ (λ u. worstMs slot (part (i * 600) (is-k u) (l .lags)))) t;
+        «worst_lag_ms» = (is-worst ∙ (λ u. worstMs slot (part (i * 600) (is-k u) (l .peaks)))) t;
         «delay_changes» = slot .«delay_changes»;
         «late_events» = slot .«late_events»;
         reopens = slot .reopens;

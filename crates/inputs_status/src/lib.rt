@@ -6,7 +6,9 @@ ghost use Rattle.rules_record.specs.declared.Commands.the-variants.{Absent};
 ghost use Rattle.rules_record.specs.Checks.{inputNumber};
 ghost use Rattle.rules_calls.specs.StatusChecks.{statusNumber, channelsNumber, settledNumber};
 ghost use Rattle.rules_calls.specs.Status.{noStatus, statusReply};
-ghost use Rattle.rules_calls.specs.StatusAnswers.{restedFor, settledSlot, hasChannelsReply, settledReply};
+ghost use Rattle.delay_hold.specs.Steps5To8.{heldSince};
+ghost use Rattle.rules_calls.specs.HasChannels.{hasChannelsReply};
+ghost use Rattle.rules_calls.specs.Settled.{settledSlot, settledReply};
 use delay_hold::Moment;
 use rules_calls::Answer;
 use rules_calls::Arrival;
@@ -20,9 +22,6 @@ use rules_record::Inputs;
 use rules_record::Slot;
 
 mod shown;
-
-// The number of a running input's state.
-const RUNNING: u32 = 2;
 
 // The most channels of a reader (check 10).
 const CHANNELS: u32 = 64;
@@ -227,7 +226,7 @@ pub fn has_channels(
     }
     let slot = inputs_slots::slot_at(inputs, input);
     let state = slot.state;
-    if inputs_slots::code(state) != RUNNING {
+    if inputs_slots::code(state) != inputs_slots::RUNNING {
         return Answer {
             number,
             value: false,
@@ -241,7 +240,7 @@ pub fn has_channels(
 
 // No SetDelay within the last hold: age at least hold, or none ever.
 fn rested(last_set: Moment, hold: u64, time: u64) -> bool
-    ensures { λ r. ⌜ r ≡ restedFor «last_set» hold time ⌝ }
+    ensures { λ r. ⌜ r ≡ heldSince «last_set» hold time ⌝ }
 {
     let Moment::At(set) = last_set else {
         return true;
@@ -253,7 +252,7 @@ fn settled_slot(slot: Slot, hold: u64, time: u64) -> bool
     ensures { λ r. ⌜ r ≡ settledSlot slot hold time ⌝ }
 {
     let state = slot.state;
-    if inputs_slots::code(state) != RUNNING {
+    if inputs_slots::code(state) != inputs_slots::RUNNING {
         return false;
     }
     let last_set = slot.last_set;

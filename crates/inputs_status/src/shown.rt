@@ -8,6 +8,7 @@ ghost use Rattle.rules_window.specs.Parts.{partOf};
 ghost use Rattle.rules_record.specs.Lent.{lists};
 ghost use Rattle.rules_calls.specs.Status.{sourceOf, channelsShown, proposedMs, lagMs, worstMs, arrivalOf, arrivalIn, statusOf};
 ghost use Rattle.inputs_status.specs.StatusAsked.{Countable, Showable};
+use delay_hold::DelayHold;
 use delay_hold::Lag;
 use doubles::ms;
 use lag_window::LagWindow;
@@ -23,9 +24,6 @@ use rules_record::Routed;
 use rules_record::Slot;
 use rules_record::State;
 use rules_window::Quantile;
-
-// The peaks that are kept of an input.
-const PEAKS: usize = 600;
 
 // No lag is above this: a quantile without a limit.
 const NO_LIMIT: u32 = 4_294_967_295;
@@ -48,7 +46,7 @@ fn source_of(inputs: Inputs, to: Routed) -> Sourced
 fn channels_shown(state: State, channels: u32) -> u32
     ensures { λ r. ⌜ r ≡ channelsShown state channels ⌝ }
 {
-    if inputs_slots::code(state) == 0 {
+    if inputs_slots::code(state) == inputs_slots::UNROUTED {
         return 0;
     }
     channels
@@ -139,10 +137,10 @@ pub(crate) fn status(
     let proposed = slot.proposed;
     let extra_delay = config.extra_delay;
     let source = source_of(inputs, to);
-    let window = inputs_window::core::window_in(inputs, slot);
+    let window = inputs_window::core::window_in(policy, inputs.width, slot);
     let arrival_lag_ms = arrival(window, i, counts);
-    let from = i * PEAKS;
-    let end = from + PEAKS;
+    let from = i * DelayHold::PLACES;
+    let end = from + DelayHold::PLACES;
     let worst_lag_ms = worst_ms(slot, &peaks[from..end]);
     let proposed_delay_ms = proposed_ms(proposed);
     InputStatus {

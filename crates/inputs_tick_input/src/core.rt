@@ -5,7 +5,7 @@ ghost use Prim.Native.Nat.{ℕ, _+_, _<_, _≤_, _^_};
 ghost use lib.ListN.{length};
 ghost use Rattle.base.specs.Limits.{timeLimit};
 ghost use Rattle.rules_record.specs.declared.Inputs.{Inputs};
-ghost use Rattle.rules_record.specs.Slots.{stateNumber};
+ghost use Rattle.rules_record.specs.States.{stateNumber};
 ghost use Rattle.rules_record.specs.Inputs.{slotAt, putSlot};
 ghost use Rattle.rules_record.specs.Sized.{Sized};
 ghost use Rattle.rules_record.specs.Commands.{Did, quiet};
@@ -14,17 +14,13 @@ ghost use Rattle.rules_record.specs.Lent.{lists};
 ghost use Rattle.rules_record.specs.Effects.{Effected};
 ghost use Rattle.rules_tick.specs.Tick.{looked, tickedInput};
 ghost use Rattle.rules_tick.specs.TickAsked.{InputAsked};
+use inputs_watch::Found;
 use rules_record::Inode;
 use rules_record::Inputs;
-use rules_record::Routed;
 use rules_record::Sent;
 use rules_record::Slot;
+use rules_record::State;
 use rules_tick::Look;
-
-// The number of a waiting input's state, and of a running one's; those above it watch too.
-const WAITING: u32 = 1;
-
-const RUNNING: u32 = 2;
 
 // A waiting input opens, a running or stalled one watches.
 fn look_at(
@@ -40,16 +36,17 @@ fn look_at(
 {
     let slot = inputs_slots::slot_at(inputs, i);
     let state = slot.state;
-    let code = inputs_slots::code(state);
     let world = look.world;
-    if code == WAITING {
-        return inputs_try_open::core::try_open(inputs, i, time, world, commands, used);
+    match state {
+        State::Unrouted => Sent { inputs, used },
+        State::Waiting => {
+            inputs_try_open::core::try_open(inputs, i, time, world, commands, used)
+        }
+        State::Running | State::Stalled => {
+            let seen = look.seen;
+            inputs_watch::core::watch(inputs, i, time, seen, world, commands, used)
+        }
     }
-    if code < RUNNING {
-        return Sent { inputs, used };
-    }
-    let seen = look.seen;
-    inputs_watch::core::watch(inputs, i, time, seen, world, commands, used)
 }
 
 // Is an input with this slot neither opened nor watched? It has no route, or it waits for an inode.
@@ -58,10 +55,10 @@ fn rests(slot: Slot, look: Look) -> bool
 {
     let state = slot.state;
     let code = inputs_slots::code(state);
-    if RUNNING <= code {
+    if inputs_slots::RUNNING <= code {
         return false;
     }
-    if code != WAITING {
+    if code != inputs_slots::WAITING {
         return true;
     }
     let world = look.world;
@@ -78,29 +75,18 @@ fn moves(slot: Slot, look: Look) -> bool
 {
     let state = slot.state;
     let code = inputs_slots::code(state);
-    if code < RUNNING {
+    if code < inputs_slots::RUNNING {
         return false;
     }
     let to = slot.route;
-    let Routed::To(_) = to else {
-        return false;
-    };
-    let seen = look.seen;
-    let Inode::Of(inode) = seen else {
-        return false;
-    };
     let stored = slot.inode;
-    let Inode::Of(mine) = stored else {
-        return false;
-    };
-    if mine != inode {
-        return false;
-    }
+    let seen = look.seen;
     let world = look.world;
-    if world.head == slot.last_head {
-        return false;
+    let found = inputs_watch::finds(to, seen, stored, slot.last_head, world.head);
+    match found {
+        Found::Moved => true,
+        _ => false,
     }
-    true
 }
 
 // Input i: its lags arrive, a late event counts, it opens or watches, and its automatic delay decides.

@@ -23,7 +23,7 @@ fn opened(slot: Slot, inode: u64, head: u64, time: u64) -> Slot
 {
     let runs = crate::running(slot, inode, head, time);
     let state = slot.state;
-    if inputs_slots::code(state) == 1 {
+    if inputs_slots::code(state) == inputs_slots::WAITING {
         return runs;
     }
     inputs_slots::with_reopens(runs, slot.reopens + 1)

@@ -26,7 +26,7 @@ fn running(slot: Slot, inode: u64, head: u64, time: u64) -> Slot
 {
     let placed = inputs_slots::with_inode(slot, Inode::Of(inode));
     let state = slot.state;
-    if inputs_slots::code(state) == 3 {
+    if inputs_slots::code(state) == inputs_slots::STALLED {
         return inputs_slots::with_head(placed, head, slot.head_changed);
     }
     let runs = inputs_slots::with_state(placed, State::Running);
@@ -41,7 +41,7 @@ fn starts(slot: Slot) -> bool
         return false;
     }
     let state = slot.state;
-    if inputs_slots::code(state) != 1 {
+    if inputs_slots::code(state) != inputs_slots::WAITING {
         return false;
     }
     slot.delay == 0

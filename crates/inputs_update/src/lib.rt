@@ -2,7 +2,7 @@
 ghost use mathlib.Core.Path.{_≡_};
 ghost use Rattle.rules_record.specs.Lent.{lists};
 ghost use Rattle.rules_calls.specs.UpdateChecks.{manualFits, kindFits, updateNumber};
-ghost use Rattle.rules_record.specs.Reply.{left};
+ghost use Rattle.rules_record.specs.Reply.{leftInputs};
 ghost use Rattle.rules_calls.specs.UpdateReply.{updateReply, confirmReply};
 use rules_record::ExtraDelay;
 use rules_record::Inputs;
@@ -80,7 +80,7 @@ pub fn update(
     peaks: &mut [u32],
     commands: &mut [u32],
 ) -> InputsAnswer
-    ensures { λ r. ⌜ left r (lists (now (starts .exit)) (now (totals .exit)) (now (counts .exit)) (now (times .exit)) (now (peaks .exit))) (now (commands .exit)) ≡ updateReply inputs (lists (now (starts .entry)) (now (totals .entry)) (now (counts .entry)) (now (times .entry)) (now (peaks .entry))) (now (commands .entry)) input kind time ⌝ }
+    ensures { λ r. ⌜ leftInputs r (lists (now (starts .exit)) (now (totals .exit)) (now (counts .exit)) (now (times .exit)) (now (peaks .exit))) (now (commands .exit)) ≡ updateReply inputs (lists (now (starts .entry)) (now (totals .entry)) (now (counts .entry)) (now (times .entry)) (now (peaks .entry))) (now (commands .entry)) input kind time ⌝ }
 {
     let number = update_number(
         inputs,
@@ -134,7 +134,7 @@ pub fn confirm_delay(
     peaks: &[u32],
     commands: &mut [u32],
 ) -> InputsAnswer
-    ensures { λ r. ⌜ left r (lists (now (starts .entry)) (now (totals .entry)) (now (counts .entry)) (now (times .entry)) (now (peaks .entry))) (now (commands .exit)) ≡ confirmReply inputs (lists (now (starts .entry)) (now (totals .entry)) (now (counts .entry)) (now (times .entry)) (now (peaks .entry))) (now (commands .entry)) input time ⌝ }
+    ensures { λ r. ⌜ leftInputs r (lists (now (starts .entry)) (now (totals .entry)) (now (counts .entry)) (now (times .entry)) (now (peaks .entry))) (now (commands .exit)) ≡ confirmReply inputs (lists (now (starts .entry)) (now (totals .entry)) (now (counts .entry)) (now (times .entry)) (now (peaks .entry))) (now (commands .entry)) input time ⌝ }
 {
     let number = inputs_checks::input_checks(
         inputs,

@@ -2,8 +2,10 @@
 ghost use mathlib.Core.Path.{_≡_};
 ghost use Prim.Native.Nat.{_<_, _≤_};
 ghost use lib.ListN.{length};
+ghost use Rattle.base.specs.Limits.{counterLimit};
 ghost use Rattle.base.specs.Lists.{padded};
-ghost use Rattle.rules_calls.specs.Update.{kindStored, taken, delaySet};
+ghost use Rattle.rules_calls.specs.Update.{kindStored, delaySet};
+ghost use Rattle.rules_calls.specs.ConfirmDelay.{taken};
 use rules_record::ExtraDelay;
 use rules_record::InputConfig;
 use rules_record::Inputs;
@@ -21,7 +23,7 @@ pub(crate) fn with_kind(slot: Slot, kind: ExtraDelay) -> Slot
 
 // The proposal is taken: one delay change more.
 pub(crate) fn taken(slot: Slot) -> Slot
-    requires { ⌜ slot .«delay_changes» < 9223372036854775808 ⌝ }
+    requires { ⌜ slot .«delay_changes» < counterLimit ⌝ }
     ensures { λ r. ⌜ r ≡ taken slot ⌝ }
 {
     let rest = inputs_slots::with_proposed(slot, Proposal::Nothing);

@@ -4,10 +4,12 @@ ghost use Prim.Native.Nat.{_+_, _<_, _≤_, _^_};
 ghost use lib.ListN.{length};
 ghost use Rattle.rules_record.specs.Inputs.{slotAt};
 ghost use Rattle.rules_record.specs.Commands.{Did};
-ghost use Rattle.rules_routing.specs.Watch.{lostSlot, watchSame, watchOf};
+ghost use Rattle.rules_routing.specs.Watch.{lostSlot, watchOf};
+ghost use Rattle.inputs_watch.specs.declared.Found.the-variants.{Still};
+ghost use Rattle.inputs_watch.specs.WatchInPlace.{watchFound};
+use super::Found;
 use rules_record::Inode;
 use rules_record::Inputs;
-use rules_record::Routed;
 use rules_record::Sent;
 use rules_record::Slot;
 use rules_record::State;
@@ -22,8 +24,8 @@ fn lost(slot: Slot) -> Slot
     inputs_slots::with_reopens(waits, slot.reopens + 1)
 }
 
-// The inode is the same: the head moved, or stands still.
-fn watch_head(
+// The head stands still. The flow may have been re-created under the same inode: after `stall` it is opened again once.
+fn watch_still(
     inputs: Inputs,
     i: usize,
     slot: Slot,
@@ -33,15 +35,9 @@ fn watch_head(
     used: usize,
 ) -> Sent
     requires { ⌜ (used + 6 ≤ length (now commands)) × (i < 16) × (slotAt inputs i .reopens < 2 ^ 63) × (slot .reopens < 2 ^ 63) ⌝ }
-    ensures { λ r. ⌜ Did 6 (watchSame slot inputs i time world) r (now (commands .entry)) (now (commands .exit)) used ⌝ }
+    ensures { λ r. ⌜ Did 6 (watchFound Still slot inputs i time world) r (now (commands .entry)) (now (commands .exit)) used ⌝ }
 {
-    if world.head != slot.last_head {
-        let seen = crate::moved(slot, world.head, time);
-        let all = inputs_slots::put_slot(inputs, i, seen);
-        return Sent { inputs: all, used };
-    }
     if crate::stalls(slot, time, inputs.stall) {
-        // The flow may have been re-created under the same inode: it is opened again once.
         let stalled = inputs_slots::with_state(slot, State::Stalled);
         let all = inputs_slots::put_slot(inputs, i, stalled);
         return inputs_try_open::core::try_open(all, i, time, world, commands, used);
@@ -64,30 +60,33 @@ pub fn watch(
 {
     let slot = inputs_slots::slot_at(inputs, i);
     let to = slot.route;
-    let Routed::To(_) = to else {
-        return Sent { inputs, used };
-    };
-    let Inode::Of(inode) = seen else {
-        let next = inputs_commands::core::send(
-            commands,
-            used,
-            inputs_commands::core::CLEAR_INPUT,
-            i,
-            0,
-        );
-        let waits = lost(slot);
-        let all = inputs_slots::put_slot(inputs, i, waits);
-        return Sent {
-            inputs: all,
-            used: next,
-        };
-    };
     let stored = slot.inode;
-    let Inode::Of(mine) = stored else {
-        return inputs_try_open::core::try_open(inputs, i, time, world, commands, used);
-    };
-    if mine != inode {
-        return inputs_try_open::core::try_open(inputs, i, time, world, commands, used);
+    let found = crate::finds(to, seen, stored, slot.last_head, world.head);
+    match found {
+        Found::Unwatched => Sent { inputs, used },
+        Found::Lost => {
+            let next = inputs_commands::core::send(
+                commands,
+                used,
+                inputs_commands::core::CLEAR_INPUT,
+                i,
+                0,
+            );
+            let waits = lost(slot);
+            let all = inputs_slots::put_slot(inputs, i, waits);
+            Sent {
+                inputs: all,
+                used: next,
+            }
+        }
+        Found::Created => {
+            inputs_try_open::core::try_open(inputs, i, time, world, commands, used)
+        }
+        Found::Moved => {
+            let moved = crate::moved(slot, world.head, time);
+            let all = inputs_slots::put_slot(inputs, i, moved);
+            Sent { inputs: all, used }
+        }
+        Found::Still => watch_still(inputs, i, slot, time, world, commands, used),
     }
-    watch_head(inputs, i, slot, time, world, commands, used)
 }

@@ -6,15 +6,15 @@ use mathlib.Core.List.{List, []}
 use lib.Ieee.{Float}
 use lib.ListN.{length}
 use Rattle.base.specs.Lists.{part, patched}
+use Rattle.base.proofs.Patch.{part-long}
 use Rattle.lag_window.specs.declared.LagWindow.{LagWindow}
 use Rattle.rules_window.specs.declared.Quantile.{Quantile}
 use Rattle.rules_window.specs.Window.{Window}
 use Rattle.lag_window.specs.Lent.{lent}
-use Rattle.rules_window.specs.Whole.{wholeWindow, Shaped, Sound}
+use Rattle.rules_window.specs.WholeWindow.{wholeWindow, Shaped, Sound}
 use Rattle.rules_window.specs.Checks.{roomFor}
 use Rattle.rules_window.specs.Quantile.{quantileUpto, Placeable, ShortRows}
-use Rattle.rules_window.specs.Parts.{partOf, placed, Held}
-use Rattle.rules_window.proofs.Padding.{part-length}
+use Rattle.rules_window.specs.Parts.{partOf, placed, PartsIn}
 use Rattle.rules_window.proofs.Parting.{held-shaped, held-sound}
 
 -- ---- the parts as the code makes them: k is 11, and n is 11 rows
@@ -26,13 +26,13 @@ module _ (j : ℕ) (w : LagWindow) (s t c : List ℕ) (k n : ℕ) (ek : k ≡ 11
   is-part : passed ≡ partOf j (lent w s t c)
   is-part = rw (ek, en)
 
-  pub part-shaped : Held j (lent w s t c) → Shaped passed
+  pub part-shaped : PartsIn j (lent w s t c) → Shaped passed
   part-shaped h = rw is-part (held-shaped j (lent w s t c) h)
 
   pub part-whole : (r : Bool) → r ≡ wholeWindow passed → r ≡ wholeWindow (partOf j (lent w s t c))
   part-whole r e = rw is-part at e
 
-  pub part-push-asks : (time : ℕ) (lags : List ℕ) → Held j (lent w s t c) → time ≤ 4000000000000000000 → wholeWindow (partOf j (lent w s t c)) ≡ true → roomFor time (length lags) (partOf j (lent w s t c)) ≡ true → (Sound passed) × ((time ≤ 4000000000000000000) × (roomFor time (length lags) passed ≡ true))
+  pub part-push-asks : (time : ℕ) (lags : List ℕ) → PartsIn j (lent w s t c) → time ≤ 4000000000000000000 → wholeWindow (partOf j (lent w s t c)) ≡ true → roomFor time (length lags) (partOf j (lent w s t c)) ≡ true → (Sound passed) × ((time ≤ 4000000000000000000) × (roomFor time (length lags) passed ≡ true))
   part-push-asks time lags h soon wh room = (rw is-part (held-sound j (lent w s t c) h wh), (soon, subst (λ (v : Window). roomFor time (length lags) v ≡ true) (sym is-part) room))
 
   -- the lists of all inputs after a step on this part
@@ -50,7 +50,7 @@ module _ (j : ℕ) (w : LagWindow) (s t c : List ℕ) (k n : ℕ) (ek : k ≡ 11
 -- ---- the counts alone
 module _ (q : Float) (limit : ℕ) (j : ℕ) (w : LagWindow) (c : List ℕ) (n : ℕ) (en : n ≡ 11 * w .buckets) where
   pub part-quantile-asks : (w .seconds ≤ 11) × (w .buckets ≤ 4096) × (1 ≤ w .width) × (w .width ≤ 4800) → j * (11 * w .buckets) + 11 * w .buckets ≤ length c → Placeable q limit (partOf j (lent w [] [] c)) × ShortRows (w .buckets) (w .seconds) (part (j * (11 * w .buckets)) (11 * w .buckets) c) → ((w .seconds ≤ 11) × (w .buckets ≤ 4096) × (1 ≤ w .width) × (w .width ≤ 4800)) × ((length (part (j * (11 * w .buckets)) n c) ≡ 11 * w .buckets) × (Placeable q limit (lent w [] [] (part (j * (11 * w .buckets)) n c)) × ShortRows (w .buckets) (w .seconds) (part (j * (11 * w .buckets)) n c)))
-  part-quantile-asks sizes h p = rw en (sizes, (part-length (j * (11 * w .buckets)) (11 * w .buckets) c h, p))
+  part-quantile-asks sizes h p = rw en (sizes, (part-long (j * (11 * w .buckets)) (11 * w .buckets) c h, p))
 
   pub part-quantile : (r : Quantile) → r ≡ quantileUpto q limit (lent w [] [] (part (j * (11 * w .buckets)) n c)) → r ≡ quantileUpto q limit (partOf j (lent w [] [] c))
   part-quantile r e = rw en at e

@@ -10,32 +10,31 @@ ghost use Rattle.policy.specs.Settings.{Sound};
 ghost use Rattle.rules_window.specs.Window.{cleared, pushedAll};
 ghost use Rattle.lag_window.specs.Lent.{lent};
 ghost use Rattle.inputs_window.specs.Windows.{windowIn};
-ghost use Rattle.rules_window.specs.Whole.{wholeWindow};
+ghost use Rattle.rules_window.specs.WholeWindow.{wholeWindow};
 ghost use Rattle.rules_window.specs.Checks.{roomFor};
 ghost use Rattle.rules_window.specs.Quantile.{quantileUpto, Placeable, ShortRows};
-ghost use Rattle.rules_window.specs.Parts.{partOf, placed, Held};
+ghost use Rattle.rules_window.specs.Parts.{partOf, placed, PartsIn};
 use lag_window::LagWindow;
-use rules_record::Inputs;
+use policy::DelayPolicy;
 use rules_record::Slot;
 use rules_window::Quantile;
 
-// The window of the input with this slot.
-pub fn window_in(inputs: Inputs, slot: Slot) -> LagWindow
-    requires { ⌜ Sound (inputs .policy) × (1 ≤ inputs .width) ⌝ }
-    ensures { λ r. ⌜ r ≡ windowIn inputs slot ⌝ }
+// The window of the input with this slot. The record itself is not handed on: it would be copied for each input.
+pub fn window_in(policy: DelayPolicy, width: u32, slot: Slot) -> LagWindow
+    requires { ⌜ Sound policy × (1 ≤ width) ⌝ }
+    ensures { λ r. ⌜ r ≡ windowIn policy width slot ⌝ }
 {
-    let policy = inputs.policy;
-    let buckets = lag_rows::core::buckets_of(policy.read_offset, policy.delay_max, inputs.width);
+    let buckets = lag_rows::core::buckets_of(policy.read_offset, policy.delay_max, width);
     LagWindow {
         seconds: slot.lag_seconds,
         buckets,
-        width: inputs.width,
+        width,
     }
 }
 
 // Whether the window of input j is whole (check 6).
 pub fn whole(window: LagWindow, j: usize, starts: &[u64], totals: &[u64], counts: &[u32]) -> bool
-    requires { ⌜ Held j (lent window (now starts) (now totals) (now counts)) ⌝ }
+    requires { ⌜ PartsIn j (lent window (now starts) (now totals) (now counts)) ⌝ }
     ensures { λ r. ⌜ r ≡ wholeWindow (partOf j (lent window (now (starts .entry)) (now (totals .entry)) (now (counts .entry)))) ⌝ }
 {
     let a = j * LagWindow::SECONDS;
@@ -73,7 +72,7 @@ pub fn push_all(
     totals: &mut [u64],
     counts: &mut [u32],
 ) -> LagWindow
-    requires { ⌜ Held j (lent window (now starts) (now totals) (now counts)) ⌝ }
+    requires { ⌜ PartsIn j (lent window (now starts) (now totals) (now counts)) ⌝ }
     requires { ⌜ wholeWindow (partOf j (lent window (now starts) (now totals) (now counts))) ≡ true ⌝ }
     requires { ⌜ time ≤ 4000000000000000000 ⌝ }
     requires { ⌜ roomFor time (length (now lags)) (partOf j (lent window (now starts) (now totals) (now counts))) ≡ true ⌝ }
@@ -102,7 +101,7 @@ pub fn clear(
     totals: &mut [u64],
     counts: &mut [u32],
 ) -> LagWindow
-    requires { ⌜ Held j (lent window (now starts) (now totals) (now counts)) ⌝ }
+    requires { ⌜ PartsIn j (lent window (now starts) (now totals) (now counts)) ⌝ }
     ensures { λ r. ⌜ lent r (now (starts .exit)) (now (totals .exit)) (now (counts .exit)) ≡ placed j (cleared (partOf j (lent window (now (starts .entry)) (now (totals .entry)) (now (counts .entry))))) (lent window (now (starts .entry)) (now (totals .entry)) (now (counts .entry))) ⌝ }
 {
     let a = j * LagWindow::SECONDS;

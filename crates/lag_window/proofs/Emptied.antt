@@ -4,7 +4,7 @@ use mathlib.Core.List.{List}
 use Prim.Native.Nat.{ℕ}
 use lib.ListN.{length, replicate}
 use Rattle.rules_window.specs.Window.{fresh, cleared}
-use Rattle.rules_window.specs.Whole.{Shaped}
+use Rattle.rules_window.specs.WholeWindow.{Shaped}
 use Rattle.lag_window.specs.declared.LagWindow.{LagWindow}
 use Rattle.lag_window.specs.Lent.{lent}
 

@@ -6,11 +6,12 @@ use mathlib.Core.List.{List}
 use native.Mathlib.Omega.{arith}
 use lib.ListN.{length, getD}
 use Rattle.base.specs.Lists.{sumFrom, rowSum}
+use Rattle.base.specs.Limits.{timeLimit, windowReach}
 use Rattle.base.proofs.Points.{sum-at-le}
 use Rattle.lag_window.specs.declared.LagWindow.{LagWindow}
 use Rattle.rules_window.specs.Window.{Window, opens, bucketOf, counted, pushed}
 use Rattle.lag_window.specs.Lent.{lent}
-use Rattle.rules_window.specs.Whole.{Sound}
+use Rattle.rules_window.specs.WholeWindow.{Sound}
 use Rattle.rules_window.specs.InPlace.{droppedInPlace, openedInPlace, pushedInPlace}
 use Rattle.rules_window.specs.Checks.{newest}
 use Rattle.rules_window.proofs.WholeAt.{Whole, whole-of}
@@ -30,13 +31,13 @@ module _ (time : ℕ) (w : LagWindow) (s t c : List ℕ) (sound : Sound (lent w 
     dropped-is : Whole (lent w1 s1 t1 c1)
     dropped-is = subst Whole (sym e1) (dropped-whole time (lent w s t c) (whole-of (lent w s t c) sound))
 
-    near-is : 0 < w1 .seconds → time - getD s1 0 0 ≤ 10000000000
-    near-is = subst (λ (v : Window). 0 < v .seconds → time - getD (v .starts) 0 0 ≤ 10000000000) (sym e1) (near time (lent w s t c) (whole-of (lent w s t c) sound))
+    near-is : 0 < w1 .seconds → time - getD s1 0 0 ≤ windowReach
+    near-is = subst (λ (v : Window). 0 < v .seconds → time - getD (v .starts) 0 0 ≤ windowReach) (sym e1) (near time (lent w s t c) (whole-of (lent w s t c) sound))
 
     pub open-asks : (w1 .seconds ≤ length s1) × (opens time (w1 .seconds) s1 ≡ true → w1 .seconds < length s1)
     open-asks = (omega (arith, dropped-is .few, dropped-is .ls), λ o. omega (arith, dropped-is .ls, open-fits time (lent w1 s1 t1 c1) dropped-is near-is o))
 
-    module _ (lag : ℕ) (soon : time ≤ 4000000000000000000) (room : newest time (lent w s t c) < 4294967295) (w2 : LagWindow) (s2 : List ℕ) (e2 : (x y : List ℕ) → lent w2 s2 x y ≡ openedInPlace time (lent w1 s1 x y)) where
+    module _ (lag : ℕ) (soon : time ≤ timeLimit) (room : newest time (lent w s t c) < 4294967295) (w2 : LagWindow) (s2 : List ℕ) (e2 : (x y : List ℕ) → lent w2 s2 x y ≡ openedInPlace time (lent w1 s1 x y)) where
       opened-is : Whole (lent w2 s2 t1 c1)
       opened-is = subst Whole (sym (e2 t1 c1)) (opened-whole time (lent w1 s1 t1 c1) dropped-is soon near-is)
 

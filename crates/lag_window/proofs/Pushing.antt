@@ -11,6 +11,7 @@ use mir.Val.{Fits}
 use lib.Dec.{leb}
 use lib.ListN.{length, getD, set}
 use Rattle.base.specs.Lists.{shifted}
+use Rattle.base.specs.Limits.{nanos}
 use Rattle.base.proofs.Choices.{by-le}
 use Rattle.base.proofs.Flat.{row-le, flat-lt}
 use Rattle.base.proofs.Toward.{shifted-zero}
@@ -19,7 +20,7 @@ use Rattle.rules_window.specs.Window.{stale, opens, bucketOf, counted}
 use Rattle.lag_window.specs.Lent.{lent}
 use Rattle.rules_window.specs.InPlace.{droppedInPlace, openedInPlace}
 use Rattle.rules_window.specs.Checks.{newestOf, roomOf}
-use Rattle.rules_window.proofs.Stales.{stale-le}
+use Rattle.rules_window.proofs.Stales.{stale-le, opens-used}
 
 -- ---- old seconds go: k of them
 module _ (t n : ℕ) (xs : List ℕ) (k : ℕ) (e : k ≡ stale t n xs) where
@@ -38,9 +39,9 @@ unfolding droppedInPlace
 dropped-none w time k s t c e z = rw (← e, z, zero-mul, sub-zero, shifted-zero, shifted-zero, shifted-zero)
 
 -- ---- a second opens
-pub opens-some : (time n : ℕ) (xs : List ℕ) (a : ℕ) → (n ≡ 0 → ⊥) → a ≡ time - getD xs (n - 1) 0 → leb 1000000000 a ≡ opens time n xs
+pub opens-some : (time n : ℕ) (xs : List ℕ) (a : ℕ) → (n ≡ 0 → ⊥) → a ≡ time - getD xs (n - 1) 0 → leb nanos a ≡ opens time n xs
 opens-some time zero xs a h e = absurd (h refl)
-opens-some time (suc n) xs a h e = let q : suc n - 1 ≡ n = omega arith in ap (leb 1000000000) (rw q at e)
+opens-some time (suc n) xs a h e = let q : suc n - 1 ≡ n = omega arith in ap (leb nanos) (rw q at e)
 
 pub open-room : (r o : Bool) (n l : ℕ) → (o ≡ true → n < l) → r ≡ o → r ≡ true → n < l
 open-room r o n l f e h = f (sym e ∙ h)
@@ -71,15 +72,12 @@ unfolding counted
 counted-by w lag p t c e s = rw e
 
 -- ---- the newest total
-used : (t n : ℕ) (xs : List ℕ) → opens t n xs ≡ false → 0 < n
-used t zero xs e = let z : _≡_ {A = ℕ} 0 1 = cc in omega arith
-used t (suc n) xs e = omega arith
 
 pub newest-used : (t n : ℕ) (xs : List ℕ) (r : Bool) → r ≡ opens t n xs → r ≡ false → 1 ≤ n
-newest-used t n xs r e h = used t n xs (sym e ∙ h)
+newest-used t n xs r e h = opens-used t n xs (sym e ∙ h)
 
 pub newest-in : (t n : ℕ) (xs ts : List ℕ) (r : Bool) → r ≡ opens t n xs → r ≡ false → n ≤ length ts → n - 1 < length ts
-newest-in t n xs ts r e h l = omega (arith, used t n xs (sym e ∙ h))
+newest-in t n xs ts r e h l = omega (arith, opens-used t n xs (sym e ∙ h))
 
 pub newest-opens : (t n : ℕ) (xs ts : List ℕ) (r : Bool) → r ≡ opens t n xs → r ≡ true → 0 ≡ newestOf t n xs ts
 unfolding newestOf

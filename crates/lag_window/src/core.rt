@@ -7,7 +7,7 @@ ghost use lib.Dec.{eqb};
 ghost use lib.ListN.{length, getD};
 ghost use Rattle.base.specs.Lists.{sumFrom};
 ghost use Rattle.rules_window.specs.Window.{cleared, stale, opens, bucketOf, counted, pushed, pushedAll};
-ghost use Rattle.rules_window.specs.Whole.{summed, wholeWindow, Shaped, Sound};
+ghost use Rattle.rules_window.specs.WholeWindow.{summed, wholeWindow, Shaped, Sound};
 ghost use Rattle.rules_window.specs.Checks.{newestOf, newest, roomOf, roomFor};
 ghost use Rattle.rules_window.specs.InPlace.{droppedInPlace, openedInPlace};
 ghost use Rattle.lag_window.specs.Lent.{lent};

@@ -1,9 +1,8 @@
 // The lateness of one input's lags: a histogram for each of the last seconds, over lent lists (document 01, "LagWindow").
 ghost use mathlib.Core.Path.{_≡_};
 ghost use Prim.Native.Nat.{_*_};
-ghost use Rattle.lag_window.specs.Lent.{lent};
+ghost use Rattle.lag_window.specs.Lent.{lent, leftWindow};
 ghost use Rattle.rules_window.specs.Checks.{checked, fromZeroToOne, newNumber, pushNumber, quantileNumber, newReply, pushReply, clearReply, spanReply, quantileUptoReply, quantileReply};
-ghost use Rattle.lag_window.specs.Lent.{left};
 use rules_window::Quantile;
 use rules_window::SpanAnswer;
 
@@ -28,17 +27,10 @@ impl LagWindow {
     pub const SECONDS: usize = 11;
 
     // A second goes once it is older than this: 10 s.
-    pub const LAG_WINDOW: u64 = 10_000_000_000;
+    pub const LAG_WINDOW: u64 = 10 * base::NANOS;
 
     // A second opens once the newest is this old: 1 s.
     pub const SECOND: u64 = base::NANOS;
-
-    // The settings that check 2 lets through: offset and maximum, a bucket's width, and how many buckets.
-    pub(crate) const FARTHEST: u32 = 96_000;
-
-    pub(crate) const WIDEST: u32 = 4_800;
-
-    pub(crate) const MOST_BUCKETS: usize = 4_096;
 
     // The latest time that the calls admit (check 8).
     pub(crate) const LATEST: u64 = base::TIME_LIMIT;
@@ -57,20 +49,20 @@ impl LagWindow {
     ) -> u32
         ensures { λ r. ⌜ r ≡ newNumber offset maximum width starts totals counts ⌝ }
     {
-        if LagWindow::FARTHEST < offset {
+        if base::SAMPLES_LIMIT < offset {
             return 2;
         }
-        if LagWindow::FARTHEST < maximum {
+        if base::SAMPLES_LIMIT < maximum {
             return 2;
         }
         if width < 1 {
             return 2;
         }
-        if LagWindow::WIDEST < width {
+        if base::WIDTH_LIMIT < width {
             return 2;
         }
         let buckets = lag_rows::core::buckets_of(offset, maximum, width);
-        if LagWindow::MOST_BUCKETS < buckets {
+        if base::BUCKETS_LIMIT < buckets {
             return 2;
         }
         if starts != LagWindow::SECONDS {
@@ -94,7 +86,7 @@ impl LagWindow {
         totals: &mut [u64],
         counts: &mut [u32],
     ) -> WindowAnswer
-        ensures { λ r. ⌜ left r (now (starts .exit)) (now (totals .exit)) (now (counts .exit)) ≡ newReply offset maximum width (now (starts .entry)) (now (totals .entry)) (now (counts .entry)) ⌝ }
+        ensures { λ r. ⌜ leftWindow r (now (starts .exit)) (now (totals .exit)) (now (counts .exit)) ≡ newReply offset maximum width (now (starts .entry)) (now (totals .entry)) (now (counts .entry)) ⌝ }
     {
         let number = LagWindow::new_number(
             offset,
@@ -131,13 +123,13 @@ impl LagWindow {
         if self.width < 1 {
             return 2;
         }
-        if LagWindow::WIDEST < self.width {
+        if base::WIDTH_LIMIT < self.width {
             return 2;
         }
         if self.buckets < 2 {
             return 2;
         }
-        if LagWindow::MOST_BUCKETS < self.buckets {
+        if base::BUCKETS_LIMIT < self.buckets {
             return 2;
         }
         if starts.len() != LagWindow::SECONDS {
@@ -181,7 +173,7 @@ impl LagWindow {
         totals: &mut [u64],
         counts: &mut [u32],
     ) -> WindowAnswer
-        ensures { λ r. ⌜ left r (now (starts .exit)) (now (totals .exit)) (now (counts .exit)) ≡ pushReply lag time (lent self (now (starts .entry)) (now (totals .entry)) (now (counts .entry))) ⌝ }
+        ensures { λ r. ⌜ leftWindow r (now (starts .exit)) (now (totals .exit)) (now (counts .exit)) ≡ pushReply lag time (lent self (now (starts .entry)) (now (totals .entry)) (now (counts .entry))) ⌝ }
     {
         let number = self.push_number(time, starts, totals, counts);
         if number != 0 {
@@ -196,7 +188,7 @@ impl LagWindow {
 
     // Forgets every second.
     pub fn clear(self, starts: &mut [u64], totals: &mut [u64], counts: &mut [u32]) -> WindowAnswer
-        ensures { λ r. ⌜ left r (now (starts .exit)) (now (totals .exit)) (now (counts .exit)) ≡ clearReply (lent self (now (starts .entry)) (now (totals .entry)) (now (counts .entry))) ⌝ }
+        ensures { λ r. ⌜ leftWindow r (now (starts .exit)) (now (totals .exit)) (now (counts .exit)) ≡ clearReply (lent self (now (starts .entry)) (now (totals .entry)) (now (counts .entry))) ⌝ }
     {
         let number = self.number(starts, totals, counts);
         if number != 0 {

@@ -5,7 +5,7 @@ use lib.Dec.{T, leb}
 use lib.IntN.{pos}
 use lib.Ieee.{Float, fin, binary64, div, le}
 use Rattle.base.specs.Choice.{both, ask}
-use Rattle.base.specs.Limits.{nanos, spanLimit}
+use Rattle.base.specs.Limits.{nanos, spanLimit, samplesLimit}
 use Rattle.doubles.specs.Doubles.{thousand}
 use Rattle.policy.specs.declared.DelayPolicy.{DelayPolicy}
 use Rattle.policy.specs.declared.Share.{Share}
@@ -13,7 +13,7 @@ use Rattle.policy.specs.declared.Share.the-variants.{Of, Refused}
 
 -- 2: "Are offset and maximum at most 96,000"
 unfoldable pub reachesAllowed : DelayPolicy → Bool
-reachesAllowed p = both (leb (p .«read_offset») 96000) (leb (p .«delay_max») 96000)
+reachesAllowed p = both (leb (p .«read_offset») samplesLimit) (leb (p .«delay_max») samplesLimit)
 
 -- 3: "Are hold and stall at most 600 s, window 1 to 600 s" (a policy has no stall)
 unfoldable pub timesAllowed : DelayPolicy → Bool
@@ -21,13 +21,13 @@ timesAllowed p = both (leb (p .hold) spanLimit) (both (leb nanos (p .window)) (l
 
 -- 4: "Is margin at most 96,000, percent 0 to 1,000 and no NaN": of a policy, the share is from 0 to 10
 unfoldable pub marginsAllowed : DelayPolicy → Bool
-marginsAllowed p = both (leb (p .margin) 96000) (both (le (fin false 0 (pos 0)) (p .«margin_share»)) (le (p .«margin_share») (fin false 5 (pos 1))))
+marginsAllowed p = both (leb (p .margin) samplesLimit) (both (le (fin false 0 (pos 0)) (p .«margin_share»)) (le (p .«margin_share») (fin false 5 (pos 1))))
 
 -- what checks 2 and 4 say of a policy, as facts
 pub record Sound (p : DelayPolicy) : Type 0 where
-  pub offset : p .«read_offset» ≤ 96000
-  pub maximum : p .«delay_max» ≤ 96000
-  pub margins : p .margin ≤ 96000
+  pub offset : p .«read_offset» ≤ samplesLimit
+  pub maximum : p .«delay_max» ≤ samplesLimit
+  pub margins : p .margin ≤ samplesLimit
   pub low : T (le (fin false 0 (pos 0)) (p .«margin_share»))
   pub high : T (le (p .«margin_share») (fin false 5 (pos 1)))
 

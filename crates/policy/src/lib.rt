@@ -33,21 +33,14 @@ pub enum Share {
 }
 
 impl DelayPolicy {
-    // The longest offset and delay, in samples, and the largest margin.
-    pub const MOST_SAMPLES: u32 = 96000;
-    // The longest hold and window: 600 s.
-    pub const MOST_TIME: u64 = 600_000_000_000;
-
-    pub const SECOND: u64 = 1_000_000_000;
-
     // Offset and maximum are at most 96,000 (check 2).
     pub fn reaches_allowed(self) -> bool
         ensures { λ r. ⌜ r ≡ reachesAllowed self ⌝ }
     {
-        if self.read_offset > DelayPolicy::MOST_SAMPLES {
+        if self.read_offset > base::SAMPLES_LIMIT {
             return false;
         }
-        self.delay_max <= DelayPolicy::MOST_SAMPLES
+        self.delay_max <= base::SAMPLES_LIMIT
     }
 
     // Hold is at most 600 s, and window 1 to 600 s (check 3).
@@ -67,7 +60,7 @@ impl DelayPolicy {
     pub fn margins_allowed(self) -> bool
         ensures { λ r. ⌜ r ≡ marginsAllowed self ⌝ }
     {
-        if self.margin > DelayPolicy::MOST_SAMPLES {
+        if self.margin > base::SAMPLES_LIMIT {
             return false;
         }
         if self.margin_share >= 0.0 {

@@ -1,14 +1,12 @@
--- What `route` and `status` come to where they do little, and when an input is settled, in document 01's words. Assumes nothing.
-use Prim.Native.Nat.{ℕ, _+_, _-_, _<_}
+-- What `route` and `status` come to where they do little, in document 01's words. Assumes nothing.
+use Prim.Native.Nat.{ℕ, _-_}
 use mathlib.Core.Bool.{true, false, not}
 use mathlib.Core.Path.{_≡_, refl, sym, ap}
 use mathlib.Core.List.{List}
-use native.Mathlib.Omega.{arith}
 use lib.ListN.{length}
 use Rattle.base.proofs.Choices.{yes-pick, no-pick}
 use Rattle.base.proofs.Points.{true-both}
-use borrow.Author.Tests.{ne-eqb, le-leb, lt-leb}
-use Rattle.delay_hold.specs.declared.Moment.the-variants.{Never, At}
+use borrow.Author.Tests.{ne-eqb}
 use Rattle.rules_record.specs.declared.State.{State}
 use Rattle.rules_record.specs.declared.State.the-variants.{Unrouted, Waiting, Running, Stalled}
 use Rattle.rules_record.specs.declared.Route.{Route}
@@ -28,7 +26,6 @@ use Rattle.rules_calls.specs.Route.{equalRoute, otherFlow, startsOver, z
 use Rattle.rules_calls.specs.RouteChecks.{routeNumber}
 use Rattle.rules_calls.specs.RouteReply.{routeReply}
 use Rattle.rules_calls.specs.Status.{channelsShown, worstMs}
-use Rattle.rules_calls.specs.StatusAnswers.{restedFor}
 use Rattle.rules_calls.proofs.RouteReplies.{route-refused}
 
 -- ---- `route`
@@ -67,15 +64,3 @@ channels-routed Stalled routed channels = refl
 pub worst-of-manual : (slot : Slot) (lags : List ℕ) → isAuto (slot .config .«extra_delay») ≡ false → worstMs slot lags ≡ Milliseconds.None
 unfolding worstMs
 worst-of-manual slot lags manual = no-pick _ _ manual
-
--- ---- settled
--- "no SetDelay went to that input within the last hold (age at least hold, or none ever)": an age of exactly hold is enough
-pub rested-at-hold : (set hold : ℕ) → restedFor (At set) hold (set + hold) ≡ true
-rested-at-hold set hold = le-leb hold (set + hold - set) (omega arith)
-
--- .. and less is not
-pub unrested-before : (set hold time : ℕ) → time - set < hold → restedFor (At set) hold time ≡ false
-unrested-before set hold time soon = lt-leb hold (time - set) soon
-
-pub rested-never : (hold time : ℕ) → restedFor Never hold time ≡ true
-rested-never hold time = refl

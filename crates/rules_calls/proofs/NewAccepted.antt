@@ -7,7 +7,6 @@ use native.Mathlib.Omega.{arith}
 use lib.ListN.{length, getD, replicate}
 use borrow.Author.Tests.{leb-true, eqb-true}
 use Rattle.base.specs.Limits.{timeLimit}
-use Rattle.base.proofs.Choices.{asked}
 use Rattle.base.proofs.Points.{both-true}
 use Rattle.doubles.specs.Doubles.{samplesOf}
 use Rattle.rules_window.specs.Window.{fresh}
@@ -37,7 +36,7 @@ use Rattle.rules_calls.specs.NewLoading.{loadedFlow, loadFits}
 use Rattle.rules_calls.specs.NewStart.{kindAt, zeroedLists, loaded, started, startedBelow}
 use Rattle.rules_calls.specs.NewChecks.{marginFits, settingsNumber, newNumber}
 use Rattle.rules_calls.proofs.NewBlank.{shared-margins, blank-slot, blank-checked, zeroed-starts, zeroed-totals, zeroed-counts, zeroed-times, zeroed-lags}
-use Rattle.rules_calls.proofs.NewNumbers.{number-told}
+use Rattle.rules_calls.proofs.NewNumbers.{number-told, settings-asked}
 use Rattle.rules_calls.proofs.NewLoaded.{Remembers, loaded-rest, loads-below, loaded-keeps, loaded-last}
 use Rattle.rules_calls.proofs.NewStarted.{startedSlot, manualWords, below-rest, below-slot, below-words, below-keeps}
 
@@ -51,23 +50,17 @@ pub record Fit (settings : Settings) (bytes delays : ℕ) (l : Lists) (words : �
 
 module _ (settings : Settings) (l : Lists) (words : ℕ) where
   pub fit-of : (bytes delays rest : ℕ) → settingsNumber settings bytes delays l words rest ≡ 0 → Fit settings bytes delays l words × (rest ≡ 0)
-  unfolding settingsNumber marginFits
+  unfolding marginFits
   fit-of bytes delays rest h =
-      let a = asked 0 _ _ h in
-      let b = asked 1 _ _ (a .1) in
-      let c = asked 2 _ _ (b .1) in
-      let d = asked 3 _ _ (c .1) in
-      let e = asked 4 _ _ (d .1) in
-      let f = asked 4 _ _ (e .1) in
-      let g = asked 4 _ _ (f .1) in
-      let m = both-true _ _ (d .0) in (
+      let a = settings-asked settings bytes delays l words rest h in
+      let m = both-true _ _ (a .3) in (
         record {
-          allowed = allowed-of _ _ _ _ (a .0) (b .0) (c .0) (shared-margins settings (leb-true _ _ (m .0)) (m .1));
-          long = long-of _ _ l (e .0);
-          commands-long = eqb-true _ _ (f .0);
-          bytes-long = eqb-true _ _ (g .0);
+          allowed = allowed-of _ _ _ _ (a .0) (a .1) (a .2) (shared-margins settings (leb-true _ _ (m .0)) (m .1));
+          long = long-of _ _ l (a .4);
+          commands-long = eqb-true _ _ (a .5);
+          bytes-long = eqb-true _ _ (a .6);
         },
-        g .1,
+        a .7,
       )
 
   pub accepted-of : (bytes delays : List ℕ) (time : ℕ) → newNumber settings bytes delays time l words ≡ 0

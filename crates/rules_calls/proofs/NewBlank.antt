@@ -1,14 +1,14 @@
 -- A record with its settings over zeroed lists passes checks 1 to 6: every window is fresh, every hold is, every place is unused. Assumes nothing.
-use Prim.Native.Nat.{ℕ, zero, suc, _-_, _*_, _<_, _≤_}
+use Prim.Native.Nat.{ℕ, _-_, _*_, _<_, _≤_}
 use mathlib.Core.Bool.{true}
 use mathlib.Core.Path.{_≡_, refl, sym, ap, subst, _∙_}
 use native.Mathlib.Omega.{arith}
-use native.Mathlib.Nat.{zero-sub, suc-sub-suc, sub-zero}
-use lib.ListN.{length, getD, take, drop, replicate, length-replicate}
+use lib.ListN.{length, replicate, length-replicate}
 use Rattle.base.specs.Lists.{part}
+use Rattle.base.specs.Limits.{samplesLimit}
 use Rattle.base.proofs.All.{all-none}
 use Rattle.base.proofs.Choices.{pick-all}
-use Rattle.base.proofs.Points.{both-true, true-both}
+use Rattle.base.proofs.Points.{both-true, true-both, replicate-at}
 use lib.Dec.{ltb}
 use borrow.Author.Tests.{le-leb}
 use Rattle.policy.specs.Settings.{marginsAllowed, percentAllowed}
@@ -16,7 +16,7 @@ use Rattle.policy.proofs.Shares.{share-sound}
 use Rattle.doubles.proofs.Values.{is}
 use denote.Floats.{is-true}
 use Rattle.rules_window.specs.Window.{fresh}
-use Rattle.rules_window.specs.Whole.{wholeWindow}
+use Rattle.rules_window.specs.WholeWindow.{wholeWindow}
 use Rattle.delay_hold.specs.Next.{held, freshHold}
 use Rattle.delay_hold.specs.Whole.{wholeHold}
 use Rattle.rules_record.specs.declared.Slot.{Slot}
@@ -29,39 +29,18 @@ use Rattle.rules_record.specs.Flows.{emptyEntry, entryAt, known, distinctFlows}
 use Rattle.rules_record.specs.Instances as keys
 use Rattle.rules_record.specs.Instances.{noKey, keyAt, distinctKeys}
 use Rattle.rules_record.specs.Lent.{Lists, bucketsIn, windowOf, heldOf}
-use Rattle.rules_record.specs.Places.{routeFits}
+use Rattle.rules_record.specs.WholePlaces.{routeFits}
 use Rattle.rules_record.specs.Checks.{Long, Fitting, Allowed}
-use Rattle.rules_record.specs.Facts.{WholeSlot, WholeFlows, WholeInstances}
-use Rattle.rules_record.specs.Facts.{Checked}
-use Rattle.base.proofs.Blocks.{block-within}
+use Rattle.rules_record.specs.Facts.{WholeSlot, WholeFlows, WholeInstances, Checked}
+use Rattle.base.proofs.Blocks.{zeros-block}
 use Rattle.rules_record.proofs.Shapes.{fresh-whole, cleared-whole}
 use Rattle.rules_calls.specs.declared.Settings.{Settings}
 use Rattle.rules_calls.specs.NewRecord.{policyOf, blank, blankFor}
 use Rattle.rules_calls.specs.NewStart.{zeroedLists}
 
--- ---- tables of one value. Of general use: it belongs to base.
-pub replicate-at : {A : Type 0} (n i : ℕ) (a : A) → getD (replicate n a) i a ≡ a
-replicate-at zero i a = refl
-replicate-at (suc n) zero a = refl
-replicate-at (suc n) (suc i) a = replicate-at n i a
-
-zeros-drop : (k m : ℕ) → drop {A = ℕ} k (replicate m 0) ≡ replicate (m - k) 0
-zeros-drop zero m = rw (sub-zero m)
-zeros-drop (suc k) zero = rw (zero-sub (suc k))
-zeros-drop (suc k) (suc m) = rw (suc-sub-suc m k) (zeros-drop k m)
-
-zeros-take : (k m : ℕ) → k ≤ m → take {A = ℕ} k (replicate m 0) ≡ replicate k 0
-zeros-take zero m h = refl
-zeros-take (suc k) zero h = absurd (omega arith)
-zeros-take (suc k) (suc m) h = rw (zeros-take k m (omega arith))
-
--- block i of n blocks of k zeros
-zeros-block : (n k i m : ℕ) → m ≡ n * k → i < n → part (i * k) k (replicate m 0) ≡ replicate k 0
-zeros-block n k i m e h = rw (zeros-drop (i * k) m) (zeros-take k (m - i * k) (omega (arith, block-within i n k h)))
-
 -- ---- checks 1 to 5
 -- 4 of a percent is 4 of its share
-pub shared-margins : (settings : Settings) → settings .margin ≤ 96000 → percentAllowed (settings .percent) ≡ true → marginsAllowed (policyOf settings) ≡ true
+pub shared-margins : (settings : Settings) → settings .margin ≤ samplesLimit → percentAllowed (settings .percent) ≡ true → marginsAllowed (policyOf settings) ≡ true
 unfolding policyOf percentAllowed marginsAllowed
 shared-margins settings margin percent =
     let p = both-true _ _ percent in
@@ -74,7 +53,7 @@ zeroed-long n buckets l long = record {
   totals = length-replicate {A = ℕ} (length (l .totals)) 0 ∙ long .totals;
   counts = length-replicate {A = ℕ} (length (l .counts)) 0 ∙ long .counts;
   times = length-replicate {A = ℕ} (length (l .times)) 0 ∙ long .times;
-  lags = length-replicate {A = ℕ} (length (l .lags)) 0 ∙ long .lags;
+  peaks = length-replicate {A = ℕ} (length (l .peaks)) 0 ∙ long .peaks;
 }
 
 -- ---- the blank record
@@ -100,7 +79,7 @@ module _ (settings : Settings) where
   blank-flows = record { most = omega arith; distinct = all-none _; unused = λ place h. blank-entry place }
 
   blank-instances : WholeInstances (blankFor settings)
-  unfolding blankFor blank distinctKeys keys.held
+  unfolding blankFor blank distinctKeys keys.keysHeld
   blank-instances = record { most = omega arith; distinct = all-none _; known = λ place h. absurd (omega arith); unused = λ place h. blank-key place }
 
   empty-whole : (maximum n : ℕ) → WholeSlot maximum n emptySlot
@@ -128,8 +107,8 @@ module _ (settings : Settings) (l : Lists) (allowed : Allowed (settings .count) 
     pub zeroed-times : part (i * 600) 600 (zeroedLists l .times) ≡ replicate 600 0
     zeroed-times = zeros-block (settings .count) 600 i _ (long .times) h
 
-    pub zeroed-lags : part (i * 600) 600 (zeroedLists l .lags) ≡ replicate 600 0
-    zeroed-lags = zeros-block (settings .count) 600 i _ (long .lags) h
+    pub zeroed-lags : part (i * 600) 600 (zeroedLists l .peaks) ≡ replicate 600 0
+    zeroed-lags = zeros-block (settings .count) 600 i _ (long .peaks) h
 
     blank-window : windowOf (blankFor settings) (zeroedLists l) i ≡ fresh (bucketsIn (blankFor settings)) (settings .width)
     unfolding fresh emptySlot blankFor blank

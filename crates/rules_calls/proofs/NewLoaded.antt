@@ -16,7 +16,7 @@ use Rattle.rules_record.specs.declared.Remembered.the-variants.{Delay}
 use Rattle.rules_record.specs.declared.Inputs.{Inputs}
 use Rattle.rules_record.specs.Inputs.{withFlows}
 use Rattle.rules_record.specs.Sized.{Sized}
-use Rattle.rules_record.specs.Flows.{entryAt, flowAt, admits, enrolled, placeOf, recalled, kept, differs, remembered}
+use Rattle.rules_record.specs.Flows.{entryAt, flowAt, admits, enrolled, flowPlace, recalled, kept, differs, remembered}
 use Rattle.rules_record.proofs.FlowTable.{enrolled-within, enrolled-more, enrolled-stable, enrolled-rest, enrolled-place, enrolled-known, enrolled-holds, remember-same, remember-other, remember-flow}
 use Rattle.rules_record.specs.Lent.{Lists}
 use Rattle.rules_record.specs.Facts.{Checked}
@@ -86,23 +86,23 @@ module _ (s : Inputs) (flow : Flow) (delay : ℕ) where
   loaded-one-flow sized j = kept-flow (enrolled s flow) _ delay sized j
 
   module _ (l : Lists) (c : Checked s l) (room : admits s flow ≡ true) where
-    enrolled-at : placeOf (enrolled s flow) flow ≡ placeOf s flow
+    enrolled-at : flowPlace (enrolled s flow) flow ≡ flowPlace s flow
     enrolled-at = enrolled-place s flow (c .whole .flows .most) (c .sized) room
 
-    enrolled-there : placeOf (enrolled s flow) flow < enrolled s flow .«flow_count»
+    enrolled-there : flowPlace (enrolled s flow) flow < enrolled s flow .«flow_count»
     enrolled-there = rw enrolled-at (enrolled-known s flow (c .whole .flows .most) (c .sized) room)
 
     -- the flow has the loaded delay, whatever it had
     pub loaded-one-remembers : Remembers (loadedOne flow delay s) flow delay
     unfolding loadedOne
     loaded-one-remembers = record {
-      place = placeOf (enrolled s flow) flow;
+      place = flowPlace (enrolled s flow) flow;
       known = omega (arith, loaded-one-count, enrolled-there);
       holds =
-          loaded-one-flow (enrol-keeps s l c flow .sized) (placeOf (enrolled s flow) flow)
+          loaded-one-flow (enrol-keeps s l c flow .sized) (flowPlace (enrolled s flow) flow)
           ∙ ap (flowAt (enrolled s flow)) enrolled-at
           ∙ enrolled-holds s flow (c .whole .flows .most) (c .sized) room;
-      has = kept-recalled (enrolled s flow) (placeOf (enrolled s flow) flow) delay (omega (arith, enrolled-there, enrolled-within s flow (c .whole .flows .most))) (enrol-keeps s l c flow .sized);
+      has = kept-recalled (enrolled s flow) (flowPlace (enrolled s flow) flow) delay (omega (arith, enrolled-there, enrolled-within s flow (c .whole .flows .most))) (enrol-keeps s l c flow .sized);
     }
 
     -- another flow's delay stays
@@ -112,7 +112,7 @@ module _ (s : Inputs) (flow : Flow) (delay : ℕ) where
       place = r .place;
       known = omega (arith, loaded-one-count, r .known, enrolled-more s flow (c .whole .flows .most));
       holds = loaded-one-flow (enrol-keeps s l c flow .sized) (r .place) ∙ still-flow ∙ r .holds;
-      has = kept-other (enrolled s flow) (placeOf (enrolled s flow) flow) delay (r .place) elsewhere ∙ still-delay ∙ r .has;
+      has = kept-other (enrolled s flow) (flowPlace (enrolled s flow) flow) delay (r .place) elsewhere ∙ still-delay ∙ r .has;
     }
       where
         still : entryAt (enrolled s flow) (r .place) ≡ entryAt s (r .place)
@@ -124,12 +124,12 @@ module _ (s : Inputs) (flow : Flow) (delay : ℕ) where
         still-delay : recalled (enrolled s flow) (r .place) ≡ recalled s (r .place)
         still-delay = entry-delay (enrolled s flow) s (r .place) still
 
-        elsewhere : r .place ≡ placeOf (enrolled s flow) flow → ⊥
+        elsewhere : r .place ≡ flowPlace (enrolled s flow) flow → ⊥
         elsewhere e = apart (sym (enrolled-holds s flow (c .whole .flows .most) (c .sized) room) ∙ ap (flowAt (enrolled s flow)) (sym (e ∙ enrolled-at)) ∙ still-flow ∙ r .holds)
 
     pub loaded-one-keeps : Checked (loadedOne flow delay s) l
     unfolding loadedOne
-    loaded-one-keeps = kept-keeps (enrolled s flow) (placeOf (enrolled s flow) flow) delay l (enrol-keeps s l c flow) enrolled-there
+    loaded-one-keeps = kept-keeps (enrolled s flow) (flowPlace (enrolled s flow) flow) delay l (enrol-keeps s l c flow) enrolled-there
 
 -- ---- all of them
 module _ (bytes delays : List ℕ) (s : Inputs) where

@@ -24,9 +24,9 @@ use Rattle.rules_record.specs.declared.Flow.{Flow}
 use Rattle.rules_record.specs.declared.Inputs.{Inputs}
 use Rattle.rules_record.specs.Slots.{withConfig, withHead}
 use Rattle.rules_record.specs.Inputs.{slotAt, putSlot}
-use Rattle.rules_record.specs.Flows.{admits, enrolled, placeOf, kept}
+use Rattle.rules_record.specs.Flows.{admits, enrolled, flowPlace, kept}
 use Rattle.rules_record.specs.declared.Sent.{Sent}
-use Rattle.rules_record.specs.Commands.{Done, Did, first}
+use Rattle.rules_record.specs.Commands.{Done, Did, sendFirst}
 use Rattle.rules_record.proofs.Sending.{did-by, did-quiet}
 use Rattle.rules_routing.specs.SetDelay.{setDelayOf}
 use Rattle.rules_calls.specs.NewLoading.{bytesAt, loadedFlow, loadedOne, loadedBelow, loadFits}
@@ -78,7 +78,7 @@ module _ (bytes : List ℕ) (place : ℕ) where
     reading-end h = inv .number ∙ ap (bytesAt bytes place) (le-antisymm (inv .within) h)
 
 -- ---- the loaded delays
-pub loaded-by : (s : Inputs) (flow : Flow) (delay : ℕ) {all kept-one : Inputs} {place : ℕ} → all ≡ enrolled s flow → place ≡ placeOf all flow → kept-one ≡ kept all place delay → kept-one ≡ loadedOne flow delay s
+pub loaded-by : (s : Inputs) (flow : Flow) (delay : ℕ) {all kept-one : Inputs} {place : ℕ} → all ≡ enrolled s flow → place ≡ flowPlace all flow → kept-one ≡ kept all place delay → kept-one ≡ loadedOne flow delay s
 unfolding loadedOne
 loaded-by s flow delay e f g = rw (g, f, e)
 
@@ -125,8 +125,8 @@ module _ (bytes delays : List ℕ) (s : Inputs) where
 -- ---- the inputs
 -- one step after another. Of general use: it belongs to commands.
 pub did-then : {few most from : ℕ} {done : Done} {answer last : Sent} {before between after : List ℕ} (next : Inputs → Done)
-    → Did few done answer before between from → Did most (next (answer .inputs)) last between after (answer .used) → Did (few + most) (first (done .words) (next (done .inputs))) last before after from
-unfolding first
+    → Did few done answer before between from → Did most (next (answer .inputs)) last between after (answer .used) → Did (few + most) (sendFirst (done .words) (next (done .inputs))) last before after from
+unfolding sendFirst
 did-then {few} {most} {from} {done} {answer} {last} {before} {between} {after} next a b = record {
   inputs = step .inputs;
   used = step .used ∙ simp length-append (omega (arith, a .used));

@@ -1,34 +1,39 @@
 -- The number of `new`: checks 1 to 5, then the time (8), then the room for the loaded flows (9). Assumes nothing.
-use Prim.Native.Nat.{ℕ, _<_, _≤_}
-use mathlib.Core.Bool.{Bool, true, false}
+use Prim.Native.Nat.{ℕ, _<_, _≤_, _*_}
+use mathlib.Core.Bool.{true, false}
 use mathlib.Core.Path.{_≡_, refl, sym, _∙_}
 use mathlib.Core.List.{List}
 use lib.ListN.{length}
+use lib.Dec.{eqb}
 use borrow.Author.Tests.{leb-true, lt-leb, le-leb}
-use Rattle.base.specs.Choice.{ask}
 use Rattle.base.specs.Limits.{timeLimit}
-use Rattle.base.proofs.Choices.{yes-ask, no-ask, asked}
-use Rattle.rules_record.specs.Lent.{Lists}
-use Rattle.base.proofs.Choices.{by-zero}
+use Rattle.base.proofs.Choices.{yes-ask, no-ask, asked, same-refusal, by-zero}
+use Rattle.rules_record.specs.Lent.{Lists, bucketsIn}
+use Rattle.rules_record.specs.declared.Commands.the-variants.{Words}
+use Rattle.rules_record.specs.Checks.{inputsAllowed, bucketsAllowed, pausesAllowed, listsFit, commandsFit}
 use Rattle.rules_calls.specs.declared.Settings.{Settings}
-use Rattle.rules_calls.specs.NewRecord.{blankFor}
+use Rattle.rules_calls.specs.NewRecord.{blankFor, policyOf}
 use Rattle.rules_calls.specs.NewLoading.{loadFits}
-use Rattle.rules_calls.specs.NewChecks.{settingsNumber, newNumber}
+use Rattle.rules_calls.specs.NewChecks.{settingsNumber, newNumber, marginFits}
 
 -- ---- checks 1 to 5: the number with others after them is theirs where this is 0, else this
-same-refusal : (k : ℕ) (b : Bool) {m n : ℕ} → ((n ≡ 0 → ⊥) → m ≡ n) → (ask k b n ≡ 0 → ⊥) → ask k b m ≡ ask k b n
-unfolding ask
-same-refusal k true same none = same none
-same-refusal k false same none = refl
-
 module _ (settings : Settings) (bytes delays : ℕ) (l : Lists) (words : ℕ) where
   settings-refused : (settingsNumber settings bytes delays l words 0 ≡ 0 → ⊥) → (rest : ℕ) → settingsNumber settings bytes delays l words rest ≡ settingsNumber settings bytes delays l words 0
   unfolding settingsNumber
   settings-refused h rest = same-refusal 1 _ (same-refusal 2 _ (same-refusal 3 _ (same-refusal 4 _ (same-refusal 5 _ (same-refusal 5 _ (same-refusal 5 _ (λ none. absurd (none refl)))))))) h
 
-  settings-passed : settingsNumber settings bytes delays l words 0 ≡ 0 → (rest : ℕ) → settingsNumber settings bytes delays l words rest ≡ rest
+  -- number 0 says that each of them held, and that those after them gave 0
+  pub settings-asked : (rest : ℕ) → settingsNumber settings bytes delays l words rest ≡ 0
+      → (inputsAllowed (settings .count) ≡ true)
+      × (bucketsAllowed (policyOf settings) (settings .width) ≡ true)
+      × (pausesAllowed (policyOf settings) (settings .stall) ≡ true)
+      × (marginFits settings ≡ true)
+      × (listsFit (settings .count) (bucketsIn (blankFor settings)) l ≡ true)
+      × (commandsFit (settings .count) (Words words) ≡ true)
+      × (eqb bytes (delays * 16) ≡ true)
+      × (rest ≡ 0)
   unfolding settingsNumber
-  settings-passed h rest =
+  settings-asked rest h =
       let a = asked 0 _ _ h in
       let b = asked 1 _ _ (a .1) in
       let c = asked 2 _ _ (b .1) in
@@ -36,7 +41,13 @@ module _ (settings : Settings) (bytes delays : ℕ) (l : Lists) (words : ℕ) wh
       let e = asked 4 _ _ (d .1) in
       let f = asked 4 _ _ (e .1) in
       let g = asked 4 _ _ (f .1) in
-      yes-ask 1 _ (a .0) ∙ yes-ask 2 _ (b .0) ∙ yes-ask 3 _ (c .0) ∙ yes-ask 4 _ (d .0) ∙ yes-ask 5 _ (e .0) ∙ yes-ask 5 _ (f .0) ∙ yes-ask 5 _ (g .0)
+      (a .0, b .0, c .0, d .0, e .0, f .0, g .0, g .1)
+
+  settings-passed : settingsNumber settings bytes delays l words 0 ≡ 0 → (rest : ℕ) → settingsNumber settings bytes delays l words rest ≡ rest
+  unfolding settingsNumber
+  settings-passed h rest =
+      let a = settings-asked 0 h in
+      yes-ask 1 _ (a .0) ∙ yes-ask 2 _ (a .1) ∙ yes-ask 3 _ (a .2) ∙ yes-ask 4 _ (a .3) ∙ yes-ask 5 _ (a .4) ∙ yes-ask 5 _ (a .5) ∙ yes-ask 5 _ (a .6)
 
 -- ---- 8 and 9 after them
 module _ (settings : Settings) (bytes delays : List ℕ) (time : ℕ) (l : Lists) (words : ℕ) where

@@ -9,20 +9,19 @@ use lib.ListN.{length, replicate, length-replicate}
 use lib.Seq.{sets}
 use borrow.Author.Tests.{leb-true, not-false}
 use Rattle.base.specs.Choice.{ask}
-use Rattle.base.specs.Limits.{timeLimit}
+use Rattle.base.specs.Limits.{timeLimit, samplesLimit}
 use Rattle.base.proofs.All.{told-no, told-yes}
 use Rattle.base.proofs.Choices.{yes-ask, no-ask}
 use Rattle.base.proofs.Points.{both-true}
 use Rattle.base.proofs.Words.{laid}
 use Rattle.policy.specs.declared.DelayPolicy.{DelayPolicy}
 use Rattle.policy.specs.Settings.{reachesAllowed}
-use Rattle.rules_window.specs.Window.{bucketsOf}
 use Rattle.rules_record.specs.declared.ExtraDelay.{ExtraDelay}
 use Rattle.rules_record.specs.declared.Inputs.{Inputs}
 use Rattle.rules_record.specs.declared.Sent.{Sent}
 use Rattle.rules_record.specs.Commands.{Did}
 use Rattle.rules_record.specs.declared.Commands.the-variants.{Words}
-use Rattle.rules_record.specs.Lent.{Lists, bucketsIn}
+use Rattle.rules_record.specs.Lent.{Lists, bucketsIn, bucketsFor}
 use Rattle.rules_record.specs.Checks.{inputsAllowed, bucketsAllowed, pausesAllowed, listsFit, commandsFit}
 use Rattle.rules_record.specs.Effects.{beside}
 use Rattle.rules_record.specs.Reply.{Reply}
@@ -63,7 +62,7 @@ module _ (settings : Settings) (bytes delays : ℕ) (l : Lists) (words : ℕ) wh
         unfolding settingsNumber
         refused-four h = sym (yes-ask 1 _ one ∙ yes-ask 2 _ (two-is two) ∙ yes-ask 3 _ (three-is three) ∙ no-ask 4 _ h)
 
-        pub buckets-asked : (policy .«read_offset» ≤ 96000) × (policy .«delay_max» ≤ 96000) × (1 ≤ settings .width)
+        pub buckets-asked : (policy .«read_offset» ≤ samplesLimit) × (policy .«delay_max» ≤ samplesLimit) × (1 ≤ settings .width)
         unfolding bucketsAllowed reachesAllowed
         buckets-asked =
             let t = both-true _ _ two in
@@ -74,7 +73,7 @@ module _ (settings : Settings) (bytes delays : ℕ) (l : Lists) (words : ℕ) wh
         unfolding inputsAllowed
         count-asked = leb-true _ _ (both-true _ _ one .1)
 
-        module _ (four : marginFits settings ≡ true) {buckets : ℕ} (is-buckets : buckets ≡ bucketsOf (policy .«read_offset») (policy .«delay_max») (settings .width)) where
+        module _ (four : marginFits settings ≡ true) {buckets : ℕ} (is-buckets : buckets ≡ bucketsFor policy (settings .width)) where
           pub lists-asked : (settings .count ≤ 16) × (buckets ≤ 4096)
           unfolding bucketsAllowed
           lists-asked = (count-asked, rw is-buckets (leb-true _ _ (both-true _ _ (both-true _ _ (both-true _ _ two .1) .1) .1)))
@@ -82,7 +81,7 @@ module _ (settings : Settings) (bytes delays : ℕ) (l : Lists) (words : ℕ) wh
           five-is : {b : Bool} → listsFit (settings .count) buckets l ≡ b → listsFit (settings .count) (bucketsIn (blankFor settings)) l ≡ b
           unfolding bucketsIn blankFor blank
           five-is h =
-              ap (λ (p : DelayPolicy). listsFit (settings .count) (bucketsOf (p .«read_offset») (p .«delay_max») (settings .width)) l) (sym is-policy)
+              ap (λ (p : DelayPolicy). listsFit (settings .count) (bucketsFor p (settings .width)) l) (sym is-policy)
               ∙ ap (λ (n : ℕ). listsFit (settings .count) n l) (sym is-buckets)
               ∙ h
 

@@ -1,6 +1,5 @@
 -- The inputs started in their order: the slot of each, the words sent, and all else stays; the record stays checked. Assumes nothing.
 use Prim.Native.Nat.{ℕ, zero, suc, _<_, _≤_, min}
-use mathlib.Core.Bool.{Bool, false}
 use mathlib.Core.Path.{_≡_, refl, sym, ap, subst, _∙_}
 use mathlib.Core.Logic.{⊎-elim}
 use mathlib.Core.List.{List, [], _++_}
@@ -10,8 +9,6 @@ use Rattle.base.specs.Limits.{timeLimit}
 use Rattle.doubles.specs.Doubles.{samplesOf}
 use Rattle.rules_record.specs.declared.ExtraDelay.{ExtraDelay}
 use Rattle.rules_record.specs.declared.ExtraDelay.the-variants.{Auto, Ms}
-use Rattle.rules_record.specs.declared.Routed.{Routed}
-use Rattle.rules_record.specs.declared.Routed.the-variants.{Nowhere, To}
 use Rattle.rules_record.specs.declared.Slot.{Slot}
 use Rattle.rules_record.specs.declared.Inputs.{Inputs}
 use Rattle.rules_record.specs.Slots.{isAuto, withConfig, withHead, withDelay}
@@ -20,13 +17,13 @@ use Rattle.rules_record.proofs.SlotFrame.{slot-same, slot-other, put-rest}
 use Rattle.rules_record.proofs.Sized.{sized-put}
 use Rattle.rules_record.specs.Sized.{Sized}
 use Rattle.rules_record.specs.Flows.{rememberedBy, rememberedFor}
-use Rattle.rules_record.specs.Commands.{setDelay, quiet, first}
+use Rattle.rules_record.specs.Commands.{setDelay, quiet, sendFirst}
 use Rattle.rules_routing.specs.SetDelay.{delayStored, setDelayOf}
 use Rattle.rules_routing.proofs.SetDelayStored.{stored-same, stored-other, stored-sized}
 use Rattle.rules_record.specs.Lent.{Lists}
-use Rattle.rules_record.specs.Facts.{WholeSlot}
-use Rattle.rules_record.specs.Facts.{Checked}
+use Rattle.rules_record.specs.Facts.{WholeSlot, Checked}
 use Rattle.rules_record.proofs.Keep.{slot-keeps}
+use Rattle.rules_record.proofs.FlowCases.{unremembered}
 use Rattle.rules_routing.proofs.SetDelayKeeps.{stored-keeps}
 use Rattle.rules_calls.specs.NewStart.{kindAt, madeAt, startedOne, startedBelow}
 
@@ -48,12 +45,6 @@ unfoldable pub manualWords : (n : ℕ) → List ExtraDelay → (maximum : ℕ) �
 manualWords zero kinds maximum = []
 manualWords (suc n) kinds maximum = manualWords n kinds maximum ++ startedWords n (kindAt kinds n) maximum
 
--- a delay of an input that is not automatic is not remembered
-unremembered : (route : Routed) (automatic : Bool) (s : Inputs) (delay : ℕ) → automatic ≡ false → rememberedBy route automatic s delay ≡ s
-unfolding rememberedBy
-unremembered Nowhere automatic s delay e = refl
-unremembered (To route) automatic s delay e = ap (λ (b : Bool). rememberedBy (To route) b s delay) e
-
 -- ---- one input
 module _ (s : Inputs) (i time : ℕ) (low : i < 16) (sized : Sized s) where
   made-slot : (kind : ExtraDelay) → slotAt (madeAt i kind time s) i ≡ madeSlot kind time (slotAt s i)
@@ -63,27 +54,27 @@ module _ (s : Inputs) (i time : ℕ) (low : i < 16) (sized : Sized s) where
   made-sized kind = sized-put s i (madeSlot kind time (slotAt s i)) sized
 
   pub one-slot : (kind : ExtraDelay) → slotAt (startedOne i kind time s .inputs) i ≡ startedSlot kind time (s .policy .«delay_max») (slotAt s i)
-  unfolding startedOne setDelayOf first quiet
+  unfolding startedOne setDelayOf sendFirst quiet
   one-slot (Auto tag) = made-slot (Auto tag)
   one-slot (Ms delay) =
       stored-same (madeAt i (Ms delay) time s) i (min (samplesOf delay) (s .policy .«delay_max»)) time low (made-sized (Ms delay))
       ∙ ap (λ (x : Slot). withDelay x (min (samplesOf delay) (s .policy .«delay_max»)) time) (made-slot (Ms delay))
 
   pub one-other : (kind : ExtraDelay) (j : ℕ) → (j ≡ i → ⊥) → slotAt (startedOne i kind time s .inputs) j ≡ slotAt s j
-  unfolding startedOne setDelayOf first quiet
+  unfolding startedOne setDelayOf sendFirst quiet
   one-other (Auto tag) j apart = slot-other s i (madeSlot (Auto tag) time (slotAt s i)) j apart
   one-other (Ms delay) j apart =
       stored-other (madeAt i (Ms delay) time s) i (min (samplesOf delay) (s .policy .«delay_max»)) time j apart
       ∙ slot-other s i (madeSlot (Ms delay) time (slotAt s i)) j apart
 
   pub one-sized : (kind : ExtraDelay) → Sized (startedOne i kind time s .inputs)
-  unfolding startedOne setDelayOf first quiet
+  unfolding startedOne setDelayOf sendFirst quiet
   one-sized (Auto tag) = made-sized (Auto tag)
   one-sized (Ms delay) = stored-sized (madeAt i (Ms delay) time s) i (min (samplesOf delay) (s .policy .«delay_max»)) time (made-sized (Ms delay))
 
   -- only slots change: a manual delay is not remembered
   pub one-rest : (kind : ExtraDelay) → startedOne i kind time s .inputs ≡ withSlots s (startedOne i kind time s .inputs .slots)
-  unfolding startedOne setDelayOf first quiet delayStored rememberedFor
+  unfolding startedOne setDelayOf sendFirst quiet delayStored rememberedFor
   one-rest (Auto tag) = put-rest s i (madeSlot (Auto tag) time (slotAt s i))
   one-rest (Ms delay) = stays ∙ rest ∙ ap (λ (x : Inputs). withSlots s (x .slots)) (sym stays)
     where
@@ -103,7 +94,7 @@ module _ (s : Inputs) (i time : ℕ) (low : i < 16) (sized : Sized s) where
       rest = put-rest made i _ ∙ ap (λ (x : Inputs). withSlots x (there .slots)) (put-rest s i _)
 
   pub one-words : (kind : ExtraDelay) → startedOne i kind time s .words ≡ startedWords i kind (s .policy .«delay_max»)
-  unfolding startedOne setDelayOf first quiet
+  unfolding startedOne setDelayOf sendFirst quiet
   one-words (Auto tag) = refl
   one-words (Ms delay) = refl
 
@@ -118,7 +109,7 @@ module _ (s : Inputs) (l : Lists) (i time : ℕ) (c : Checked s l) (h : i < s .c
           record { delay = w .delay; proposed = w .proposed; route = w .route; reopens = w .reopens; changes = w .changes; lates = w .lates; head = soon; set = w .set }
 
   pub one-keeps : (kind : ExtraDelay) → Checked (startedOne i kind time s .inputs) l
-  unfolding startedOne setDelayOf first quiet
+  unfolding startedOne setDelayOf sendFirst quiet
   one-keeps (Auto tag) = made-keeps (Auto tag)
   one-keeps (Ms delay) =
       let rest = put-rest s i (madeSlot (Ms delay) time (slotAt s i)) in
@@ -130,13 +121,13 @@ module _ (s : Inputs) (l : Lists) (i time : ℕ) (c : Checked s l) (h : i < s .c
 -- ---- the first n inputs
 module _ (kinds : List ExtraDelay) (time : ℕ) (s : Inputs) (sized : Sized s) where
   pub below-sized : (n : ℕ) → n ≤ 16 → Sized (startedBelow n kinds time s .inputs)
-  unfolding startedBelow first quiet
+  unfolding startedBelow sendFirst quiet
   below-sized zero few = sized
   below-sized (suc n) few = one-sized (startedBelow n kinds time s .inputs) n time (omega arith) (below-sized n (omega arith)) (kindAt kinds n)
 
   -- only slots change
   pub below-rest : (n : ℕ) → n ≤ 16 → startedBelow n kinds time s .inputs ≡ withSlots s (startedBelow n kinds time s .inputs .slots)
-  unfolding startedBelow first quiet
+  unfolding startedBelow sendFirst quiet
   below-rest zero few = refl
   below-rest (suc n) few =
       one-rest (startedBelow n kinds time s .inputs) n time (omega arith) (below-sized n (omega arith)) (kindAt kinds n)
@@ -147,7 +138,7 @@ module _ (kinds : List ExtraDelay) (time : ℕ) (s : Inputs) (sized : Sized s) w
 
   -- the slots after them stay
   pub below-later : (n : ℕ) → n ≤ 16 → (i : ℕ) → n ≤ i → slotAt (startedBelow n kinds time s .inputs) i ≡ slotAt s i
-  unfolding startedBelow first quiet
+  unfolding startedBelow sendFirst quiet
   below-later zero few i h = refl
   below-later (suc n) few i h =
       one-other (startedBelow n kinds time s .inputs) n time (omega arith) (below-sized n (omega arith)) (kindAt kinds n) i (λ e. omega arith)
@@ -155,7 +146,7 @@ module _ (kinds : List ExtraDelay) (time : ℕ) (s : Inputs) (sized : Sized s) w
 
   -- the slot of each of them
   pub below-slot : (n : ℕ) → n ≤ 16 → (i : ℕ) → i < n → slotAt (startedBelow n kinds time s .inputs) i ≡ startedSlot (kindAt kinds i) time (s .policy .«delay_max») (slotAt s i)
-  unfolding startedBelow first quiet
+  unfolding startedBelow sendFirst quiet
   below-slot zero few i h = absurd (omega arith)
   below-slot (suc n) few i h = ⊎-elim (λ e. here e) (λ k. there k (below-slot n (omega arith) i k)) (eq-or-lt-of-le (le-of-suc-le-suc h))
     where
@@ -174,7 +165,7 @@ module _ (kinds : List ExtraDelay) (time : ℕ) (s : Inputs) (sized : Sized s) w
 
   -- the words: SetDelay for each manual one, in their order
   pub below-words : (n : ℕ) → n ≤ 16 → startedBelow n kinds time s .words ≡ manualWords n kinds (s .policy .«delay_max»)
-  unfolding startedBelow first quiet manualWords
+  unfolding startedBelow sendFirst quiet manualWords
   below-words zero few = refl
   below-words (suc n) few =
       ap (λ (words : List ℕ). words ++ startedOne n (kindAt kinds n) time (startedBelow n kinds time s .inputs) .words) (below-words n (omega arith))
@@ -183,7 +174,7 @@ module _ (kinds : List ExtraDelay) (time : ℕ) (s : Inputs) (sized : Sized s) w
       ∙ ap (startedWords n (kindAt kinds n)) (below-maximum n (omega arith)))
 
   pub below-keeps : (l : Lists) → Checked s l → time ≤ timeLimit → (n : ℕ) → n ≤ s .count → Checked (startedBelow n kinds time s .inputs) l
-  unfolding startedBelow first quiet
+  unfolding startedBelow sendFirst quiet
   below-keeps l c soon zero few = c
   below-keeps l c soon (suc n) few =
       let most : s .count ≤ 16 = c .fitting .allowed .most in

@@ -22,7 +22,7 @@ use Rattle.rules_record.specs.declared.State.{State}
 use Rattle.rules_record.specs.declared.Slot.{Slot}
 use Rattle.rules_record.specs.declared.Inputs.{Inputs}
 use Rattle.rules_record.specs.Slots.{withState, withRoute, withInode, withDelay, withProposed}
-use Rattle.rules_record.specs.Flows.{admits, enrolled, placeOf}
+use Rattle.rules_record.specs.Flows.{admits, enrolled, flowPlace}
 use Rattle.rules_record.specs.Commands.{clearInput, setDelay, quiet}
 use Rattle.rules_routing.specs.declared.World.{World}
 use Rattle.rules_routing.specs.TryOpen.{tryOpenOf}
@@ -40,7 +40,7 @@ module _ (s : Inputs) {wanted : Wanted} {source : Source} (is-from : wanted ≡ 
   pub enrolled-from : {r : Inputs} → r ≡ enrolled s (source .flow) → r ≡ enrolledFor s wanted
   enrolled-from h = h ∙ sym (ap (enrolledFor s) is-from)
 
-  pub route-from : {place : ℕ} → place ≡ placeOf s (source .flow) → To (record { domain = source .domain; flow = place }) ≡ routeFor s wanted
+  pub route-from : {place : ℕ} → place ≡ flowPlace s (source .flow) → To (record { domain = source .domain; flow = place }) ≡ routeFor s wanted
   route-from h = ap (λ (p : ℕ). To (record { domain = source .domain; flow = p })) h ∙ sym (ap (routeFor s) is-from)
 
 -- ---- beside the route that was

@@ -8,6 +8,7 @@ use Rattle.rules_record.specs.declared.FlowEntry.{FlowEntry}
 use Rattle.rules_record.specs.declared.Routed.{Routed}
 use Rattle.rules_record.specs.declared.Routed.the-variants.{Nowhere, To}
 use Rattle.rules_record.specs.declared.Inputs.{Inputs}
+use Rattle.rules_record.specs.declared.Slot.{Slot}
 use Rattle.rules_record.specs.Inputs.{slotAt, putSlot}
 use Rattle.rules_record.specs.Sized.{Sized}
 use Rattle.rules_record.specs.Flows.{flowAt}
@@ -20,6 +21,7 @@ use Rattle.rules_record.specs.Effects.{Effect, followedBy}
 use Rattle.rules_record.specs.Reply.{Reply}
 use Rattle.rules_record.proofs.Beside.{Beside, beside-same}
 use Rattle.rules_record.proofs.Numbers.{call-fitting, call-input}
+use Rattle.rules_record.proofs.SlotFrame.{slot-same}
 use Rattle.rules_routing.specs.Clear.{clearedSlot, cleared}
 use Rattle.rules_routing.proofs.ClearFrames.{cleared-beside}
 use Rattle.rules_routing.proofs.SettingsKept.{SameSettings, settings-then, settings-frame}
@@ -46,6 +48,17 @@ module _ (s : Inputs) where
   for-flow (Wanted.From source) most place known = ap (λ (x : FlowEntry). x .flow) (enrolled-stable s (source .flow) most place known)
 
 -- ---- a new route, in a record that knows its flow
+-- the slot of input i with its new route, before the new flow opens, and the record with it
+module _ (new : Routed) (i time : ℕ) (s : Inputs) where
+  abbrev pub routedHere : Slot
+  routedHere = clearedSlot (routedSlot new time (slotAt s i))
+
+  abbrev pub placedHere : Inputs
+  placedHere = putSlot s i routedHere
+
+  pub placed-slot : i < 16 → Sized s → slotAt placedHere i ≡ routedHere
+  placed-slot low sized = slot-same s i routedHere low (sized .slots)
+
 module _ (new : Routed) (i time : ℕ) (world : World) (s : Inputs) (l : Lists) where
   opened-frame : (to : Routed) (z : Inputs) → Frame i z (openedFor to i time world z .inputs)
   opened-frame Nowhere z = leaves-quiet i z
@@ -53,7 +66,7 @@ module _ (new : Routed) (i time : ℕ) (world : World) (s : Inputs) (l : Lists) 
 
   pub moved-frame : Frame i s (moved new i time world s l .inputs)
   unfolding moved followedBy cleared
-  moved-frame = frame-then i (frame-put i s (clearedSlot (routedSlot new time (slotAt s i)))) (opened-frame new (putSlot s i (clearedSlot (routedSlot new time (slotAt s i)))))
+  moved-frame = frame-then i (frame-put i s (routedHere new i time s)) (opened-frame new (placedHere new i time s))
 
   pub to-frame : Frame i s (routedTo new i time world s l .inputs)
   unfolding routedTo rerouted

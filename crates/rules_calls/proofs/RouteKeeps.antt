@@ -14,23 +14,21 @@ use Rattle.rules_record.specs.declared.Routed.{Routed}
 use Rattle.rules_record.specs.declared.Routed.the-variants.{Nowhere, To}
 use Rattle.rules_record.specs.declared.Slot.{Slot}
 use Rattle.rules_record.specs.declared.Inputs.{Inputs}
-use Rattle.rules_record.specs.Slots.{stateNumber}
-use Rattle.rules_record.specs.Inputs.{slotAt, putSlot}
-use Rattle.rules_record.proofs.SlotFrame.{slot-same}
+use Rattle.rules_record.specs.States.{stateNumber}
+use Rattle.rules_record.specs.Inputs.{slotAt}
 use Rattle.rules_record.specs.Flows.{enrolled}
 use Rattle.rules_record.proofs.FlowTable.{enrolled-place, enrolled-known}
 use Rattle.rules_record.specs.Commands.{quiet}
 use Rattle.rules_routing.specs.declared.World.{World}
 use Rattle.rules_record.specs.Lent.{Lists}
-use Rattle.rules_record.specs.Places.{routeFits}
+use Rattle.rules_record.specs.WholePlaces.{routeFits}
 use Rattle.rules_record.specs.Effects.{Effect, followedBy}
 use Rattle.rules_record.specs.Reply.{Reply}
-use Rattle.rules_record.specs.Facts.{WholeSlot}
-use Rattle.rules_record.specs.Facts.{Checked}
+use Rattle.rules_record.specs.Facts.{WholeSlot, Checked}
 use Rattle.rules_record.proofs.Keep.{cleared-keeps}
 use Rattle.rules_record.proofs.Tables.{enrol-keeps}
 use Rattle.rules_record.proofs.Numbers.{input-told}
-use Rattle.rules_routing.specs.Clear.{clearedSlot, clearedLists, cleared}
+use Rattle.rules_routing.specs.Clear.{clearedLists, cleared}
 use Rattle.rules_routing.proofs.SettingsKept.{settings-put}
 use Rattle.rules_routing.proofs.TryOpenKeeps.{waiting-keeps}
 use Rattle.rules_calls.specs.declared.Wanted.{Wanted}
@@ -39,6 +37,7 @@ use Rattle.rules_calls.specs.RouteChecks.{wantedFits, routeNumber}
 use Rattle.rules_calls.specs.Route.{enrolledFor, routeFor, equalRoute, startsOver, startedOver, stateFor, routedSlot, openedFor, moved, rerouted, routedTo, routed}
 use Rattle.rules_calls.specs.RouteReply.{routeReply}
 use Rattle.rules_calls.proofs.Enrolling.{for-count}
+use Rattle.rules_calls.proofs.RouteFrames.{routedHere, placedHere, placed-slot}
 
 -- ---- the route that is wanted
 module _ (s : Inputs) (l : Lists) (c : Checked s l) where
@@ -68,31 +67,25 @@ module _ (s : Inputs) (l : Lists) (i : ℕ) (c : Checked s l) (h : i < s .count)
       (record { delay = zero-le; proposed = refl; route = old .route; reopens = old .reopens; changes = old .changes; lates = old .lates; head = old .head; set = le-leb _ _ soon })
       old
 
-  abbrev there : Slot
-  there = clearedSlot (routedSlot new time (slotAt s i))
-
-  there-fits : WholeSlot (s .policy .«delay_max») (s .«flow_count») there
+  there-fits : WholeSlot (s .policy .«delay_max») (s .«flow_count») (routedHere new i time s)
   unfolding routedSlot
   there-fits =
       let w = over-fits in
       record { delay = w .delay; proposed = w .proposed; route = fits; reopens = w .reopens; changes = w .changes; lates = w .lates; head = w .head; set = w .set }
 
-  abbrev after : Inputs
-  after = putSlot s i there
-
-  after-keeps : Checked after (clearedLists i s l)
+  after-keeps : Checked (placedHere new i time s) (clearedLists i s l)
   unfolding routedSlot
-  after-keeps = cleared-keeps s l i there c h there-fits refl refl
+  after-keeps = cleared-keeps s l i (routedHere new i time s) c h there-fits refl refl
 
-  after-state : slotAt after i .state ≡ stateFor new
+  after-state : slotAt (placedHere new i time s) i .state ≡ stateFor new
   unfolding routedSlot
-  after-state = ap (λ (x : Slot). x .state) (slot-same s i there (omega (arith, c .fitting .allowed .most)) (c .sized .slots))
+  after-state = ap (λ (x : Slot). x .state) (placed-slot new i time s (omega (arith, c .fitting .allowed .most)) (c .sized))
 
-  opened-keeps : (to : Routed) → new ≡ to → (world : World) → Checked (openedFor to i time world after .inputs) (clearedLists i s l)
+  opened-keeps : (to : Routed) → new ≡ to → (world : World) → Checked (openedFor to i time world (placedHere new i time s) .inputs) (clearedLists i s l)
   unfolding quiet
   opened-keeps Nowhere e world = after-keeps
   opened-keeps (To route) e world =
-      waiting-keeps (clearedLists i s l) i time soon after world after-keeps (subst (λ (z : Inputs). i < z .count) (sym (settings-put s i there)) h)
+      waiting-keeps (clearedLists i s l) i time soon (placedHere new i time s) world after-keeps (subst (λ (z : Inputs). i < z .count) (sym (settings-put s i (routedHere new i time s))) h)
       (ap stateNumber (after-state ∙ ap stateFor e))
 
   pub moved-keeps : (world : World) → Checked (moved new i time world s l .inputs) (moved new i time world s l .lists)

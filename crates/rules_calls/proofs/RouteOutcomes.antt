@@ -14,11 +14,11 @@ use Rattle.rules_record.specs.declared.Inode.the-variants.{Of}
 use Rattle.rules_record.specs.declared.Flow.{Flow}
 use Rattle.rules_record.specs.declared.Slot.{Slot}
 use Rattle.rules_record.specs.declared.Inputs.{Inputs}
-use Rattle.rules_record.specs.Inputs.{slotAt, putSlot}
-use Rattle.rules_record.proofs.SlotFrame.{slot-same, put-rest}
+use Rattle.rules_record.specs.Inputs.{slotAt}
+use Rattle.rules_record.proofs.SlotFrame.{put-rest}
 use Rattle.rules_record.proofs.Sized.{sized-put}
 use Rattle.rules_record.specs.Sized.{Sized}
-use Rattle.rules_record.specs.Flows.{placeOf, enrolledAt, enrolled}
+use Rattle.rules_record.specs.Flows.{flowPlace, enrolledAt, enrolled}
 use Rattle.rules_record.proofs.FlowTable.{enrolled-place}
 use Rattle.rules_record.specs.Commands.{setInput, setDelay, quiet}
 use Rattle.rules_routing.specs.declared.World.{World}
@@ -26,20 +26,21 @@ use Rattle.rules_routing.specs.declared.Reader.the-variants.{Open}
 use Rattle.rules_routing.specs.TryOpen.{openedSlot, startsAnew}
 use Rattle.rules_routing.proofs.TryOpenOutcomes.{startedSlot, open-outcomes}
 use Rattle.rules_record.specs.Lent.{Lists}
-use Rattle.rules_record.specs.Places.{routeFits}
+use Rattle.rules_record.specs.WholePlaces.{routeFits}
 use Rattle.rules_record.specs.Effects.{silent, followedBy}
 use Rattle.rules_record.specs.Facts.{Checked}
-use Rattle.rules_routing.specs.Clear.{clearedSlot, cleared}
+use Rattle.rules_routing.specs.Clear.{cleared}
 use Rattle.rules_calls.specs.declared.Wanted.{Wanted}
 use Rattle.rules_calls.specs.declared.Wanted.the-variants as Wanted
 use Rattle.rules_calls.specs.RouteChecks.{wantedFits}
-use Rattle.rules_calls.specs.Route.{enrolledFor, routeFor, equalRoute, forgetting, zeroing, routedSlot, openedFor, moved, rerouted, routedTo, routed}
+use Rattle.rules_calls.specs.Route.{enrolledFor, routeFor, equalRoute, openedFor, moved, routedTo, routed}
 use Rattle.rules_calls.proofs.Enrolling.{for-slot}
+use Rattle.rules_calls.proofs.RouteFrames.{routedHere, placedHere, placed-slot}
 
 -- ---- an equal route
 module _ (s : Inputs) (l : Lists) (i : ℕ) (c : Checked s l) (h : i < s .count) where
   -- a route that the input has names a flow that is known, so nothing is enrolled
-  enrolled-equal : (flow : Flow) → placeOf s flow < s .«flow_count» → enrolled s flow ≡ s
+  enrolled-equal : (flow : Flow) → flowPlace s flow < s .«flow_count» → enrolled s flow ≡ s
   unfolding enrolled enrolledAt
   enrolled-equal flow low = yes-pick _ _ (lt-ltb _ _ low)
 
@@ -67,43 +68,28 @@ module _ (s : Inputs) (l : Lists) (i : ℕ) (c : Checked s l) (h : i < s .count)
 
 -- ---- any route, in a record that knows its flow
 module _ (new : Routed) (i time : ℕ) (world : World) (s : Inputs) (l : Lists) (low : i < 16) (sized : Sized s) where
-  -- the slot with its new route, before the new flow opens
-  abbrev there : Slot
-  there = clearedSlot (routedSlot new time (slotAt s i))
-
-  abbrev placed : Inputs
-  placed = putSlot s i there
-
-  placed-slot : slotAt placed i ≡ there
-  placed-slot = slot-same s i there low (sized .slots)
-
-  placed-most : placed .policy .«delay_max» ≡ s .policy .«delay_max»
-  placed-most = ap (λ (z : Inputs). z .policy .«delay_max») (put-rest s i there)
+  placed-most : (placedHere new i time s) .policy .«delay_max» ≡ s .policy .«delay_max»
+  placed-most = ap (λ (z : Inputs). z .policy .«delay_max») (put-rest s i (routedHere new i time s))
 
   -- To show P of the input's slot after another route, and of the words that opening it sends, show it of each end.
   module _ (P : Slot → List ℕ → Type 0)
-      (stays : P there [])
-      (opens : (inode channels : ℕ) → world .inode ≡ Of inode → world .reader ≡ Open channels → P (openedSlot there inode (world .head) time) (setInput i channels))
-      (starts : (inode channels delay : ℕ) → world .inode ≡ Of inode → world .reader ≡ Open channels → startsAnew there ≡ true → delay ≤ s .policy .«delay_max»
-      → P (startedSlot (openedSlot there inode (world .head) time) delay time) (setInput i channels ++ setDelay i delay)) where
-    stays-there : P (slotAt placed i) []
-    stays-there = subst (λ (x : Slot). P x []) (sym placed-slot) stays
+      (stays : P (routedHere new i time s) [])
+      (opens : (inode channels : ℕ) → world .inode ≡ Of inode → world .reader ≡ Open channels → P (openedSlot (routedHere new i time s) inode (world .head) time) (setInput i channels))
+      (starts : (inode channels delay : ℕ) → world .inode ≡ Of inode → world .reader ≡ Open channels → startsAnew (routedHere new i time s) ≡ true → delay ≤ s .policy .«delay_max»
+      → P (startedSlot (openedSlot (routedHere new i time s) inode (world .head) time) delay time) (setInput i channels ++ setDelay i delay)) where
+    stays-there : P (slotAt (placedHere new i time s) i) []
+    stays-there = subst (λ (x : Slot). P x []) (sym (placed-slot new i time s low sized)) stays
 
-    open-ends : (to : Routed) → P (slotAt (openedFor to i time world placed .inputs) i) (openedFor to i time world placed .words)
+    open-ends : (to : Routed) → P (slotAt (openedFor to i time world (placedHere new i time s) .inputs) i) (openedFor to i time world (placedHere new i time s) .words)
     unfolding quiet
     open-ends Nowhere = stays-there
     open-ends (To route) =
-        open-outcomes i low placed time world (sized-put s i there sized) P stays-there
-        (λ inode channels of open-to. subst (λ (x : Slot). P (openedSlot x inode (world .head) time) (setInput i channels)) (sym placed-slot) (opens inode channels of open-to))
+        open-outcomes i low (placedHere new i time s) time world (sized-put s i (routedHere new i time s) sized) P stays-there
+        (λ inode channels of open-to. subst (λ (x : Slot). P (openedSlot x inode (world .head) time) (setInput i channels)) (sym (placed-slot new i time s low sized)) (opens inode channels of open-to))
         (λ inode channels delay of open-to anew most.
-        subst (λ (x : Slot). P (startedSlot (openedSlot x inode (world .head) time) delay time) (setInput i channels ++ setDelay i delay)) (sym placed-slot)
-        (starts inode channels delay of open-to (subst (λ (x : Slot). startsAnew x ≡ true) placed-slot anew) (subst (λ (n : ℕ). delay ≤ n) placed-most most)))
+        subst (λ (x : Slot). P (startedSlot (openedSlot x inode (world .head) time) delay time) (setInput i channels ++ setDelay i delay)) (sym (placed-slot new i time s low sized))
+        (starts inode channels delay of open-to (subst (λ (x : Slot). startsAnew x ≡ true) (placed-slot new i time s low sized) anew) (subst (λ (n : ℕ). delay ≤ n) placed-most most)))
 
     pub moved-outcomes : P (slotAt (moved new i time world s l .inputs) i) (moved new i time world s l .words)
     unfolding moved followedBy cleared
     moved-outcomes = open-ends new
-
-  -- .. and what goes before them: ClearInput for an old route, and SetDelay 0 where the delay starts over
-  pub moved-words : rerouted new i time world s l .words ≡ (forgetting i (slotAt s i .route) ++ (zeroing i new (slotAt s i) ++ moved new i time world s l .words))
-  unfolding rerouted
-  moved-words = refl

@@ -9,6 +9,7 @@ use lib.ListN.{length, replicate, length-replicate, length-append}
 use lib.Seq.{sets, length-sets}
 use borrow.Author.Tests.{eqb-true}
 use Rattle.base.specs.Lists.{padded}
+use Rattle.base.specs.Limits.{counterLimit}
 use Rattle.base.proofs.Choices.{yes-pick, no-pick, pick-all}
 use Rattle.base.proofs.Words.{laid, sets-append}
 use Rattle.rules_record.specs.declared.Routed.{Routed}
@@ -75,7 +76,7 @@ module _ (s : Inputs) (l : Lists) (commands : List ℕ) (input : ℕ) (wanted : 
         let told = input-told s l (length commands) input time _ (sym is-number ∙ passed) in
         omega (arith, eqb-true (length commands) (s .count * 12) (checked-commands s l (Words (length commands)) (told .0)), fitting .allowed .least)
 
-    few : slotAt s input .reopens < 9_223_372_036_854_775_808
+    few : slotAt s input .reopens < counterLimit
     unfolding routeNumber
     few =
         let told = input-told s l (length commands) input time _ (sym is-number ∙ passed) in
@@ -112,20 +113,20 @@ module _ (s : Inputs) (l : Lists) (commands : List ℕ) (input : ℕ) (wanted : 
         between-long : length between ≡ length commands
         between-long = ap (λ (z : List ℕ). length z) (wrote .1) ∙ length-sets zeros 0 (forgetting input (slot .route) ++ zeroing input new slot) ∙ ap (λ (z : List ℕ). length z) is-zeros ∙ length-replicate {A = ℕ} (length commands) 0
 
-        few-here : slot .reopens < 9_223_372_036_854_775_808
-        few-here = subst (λ (x : Slot). x .reopens < 9_223_372_036_854_775_808) (sym (is-slot ∙ ap (λ (z : Inputs). slotAt z input) is-known ∙ for-slot s wanted input)) few
+        few-here : slot .reopens < counterLimit
+        few-here = subst (λ (x : Slot). x .reopens < counterLimit) (sym (is-slot ∙ ap (λ (z : Inputs). slotAt z input) is-known ∙ for-slot s wanted input)) few
 
-        few-changed : changed .reopens < 9_223_372_036_854_775_808
-        few-changed = subst (λ (k : ℕ). k < 9_223_372_036_854_775_808) (sym (ap (λ (x : Slot). x .reopens) is-changed ∙ routed-reopens new time slot)) few-here
+        few-changed : changed .reopens < counterLimit
+        few-changed = subst (λ (k : ℕ). k < counterLimit) (sym (ap (λ (x : Slot). x .reopens) is-changed ∙ routed-reopens new time slot)) few-here
 
         pub open-asked : (used + 6 ≤ length between) × (input < 16) × (slotAt all input .reopens < 2 ^ 63)
         unfolding cleared
         open-asked = (
           omega (arith, room, between-long, wrote .0, wrote .2),
           low,
-          subst (λ (z : Inputs). slotAt z input .reopens < 9_223_372_036_854_775_808) (sym (ap (λ (e : Effect). e .inputs) is-cleared))
-              (slot-put known input (clearedSlot changed) (λ (x : Slot). x .reopens < 9_223_372_036_854_775_808) few-changed
-              (subst (λ (x : Slot). x .reopens < 9_223_372_036_854_775_808) is-slot few-here)),
+          subst (λ (z : Inputs). slotAt z input .reopens < counterLimit) (sym (ap (λ (e : Effect). e .inputs) is-cleared))
+              (slot-put known input (clearedSlot changed) (λ (x : Slot). x .reopens < counterLimit) few-changed
+              (subst (λ (x : Slot). x .reopens < counterLimit) is-slot few-here)),
         )
 
         abbrev opened : Done

@@ -11,9 +11,8 @@ use Rattle.rules_record.specs.declared.Routed.the-variants.{Nowhere, To}
 use Rattle.rules_record.specs.declared.Proposal.the-variants.{Nothing}
 use Rattle.rules_record.specs.declared.Slot.{Slot}
 use Rattle.rules_record.specs.declared.Inputs.{Inputs}
-use Rattle.rules_record.specs.Slots.{stateNumber}
-use Rattle.rules_record.specs.Inputs.{slotAt, putSlot}
-use Rattle.rules_record.proofs.SlotFrame.{slot-same}
+use Rattle.rules_record.specs.States.{stateNumber, isStalled}
+use Rattle.rules_record.specs.Inputs.{slotAt}
 use Rattle.rules_record.proofs.Sized.{sized-put}
 use Rattle.rules_record.specs.Sized.{Sized}
 use Rattle.rules_record.specs.Commands.{quiet}
@@ -30,7 +29,7 @@ use Rattle.rules_calls.specs.RouteChecks.{routeNumber}
 use Rattle.rules_calls.specs.Route.{enrolledFor, routeFor, equalRoute, startsOver, startedOver, stateFor, routedSlot, openedFor, moved, rerouted, routedTo, routed}
 use Rattle.rules_calls.specs.RouteReply.{routeReply}
 use Rattle.rules_calls.proofs.Enrolling.{for-slot}
-use Rattle.rules_calls.proofs.RouteFrames.{for-sized, route-other}
+use Rattle.rules_calls.proofs.RouteFrames.{for-sized, route-other, routedHere, placedHere, placed-slot}
 
 -- The counters of z are those of the slot, and where that has no proposal z has none.
 pub record Quiet (slot z : Slot) : Type 0 where
@@ -70,7 +69,7 @@ module _ (slot : Slot) (inode head time : ℕ) (waits : stateNumber (slot .state
   running-quiet : Quiet slot (runningSlot slot inode head time)
   unfolding runningSlot
   running-quiet =
-      pick-all (Quiet slot) (eqb (stateNumber (slot .state)) 3)
+      pick-all (Quiet slot) (isStalled (slot .state))
       (record { reopens = refl; changes = refl; lates = refl; kind = refl; none = λ e. e })
       (record { reopens = refl; changes = refl; lates = refl; kind = refl; none = λ e. e })
 
@@ -88,31 +87,22 @@ module _ (slot : Slot) (inode head time : ℕ) (waits : stateNumber (slot .state
 
 -- ---- what the call does, in a record that knows the flow
 module _ (new : Routed) (i time : ℕ) (world : World) (s : Inputs) (l : Lists) (low : i < 16) (sized : Sized s) where
-  abbrev there : Slot
-  there = clearedSlot (routedSlot new time (slotAt s i))
-
-  abbrev placed : Inputs
-  placed = putSlot s i there
-
-  placed-slot : slotAt placed i ≡ there
-  placed-slot = slot-same s i there low (sized .slots)
-
-  placed-state : slotAt placed i .state ≡ stateFor new
+  placed-state : slotAt (placedHere new i time s) i .state ≡ stateFor new
   unfolding routedSlot
-  placed-state = ap (λ (x : Slot). x .state) placed-slot
+  placed-state = ap (λ (x : Slot). x .state) (placed-slot new i time s low sized)
 
-  placed-quiet : Quiet (slotAt s i) (slotAt placed i)
-  placed-quiet = subst (Quiet (slotAt s i)) (sym placed-slot) (routed-quiet new time (slotAt s i))
+  placed-quiet : Quiet (slotAt s i) (slotAt (placedHere new i time s) i)
+  placed-quiet = subst (Quiet (slotAt s i)) (sym (placed-slot new i time s low sized)) (routed-quiet new time (slotAt s i))
 
-  opens-quiet : (to : Routed) → new ≡ to → Quiet (slotAt placed i) (slotAt (openedFor to i time world placed .inputs) i)
+  opens-quiet : (to : Routed) → new ≡ to → Quiet (slotAt (placedHere new i time s) i) (slotAt (openedFor to i time world (placedHere new i time s) .inputs) i)
   unfolding quiet
-  opens-quiet Nowhere e = quiet-same (slotAt placed i)
+  opens-quiet Nowhere e = quiet-same (slotAt (placedHere new i time s) i)
   opens-quiet (To route) e =
-      let waits : stateNumber (slotAt placed i .state) ≡ 1 = ap stateNumber (placed-state ∙ ap stateFor e) in
-      open-outcomes i low placed time world (sized-put s i there sized) (λ (x : Slot) (words : List ℕ). Quiet (slotAt placed i) x)
-      (quiet-same (slotAt placed i))
-      (λ inode channels of open-to. opened-quiet (slotAt placed i) inode (world .head) time waits)
-      (λ inode channels delay of open-to anew most. started-quiet (slotAt placed i) inode (world .head) time waits delay)
+      let waits : stateNumber (slotAt (placedHere new i time s) i .state) ≡ 1 = ap stateNumber (placed-state ∙ ap stateFor e) in
+      open-outcomes i low (placedHere new i time s) time world (sized-put s i (routedHere new i time s) sized) (λ (x : Slot) (words : List ℕ). Quiet (slotAt (placedHere new i time s) i) x)
+      (quiet-same (slotAt (placedHere new i time s) i))
+      (λ inode channels of open-to. opened-quiet (slotAt (placedHere new i time s) i) inode (world .head) time waits)
+      (λ inode channels delay of open-to anew most. started-quiet (slotAt (placedHere new i time s) i) inode (world .head) time waits delay)
 
   moved-quiet : Quiet (slotAt s i) (slotAt (moved new i time world s l .inputs) i)
   unfolding moved followedBy cleared

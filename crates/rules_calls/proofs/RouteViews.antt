@@ -4,23 +4,21 @@ use mathlib.Core.Bool.{Bool, true, false}
 use mathlib.Core.Path.{_≡_, refl, sym, ap, subst, _∙_}
 use mathlib.Core.List.{List, [], _++_}
 use native.Mathlib.Omega.{arith}
-use lib.Dec.{eqb}
 use lib.ListN.{length, length-replicate}
 use Rattle.base.specs.Choice.{pick}
-use Rattle.base.proofs.Choices.{pick-all, pick-rule}
-use Rattle.rules_window.specs.Window.{Window, fresh}
-use Rattle.rules_window.specs.Window.{windowed}
+use Rattle.base.proofs.Choices.{pick-rule}
+use Rattle.rules_window.specs.Window.{Window, fresh, windowed}
 use Rattle.rules_window.specs.Parts.{partOf}
 use Rattle.delay_hold.specs.Next.{Held, held, freshHold, clearedHold, seededHold}
 use Rattle.rules_record.specs.declared.Routed.{Routed}
 use Rattle.rules_record.specs.declared.Slot.{Slot}
 use Rattle.rules_record.specs.declared.Inputs.{Inputs}
 use Rattle.rules_record.specs.declared.Proposal.the-variants.{Nothing}
-use Rattle.rules_record.specs.Slots.{stateNumber, withDelay, withProposed}
+use Rattle.rules_record.specs.Slots.{withDelay, withProposed}
 use Rattle.rules_record.specs.Inputs.{slotAt}
 use Rattle.rules_record.specs.Commands.{setInput, setDelay}
 use Rattle.rules_routing.specs.declared.World.{World}
-use Rattle.rules_routing.specs.TryOpen.{runningSlot, openedSlot}
+use Rattle.rules_routing.specs.TryOpen.{openedSlot}
 use Rattle.rules_routing.proofs.TryOpenOutcomes.{startedSlot}
 use Rattle.rules_record.specs.Lent.{Lists, bucketsIn, windowFor, windowOf, heldFor, heldOf, withWindow}
 use Rattle.rules_record.specs.Effects.{Effect, followedBy}
@@ -28,34 +26,27 @@ use Rattle.rules_record.specs.Facts.{Checked}
 use Rattle.rules_record.proofs.Beside.{held-same}
 use Rattle.rules_record.proofs.Shapes.{held-times, held-lags, fresh-sound}
 use Rattle.rules_record.proofs.Keep.{window-beside, window-read}
-use Rattle.rules_routing.specs.Clear.{clearedSlot, clearedLists, cleared}
+use Rattle.rules_routing.specs.Clear.{clearedLists, cleared}
 use Rattle.rules_routing.proofs.SettingsKept.{SameSettings, settings-frame}
-use Rattle.rules_routing.proofs.TryOpenKeeps.{opened-seconds, opened-hold}
+use Rattle.rules_routing.proofs.TryOpenKeeps.{opened-seconds, opened-hold, opened-delay}
 use Rattle.rules_calls.specs.declared.Wanted.{Wanted}
 use Rattle.rules_calls.specs.Route.{enrolledFor, routeFor, equalRoute, forgetting, startsOver, zeroing, startedOver, routedSlot, moved, rerouted, routedTo, routed}
 use Rattle.rules_calls.proofs.Enrolling.{for-rest, for-slot, for-count}
 use Rattle.rules_calls.proofs.RouteKeeps.{for-keeps}
-use Rattle.rules_calls.proofs.RouteFrames.{moved-frame}
+use Rattle.rules_calls.proofs.RouteFrames.{moved-frame, routedHere}
 use Rattle.rules_calls.proofs.RouteOutcomes.{moved-outcomes}
 
 -- the delay with a new route, before the flow opens: "another flow, automatic, delay not 0: delay 0"
 abbrev pub delayFor : Routed → Slot → ℕ
 delayFor new slot = pick (startsOver new slot) 0 (slot .delay)
 
-over-delay : (new : Routed) (time : ℕ) (slot : Slot) → startedOver new time slot .delay ≡ delayFor new slot
+pub over-delay : (new : Routed) (time : ℕ) (slot : Slot) → startedOver new time slot .delay ≡ delayFor new slot
 unfolding startedOver
 over-delay new time slot = by (startsOver new slot)
   where
     by : (over : Bool) → pick over (withProposed (withDelay slot 0 time) Nothing) slot .delay ≡ pick over 0 (slot .delay)
     by true = refl
     by false = refl
-
-opened-delay : (slot : Slot) (inode head time : ℕ) → openedSlot slot inode head time .delay ≡ slot .delay
-unfolding openedSlot runningSlot
-opened-delay slot inode head time =
-    pick-all (λ (x : Slot). x .delay ≡ slot .delay) (eqb (stateNumber (slot .state)) 1)
-    (pick-all (λ (x : Slot). x .delay ≡ slot .delay) (eqb (stateNumber (slot .state)) 3) refl refl)
-    (pick-all (λ (x : Slot). x .delay ≡ slot .delay) (eqb (stateNumber (slot .state)) 3) refl refl)
 
 -- ---- another route, in a record that knows its flow
 module _ (new : Routed) (i time : ℕ) (world : World) (s : Inputs) (l : Lists) (c : Checked s l) (h : i < s .count) where
@@ -91,10 +82,7 @@ module _ (new : Routed) (i time : ℕ) (world : World) (s : Inputs) (l : Lists) 
   low : i < 16
   low = omega (arith, c .fitting .allowed .most)
 
-  abbrev there : Slot
-  there = clearedSlot (routedSlot new time (slotAt s i))
-
-  there-delay : there .delay ≡ delayFor new (slotAt s i)
+  there-delay : (routedHere new i time s) .delay ≡ delayFor new (slotAt s i)
   unfolding routedSlot
   there-delay = over-delay new time (slotAt s i)
 
@@ -118,17 +106,17 @@ module _ (new : Routed) (i time : ℕ) (world : World) (s : Inputs) (l : Lists) 
     unfolding routedSlot
     read-ends =
         moved-outcomes new i time world s l low (c .sized) Read
-        (read-by there (clearedHold (heldOf s l i)) (delayFor new (slotAt s i)) [] refl refl there-delay stays)
+        (read-by (routedHere new i time s) (clearedHold (heldOf s l i)) (delayFor new (slotAt s i)) [] refl refl there-delay stays)
         (λ inode channels of open-to.
-        let x : Slot = openedSlot there inode (world .head) time in
-        read-by x (clearedHold (heldOf s l i)) (delayFor new (slotAt s i)) (setInput i channels) (opened-seconds there inode (world .head) time)
-        (ap (λ k. held k (clearedHold (heldOf s l i) .times) (clearedHold (heldOf s l i) .lags)) (opened-hold there inode (world .head) time))
-        (opened-delay there inode (world .head) time ∙ there-delay) (opens channels))
+        let x : Slot = openedSlot (routedHere new i time s) inode (world .head) time in
+        read-by x (clearedHold (heldOf s l i)) (delayFor new (slotAt s i)) (setInput i channels) (opened-seconds (routedHere new i time s) inode (world .head) time)
+        (ap (λ k. held k (clearedHold (heldOf s l i) .times) (clearedHold (heldOf s l i) .lags)) (opened-hold (routedHere new i time s) inode (world .head) time))
+        (opened-delay (routedHere new i time s) inode (world .head) time ∙ there-delay) (opens channels))
         (λ inode channels delay of open-to anew most.
-        let x : Slot = openedSlot there inode (world .head) time in
+        let x : Slot = openedSlot (routedHere new i time s) inode (world .head) time in
         read-by (startedSlot x delay time) (held (seededHold freshHold delay time) (clearedHold (heldOf s l i) .times) (clearedHold (heldOf s l i) .lags)) delay (setInput i channels ++ setDelay i delay)
-        (opened-seconds there inode (world .head) time)
-        (ap (λ k. held (seededHold k delay time) (clearedHold (heldOf s l i) .times) (clearedHold (heldOf s l i) .lags)) (opened-hold there inode (world .head) time))
+        (opened-seconds (routedHere new i time s) inode (world .head) time)
+        (ap (λ k. held (seededHold k delay time) (clearedHold (heldOf s l i) .times) (clearedHold (heldOf s l i) .lags)) (opened-hold (routedHere new i time s) inode (world .head) time))
         refl (starts channels delay most))
 
     pub moved-views : P (windowOf after (moved new i time world s l .lists) i) (heldOf after (moved new i time world s l .lists) i) (slotAt after i .delay) (moved new i time world s l .words)

@@ -11,15 +11,17 @@ use Rattle.doubles.specs.Doubles.{msOf}
 use Rattle.rules_window.specs.declared.Quantile.{Quantile}
 use Rattle.rules_window.specs.declared.Quantile.the-variants as Quantile
 use Rattle.rules_window.specs.Window.{Window}
-use Rattle.rules_window.specs.Whole.{Sound}
-use Rattle.rules_window.specs.Quantile.{quantileIn, quantileOf, totalUpto}
+use Rattle.rules_window.specs.WholeWindow.{Sound}
+use Rattle.rules_window.specs.Quantile.{quantileIn, quantileOf, totalUpto, thousandths}
 use Rattle.rules_window.proofs.Laws.{Holds, quantile-exists}
 use Rattle.rules_window.proofs.Numbers.{sound-placeable}
+use Rattle.rules_window.proofs.Thousandths.{thousandths-in}
 use Rattle.delay_hold.specs.declared.Moment.{Moment}
 use Rattle.delay_hold.specs.declared.Moment.the-variants.{Never, At}
+use Rattle.delay_hold.specs.Steps5To8.{heldSince}
 use Rattle.rules_record.specs.declared.Slot.{Slot}
 use Rattle.rules_record.specs.declared.Inputs.{Inputs}
-use Rattle.rules_record.specs.Slots.{stateNumber}
+use Rattle.rules_record.specs.States.{stateNumber}
 use Rattle.rules_record.specs.declared.Commands.the-variants.{Absent}
 use Rattle.rules_record.specs.Lent.{Lists}
 use Rattle.rules_record.proofs.Checked.{of-checked}
@@ -29,9 +31,10 @@ use Rattle.rules_calls.specs.declared.Arrival.{Arrival}
 use Rattle.rules_calls.specs.declared.Arrival.the-variants as Arrival
 use Rattle.rules_record.specs.Checks.{inputNumber}
 use Rattle.rules_calls.specs.StatusChecks.{statusNumber, channelsNumber, settledNumber}
-use Rattle.rules_calls.specs.Status.{thousandths, arrivalOf, arrivalIn, noStatus, statusOf, statusReply}
-use Rattle.rules_calls.specs.StatusAnswers.{hasChannels, restedFor, settledSlot}
-use Rattle.rules_calls.proofs.StatusShows.{thousandths-in, all-there}
+use Rattle.rules_calls.specs.Status.{arrivalOf, arrivalIn, noStatus, statusOf, statusReply}
+use Rattle.rules_calls.specs.HasChannels.{hasChannels}
+use Rattle.rules_calls.specs.Settled.{settledSlot}
+use Rattle.rules_calls.proofs.StatusShows.{all-there}
 
 -- ---- a record that was checked is never refused by 1 to 6
 module _ (s : Inputs) (l : Lists) (c : Checked s l) (input : ℕ) (h : input < s .count) where
@@ -68,21 +71,21 @@ module _ (slot : Slot) (channels wanted : ℕ) where
 
 -- ---- settled: yes exactly if Running, and the last SetDelay, if any, is at least hold old
 module _ (hold time : ℕ) where
-  rested-of : (moment : Moment) → restedFor moment hold time ≡ true → (set : ℕ) → moment ≡ At set → hold ≤ time - set
-  rested-of moment e set is = leb-true _ _ (sym (ap (λ (x : Moment). restedFor x hold time) is) ∙ e)
+  rested-of : (moment : Moment) → heldSince moment hold time ≡ true → (set : ℕ) → moment ≡ At set → hold ≤ time - set
+  rested-of moment e set is = leb-true _ _ (sym (ap (λ (x : Moment). heldSince x hold time) is) ∙ e)
 
-  of-rested : (moment : Moment) → ((set : ℕ) → moment ≡ At set → hold ≤ time - set) → restedFor moment hold time ≡ true
+  of-rested : (moment : Moment) → ((set : ℕ) → moment ≡ At set → hold ≤ time - set) → heldSince moment hold time ≡ true
   of-rested Never f = refl
   of-rested (At set) f = le-leb _ _ (f set refl)
 
   module _ (slot : Slot) where
-    pub settled-of : settledSlot slot hold time ≡ true → (stateNumber (slot .state) ≡ 2) × ((set : ℕ) → slot .«last_set» ≡ At set → hold ≤ time - set)
-    unfolding settledSlot
-    settled-of e = let t = both-true _ _ e in (eqb-true _ _ (t .0), rested-of (slot .«last_set») (t .1))
-
     pub of-settled : stateNumber (slot .state) ≡ 2 → ((set : ℕ) → slot .«last_set» ≡ At set → hold ≤ time - set) → settledSlot slot hold time ≡ true
     unfolding settledSlot
     of-settled running f = true-both _ _ (eq-eqb _ _ running) (of-rested (slot .«last_set») f)
+
+    pub settled-of : settledSlot slot hold time ≡ true → (stateNumber (slot .state) ≡ 2) × ((set : ℕ) → slot .«last_set» ≡ At set → hold ≤ time - set)
+    unfolding settledSlot
+    settled-of e = let t = both-true _ _ e in (eqb-true _ _ (t .0), rested-of (slot .«last_set») (t .1))
 
 -- ---- the quantiles: all three as soon as a lag is counted, none before
 abbrev noLimit : ℕ

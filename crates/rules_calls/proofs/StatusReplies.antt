@@ -1,19 +1,21 @@
 -- The answers of the three calls, case by case, as the code goes. Assumes nothing.
 use Prim.Native.Nat.{ℕ, _-_}
-use mathlib.Core.Bool.{Bool, true, false}
+use mathlib.Core.Bool.{Bool, false}
 use mathlib.Core.Path.{_≡_, refl, sym, ap, _∙_}
 use borrow.Author.Tests.{eq-eqb, ne-eqb}
 use lib.Dec.{leb}
 use Rattle.base.proofs.Choices.{refused-old, accepted-new}
 use Rattle.base.proofs.All.{both-yes, both-no}
 use Rattle.delay_hold.specs.declared.Moment.{Moment}
-use Rattle.delay_hold.specs.declared.Moment.the-variants.{Never, At}
+use Rattle.delay_hold.specs.declared.Moment.the-variants.{At}
+use Rattle.delay_hold.specs.Steps5To8.{heldSince}
 use Rattle.rules_record.specs.declared.Slot.{Slot}
-use Rattle.rules_record.specs.Slots.{stateNumber}
+use Rattle.rules_record.specs.States.{stateNumber}
 use Rattle.rules_calls.specs.declared.Answer.{Answer}
 use Rattle.rules_calls.specs.declared.InputStatus.{InputStatus}
 use Rattle.rules_calls.specs.Status.{noStatus, statusBy}
-use Rattle.rules_calls.specs.StatusAnswers.{answerBy, hasChannels, restedFor, settledSlot}
+use Rattle.rules_calls.specs.HasChannels.{answerBy, hasChannels}
+use Rattle.rules_calls.specs.Settled.{settledSlot}
 
 -- ---- by the number of the checks
 module _ {n : ℕ} (number : ℕ) (is-number : n ≡ number) where
@@ -50,13 +52,11 @@ module _ {slot other : Slot} (is-slot : other ≡ slot) {code : ℕ} (is-code : 
   unfolding settledSlot
   settled-idle h hold time = both-no _ _ (ne-eqb _ _ (λ e. h (state-is ∙ e)))
 
-  pub settled-running : code ≡ 2 → (hold time : ℕ) {rested : Bool} → rested ≡ restedFor (slot .«last_set») hold time → rested ≡ settledSlot slot hold time
+  pub settled-running : code ≡ 2 → (hold time : ℕ) {rested : Bool} → rested ≡ heldSince (slot .«last_set») hold time → rested ≡ settledSlot slot hold time
   unfolding settledSlot
   settled-running h hold time e = both-yes _ _ _ (eq-eqb _ _ (sym state-is ∙ h)) e
 
 -- ---- the last SetDelay
-pub rested-never : (hold time : ℕ) {moment : Moment} → moment ≡ Never → true ≡ restedFor moment hold time
-rested-never hold time e = sym (ap (λ (x : Moment). restedFor x hold time) e)
 
-pub rested-since : (hold time : ℕ) {moment : Moment} {set age : ℕ} → moment ≡ At set → age ≡ time - set → leb hold age ≡ restedFor moment hold time
-rested-since hold time e is-age = ap (leb hold) is-age ∙ sym (ap (λ (x : Moment). restedFor x hold time) e)
+pub rested-since : (hold time : ℕ) {moment : Moment} {set age : ℕ} → moment ≡ At set → age ≡ time - set → leb hold age ≡ heldSince moment hold time
+rested-since hold time e is-age = ap (leb hold) is-age ∙ sym (ap (λ (x : Moment). heldSince x hold time) e)

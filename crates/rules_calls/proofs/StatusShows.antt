@@ -1,25 +1,18 @@
 -- What a status shows, part by part, and what its functions ask of a record that was checked. Assumes nothing.
-use Prim.Native.Nat.{ℕ, _-_, _≤_}
-use mathlib.Core.Bool.{true, false}
+use Prim.Native.Nat.{ℕ, _-_}
 use mathlib.Core.Path.{_≡_, refl, sym, ap, _∙_}
 use mathlib.Core.List.{[], _∷_}
 use mathlib.Core.Logic.{⊎-elim}
 use native.Mathlib.Omega.{arith}
-use denote.Floats.{is-true}
 use denote.Enum.Declared.{tagOf}
 use types.Run.{OneOf}
-use lib.IntN.{pos}
-use lib.Ieee.{Float, fin, binary64, round, ofBits}
-use lib.Ieee.Order.{round-mono}
-use Rattle.base.proofs.Points.{true-both}
+use lib.Ieee.{Float}
 use Rattle.doubles.specs.Doubles.{msOf}
 use Rattle.rules_window.specs.declared.Quantile.{Quantile}
 use Rattle.rules_window.specs.declared.Quantile.the-variants as Quantile
 use Rattle.rules_window.proofs.Quantile.{the-type}
 use Rattle.rules_window.specs.Window.{Window}
-use Rattle.rules_window.specs.Checks.{fromZeroToOne}
-use Rattle.rules_window.specs.Quantile.{quantileOf}
-use Rattle.delay_hold.proofs.Wholes as holds
+use Rattle.rules_window.specs.Quantile.{quantileOf, thousandths}
 use Rattle.rules_record.specs.declared.Flow.{Flow}
 use Rattle.rules_record.specs.declared.Route.{Route}
 use Rattle.rules_record.specs.declared.Routed.{Routed}
@@ -29,37 +22,7 @@ use Rattle.rules_record.specs.Flows.{flowAt}
 use Rattle.rules_calls.specs.declared.Sourced.the-variants.{From}
 use Rattle.rules_calls.specs.declared.Arrival.{Arrival}
 use Rattle.rules_calls.specs.declared.Arrival.the-variants as Arrival
-use Rattle.rules_calls.specs.Status.{sourceOf, thousandths, arrivalBy, arrivalWith, arrivalOf, arrivalIn}
-
--- ---- the three quantiles' q
-zero-is : round binary64 false 0 1 ≡ fin false 0 (pos 0)
-unfolding round
-zero-is = refl
-
-one-is : round binary64 false 1 1 ≡ fin false 1 (pos 0)
-unfolding round
-one-is = refl
-
--- thousandths are from 0 to 1
-pub thousandths-in : (k : ℕ) → k ≤ 1000 → fromZeroToOne (thousandths k) ≡ true
-unfolding fromZeroToOne thousandths
-thousandths-in k h =
-    true-both _ _
-    (is-true _ (rw zero-is at (round-mono binary64 0 1 k 1000 (omega arith) (omega arith) (omega arith))))
-    (is-true _ (rw one-is at (round-mono binary64 k 1000 1 1 (omega arith) (omega arith) (omega arith))))
-
--- the code's literals
-pub half-is : ofBits binary64 4602678819172646912 ≡ thousandths 500
-unfolding ofBits round thousandths
-half-is = refl
-
-pub high-is : ofBits binary64 4607092346807469998 ≡ thousandths 990
-unfolding ofBits round thousandths
-high-is = refl
-
-pub highest-is : ofBits binary64 4607173411600762667 ≡ thousandths 999
-unfolding ofBits round thousandths
-highest-is = refl
+use Rattle.rules_calls.specs.Status.{sourceOf, arrivalBy, arrivalWith, arrivalOf, arrivalIn}
 
 -- ---- the three quantiles, all or none
 -- the other arm of `let .. else`: a quantile whose tag is not that of an end

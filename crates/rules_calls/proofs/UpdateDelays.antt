@@ -1,6 +1,5 @@
 -- The input's delay, proposal, counters and the words sent after each call; a manual delay is not remembered. Assumes nothing.
 use Prim.Native.Nat.{ℕ, _+_, _<_}
-use mathlib.Core.Bool.{Bool, false}
 use mathlib.Core.Path.{_≡_, refl, sym, ap, _∙_}
 use mathlib.Core.List.{[]}
 use lib.Ieee.{Float}
@@ -9,37 +8,31 @@ use Rattle.rules_record.specs.declared.AutoTag.{AutoTag}
 use Rattle.rules_record.specs.declared.ExtraDelay.the-variants.{Auto, Ms}
 use Rattle.rules_record.specs.declared.Proposal.{Proposal}
 use Rattle.rules_record.specs.declared.Proposal.the-variants.{Pending}
-use Rattle.rules_record.specs.declared.Routed.{Routed}
-use Rattle.rules_record.specs.declared.Routed.the-variants.{Nowhere, To}
 use Rattle.rules_record.specs.declared.Slot.{Slot}
 use Rattle.rules_record.specs.declared.Inputs.{Inputs}
 use Rattle.rules_record.specs.Slots.{isAuto, withDelay}
 use Rattle.rules_record.specs.Inputs.{slotAt, putSlot, withSlots}
 use Rattle.rules_record.proofs.SlotFrame.{slot-same, put-rest}
 use Rattle.rules_record.proofs.Sized.{sized-put}
+use Rattle.rules_record.proofs.FlowCases.{unremembered}
 use Rattle.rules_record.specs.Sized.{Sized}
 use Rattle.rules_record.specs.Flows.{rememberedBy, rememberedFor}
-use Rattle.rules_record.specs.Commands.{setDelay, quiet, first}
+use Rattle.rules_record.specs.Commands.{setDelay, quiet, sendFirst}
 use Rattle.rules_routing.specs.SetDelay.{delayStored, setDelayOf}
 use Rattle.rules_routing.proofs.SetDelayStored.{stored-same}
 use Rattle.rules_record.specs.Lent.{Lists}
 use Rattle.rules_routing.specs.Clear.{clearedSlot, cleared}
-use Rattle.rules_calls.specs.Update.{kindStored, delaySet, updated, taken, confirmedBy, confirmed}
-
--- a delay of an input that is not automatic is not remembered
-unremembered : (route : Routed) (automatic : Bool) (s : Inputs) (delay : ℕ) → automatic ≡ false → rememberedBy route automatic s delay ≡ s
-unfolding rememberedBy
-unremembered Nowhere automatic s delay e = refl
-unremembered (To route) automatic s delay e = ap (λ (b : Bool). rememberedBy (To route) b s delay) e
+use Rattle.rules_calls.specs.Update.{kindStored, delaySet, updated}
+use Rattle.rules_calls.specs.ConfirmDelay.{taken, confirmedBy, confirmed}
 
 module _ (s : Inputs) (i time : ℕ) (low : i < 16) (sized : Sized s) where
   -- ---- a delay is set: the slot has it and its time, and it is sent
   pub set-slot : (slot : Slot) (delay : ℕ) → slotAt (delaySet i slot delay time s .inputs) i ≡ withDelay slot delay time
-  unfolding delaySet setDelayOf first quiet
+  unfolding delaySet setDelayOf sendFirst quiet
   set-slot slot delay = stored-same (putSlot s i slot) i delay time low (sized-put s i slot sized) ∙ ap (λ (x : Slot). withDelay x delay time) (slot-same s i slot low (sized .slots))
 
   pub set-words : (slot : Slot) (delay : ℕ) → delaySet i slot delay time s .words ≡ setDelay i delay
-  unfolding delaySet setDelayOf first quiet
+  unfolding delaySet setDelayOf sendFirst quiet
   set-words slot delay = refl
 
   module _ (l : Lists) where
@@ -54,7 +47,7 @@ module _ (s : Inputs) (i time : ℕ) (low : i < 16) (sized : Sized s) where
 
     -- .. and no table changes: nothing is remembered
     pub manual-unremembered : (delay : Float) → updated i (Ms delay) time s l .inputs ≡ withSlots s (updated i (Ms delay) time s l .inputs .slots)
-    unfolding updated delaySet setDelayOf first quiet delayStored rememberedFor
+    unfolding updated delaySet setDelayOf sendFirst quiet delayStored rememberedFor
     manual-unremembered delay = stays ∙ rest ∙ ap (λ (x : Inputs). withSlots s (x .slots)) (sym stays)
       where
         slot : Slot

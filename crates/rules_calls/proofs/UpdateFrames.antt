@@ -12,7 +12,7 @@ use Rattle.rules_record.specs.declared.Slot.{Slot}
 use Rattle.rules_record.specs.declared.Inputs.{Inputs}
 use Rattle.rules_record.specs.Inputs.{slotAt, putSlot}
 use Rattle.rules_record.proofs.SlotFrame.{slot-other}
-use Rattle.rules_record.specs.Commands.{quiet, first}
+use Rattle.rules_record.specs.Commands.{quiet, sendFirst}
 use Rattle.rules_routing.specs.SetDelay.{delayStored, setDelayOf}
 use Rattle.rules_routing.proofs.SetDelayStored.{stored-other}
 use Rattle.rules_record.specs.Lent.{Lists, bucketsIn}
@@ -23,18 +23,19 @@ use Rattle.rules_routing.specs.Clear.{clearedSlot, cleared}
 use Rattle.rules_routing.proofs.ClearFrames.{cleared-beside}
 use Rattle.rules_routing.proofs.SettingsKept.{SameSettings, settings-then, settings-put, settings-stored}
 use Rattle.rules_calls.specs.UpdateChecks.{updateNumber, confirmNumber}
-use Rattle.rules_calls.specs.Update.{kindStored, delaySet, updated, taken, confirmedBy, confirmed}
+use Rattle.rules_calls.specs.Update.{kindStored, delaySet, updated}
+use Rattle.rules_calls.specs.ConfirmDelay.{taken, confirmedBy, confirmed}
 use Rattle.rules_calls.specs.UpdateReply.{updateReply, confirmReply}
 use Rattle.rules_record.proofs.Numbers.{call-fitting, call-input}
 
 module _ (s : Inputs) (i : ℕ) where
   -- ---- a delay is set
   pub set-other : (slot : Slot) (delay time j : ℕ) → (j ≡ i → ⊥) → slotAt (delaySet i slot delay time s .inputs) j ≡ slotAt s j
-  unfolding delaySet setDelayOf first quiet
+  unfolding delaySet setDelayOf sendFirst quiet
   set-other slot delay time j apart = stored-other (putSlot s i slot) i delay time j apart ∙ slot-other s i slot j apart
 
   pub set-settings : (slot : Slot) (delay time : ℕ) → SameSettings s (delaySet i slot delay time s .inputs)
-  unfolding delaySet setDelayOf first quiet
+  unfolding delaySet setDelayOf sendFirst quiet
   set-settings slot delay time = settings-then s (putSlot s i slot) (delayStored (putSlot s i slot) i delay time) (settings-put s i slot) (settings-stored (putSlot s i slot) i delay time)
 
   module _ (l : Lists) where

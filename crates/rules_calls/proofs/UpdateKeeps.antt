@@ -7,7 +7,7 @@ use lib.Dec.{T}
 use lib.Ieee.{Float}
 use lib.ListN.{length}
 use borrow.Author.Tests.{leb-true}
-use Rattle.base.specs.Limits.{timeLimit}
+use Rattle.base.specs.Limits.{timeLimit, counterLimit, samplesLimit}
 use Rattle.base.proofs.Choices.{asked, accepted-all}
 use Rattle.base.proofs.Points.{both-true}
 use Rattle.doubles.specs.Doubles.{samplesOf}
@@ -19,24 +19,24 @@ use Rattle.rules_record.specs.declared.Proposal.the-variants.{Nothing, Pending}
 use Rattle.rules_record.specs.declared.Slot.{Slot}
 use Rattle.rules_record.specs.declared.Inputs.{Inputs}
 use Rattle.rules_record.specs.Inputs.{slotAt, putSlot}
-use Rattle.rules_record.specs.Commands.{quiet, first}
+use Rattle.rules_record.specs.Commands.{quiet, sendFirst}
 use Rattle.rules_routing.specs.SetDelay.{setDelayOf}
 use Rattle.rules_record.specs.Lent.{Lists}
 use Rattle.rules_record.specs.Reply.{Reply}
-use Rattle.rules_record.specs.Places.{proposalFits}
-use Rattle.rules_record.specs.Facts.{WholeSlot}
-use Rattle.rules_record.specs.Facts.{Checked}
+use Rattle.rules_record.specs.WholePlaces.{proposalFits}
+use Rattle.rules_record.specs.Facts.{WholeSlot, Checked}
 use Rattle.rules_record.proofs.Keep.{slot-keeps, cleared-keeps}
 use Rattle.rules_routing.specs.Clear.{clearedSlot, cleared}
 use Rattle.rules_routing.proofs.SettingsKept.{settings-put}
 use Rattle.rules_routing.proofs.SetDelayKeeps.{stored-keeps}
 use Rattle.rules_calls.specs.UpdateChecks.{manualFits, kindFits, updateNumber, confirmNumber}
-use Rattle.rules_calls.specs.Update.{kindStored, delaySet, updated, taken, confirmedBy, confirmed}
+use Rattle.rules_calls.specs.Update.{kindStored, delaySet, updated}
+use Rattle.rules_calls.specs.ConfirmDelay.{taken, confirmedBy, confirmed}
 use Rattle.rules_calls.specs.UpdateReply.{updateReply, confirmReply}
 use Rattle.rules_record.proofs.Numbers.{input-told}
 
 -- "Is a manual delay from 0 to `ms`(maximum)?": then its samples are at most maximum
-pub manual-most : (delay : Float) (maximum : ℕ) → maximum ≤ 96000 → manualFits delay maximum ≡ true → samplesOf delay ≤ maximum
+pub manual-most : (delay : Float) (maximum : ℕ) → maximum ≤ samplesLimit → manualFits delay maximum ≡ true → samplesOf delay ≤ maximum
 unfolding manualFits
 manual-most delay maximum most fits =
     let both = both-true _ _ fits in
@@ -49,7 +49,7 @@ module _ (s : Inputs) (l : Lists) (i : ℕ) (c : Checked s l) (h : i < s .count)
   -- ---- a delay is set
   module _ (slot : Slot) (fits : WholeSlot (s .policy .«delay_max») (s .«flow_count») slot) (seconds : slot .«lag_seconds» ≡ slotAt s i .«lag_seconds») (hold : slot .hold ≡ slotAt s i .hold) where
     pub set-keeps : (delay time : ℕ) → delay ≤ s .policy .«delay_max» → time ≤ timeLimit → Checked (delaySet i slot delay time s .inputs) l
-    unfolding delaySet setDelayOf first quiet
+    unfolding delaySet setDelayOf sendFirst quiet
     set-keeps delay time most soon =
         stored-keeps (putSlot s i slot) l i delay time (slot-keeps s l i slot c h fits seconds hold)
         (subst (λ (z : Inputs). i < z .count) (sym (settings-put s i slot)) h)
@@ -72,16 +72,16 @@ module _ (s : Inputs) (l : Lists) (i : ℕ) (c : Checked s l) (h : i < s .count)
   updated-keeps (Auto tag) time fits soon = cleared-keeps s l i (clearedSlot (kindStored (slotAt s i) (Auto tag))) c h (cleared-slot (Auto tag)) refl refl
 
   -- ---- `confirm_delay`
-  taken-slot : slotAt s i .«delay_changes» + 1 < 9_223_372_036_854_775_808 → WholeSlot (s .policy .«delay_max») (s .«flow_count») (taken (slotAt s i))
+  taken-slot : slotAt s i .«delay_changes» + 1 < counterLimit → WholeSlot (s .policy .«delay_max») (s .«flow_count») (taken (slotAt s i))
   taken-slot few =
       record { delay = old .delay; proposed = refl; route = old .route; reopens = old .reopens; changes = few; lates = old .lates; head = old .head; set = old .set }
 
-  confirmed-by : (proposal : Proposal) → proposalFits proposal (s .policy .«delay_max») ≡ true → (time : ℕ) → slotAt s i .«delay_changes» + 1 < 9_223_372_036_854_775_808 → time ≤ timeLimit
+  confirmed-by : (proposal : Proposal) → proposalFits proposal (s .policy .«delay_max») ≡ true → (time : ℕ) → slotAt s i .«delay_changes» + 1 < counterLimit → time ≤ timeLimit
       → Checked (confirmedBy proposal i time s l .inputs) (confirmedBy proposal i time s l .lists)
   confirmed-by Nothing fits time few soon = c
   confirmed-by (Pending delay) fits time few soon = set-keeps (taken (slotAt s i)) (taken-slot few) refl refl delay time (leb-true _ _ fits) soon
 
-  pub confirmed-keeps : (time : ℕ) → slotAt s i .«delay_changes» + 1 < 9_223_372_036_854_775_808 → time ≤ timeLimit → Checked (confirmed i time s l .inputs) (confirmed i time s l .lists)
+  pub confirmed-keeps : (time : ℕ) → slotAt s i .«delay_changes» + 1 < counterLimit → time ≤ timeLimit → Checked (confirmed i time s l .inputs) (confirmed i time s l .lists)
   unfolding confirmed
   confirmed-keeps time few soon = confirmed-by (slotAt s i .proposed) (old .proposed) time few soon
 
@@ -95,7 +95,7 @@ module _ (s : Inputs) (l : Lists) (commands : List ℕ) (input : ℕ) (c : Check
       let told = input-told s l (length commands) input time _ e in
       updated-keeps s l input c (told .1) kind time (asked 11 _ _ (told .3) .0) (told .2))
 
-  pub confirm-keeps : (time : ℕ) → slotAt s input .«delay_changes» + 1 < 9_223_372_036_854_775_808 → Checked (confirmReply s l commands input time .inputs) (confirmReply s l commands input time .lists)
+  pub confirm-keeps : (time : ℕ) → slotAt s input .«delay_changes» + 1 < counterLimit → Checked (confirmReply s l commands input time .inputs) (confirmReply s l commands input time .lists)
   unfolding confirmReply confirmNumber
   confirm-keeps time few =
       accepted-all (λ (reply : Reply). Checked (reply .inputs) (reply .lists)) (confirmNumber s l (length commands) input time) _ _ c

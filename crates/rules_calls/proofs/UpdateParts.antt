@@ -20,7 +20,8 @@ use Rattle.rules_record.specs.declared.Sent.{Sent}
 use Rattle.rules_record.specs.Commands.{Did}
 use Rattle.rules_routing.specs.SetDelay.{setDelayOf}
 use Rattle.rules_calls.specs.UpdateChecks.{manualFits, kindFits}
-use Rattle.rules_calls.specs.Update.{kindStored, taken, delaySet}
+use Rattle.rules_calls.specs.Update.{kindStored, delaySet}
+use Rattle.rules_calls.specs.ConfirmDelay.{taken}
 
 -- ---- check 12
 pub kind-manual : (maximum : ℕ) {kind : ExtraDelay} {delay : Float} {fits : Bool} → kind ≡ Ms delay → fits ≡ manualFits delay maximum → fits ≡ kindFits kind maximum

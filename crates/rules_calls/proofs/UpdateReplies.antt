@@ -6,6 +6,7 @@ use native.Mathlib.Omega.{arith}
 use lib.Ieee.{Float}
 use lib.ListN.{length, replicate}
 use Rattle.base.specs.Lists.{padded}
+use Rattle.base.specs.Limits.{counterLimit}
 use Rattle.base.proofs.Choices.{yes-ask, no-ask}
 use Rattle.base.proofs.Words.{laid}
 use Rattle.doubles.specs.Doubles.{samplesOf}
@@ -25,7 +26,8 @@ use Rattle.rules_record.proofs.Numbers.{passed-by, call-fitting, call-input, ca
 use Rattle.rules_record.proofs.Replies.{reply-refused, reply-accepted}
 use Rattle.rules_routing.specs.Clear.{cleared}
 use Rattle.rules_calls.specs.UpdateChecks.{updateNumber, pending, confirmNumber}
-use Rattle.rules_calls.specs.Update.{kindStored, delaySet, updated, taken, confirmedBy, confirmed}
+use Rattle.rules_calls.specs.Update.{kindStored, delaySet, updated}
+use Rattle.rules_calls.specs.ConfirmDelay.{taken, confirmedBy, confirmed}
 use Rattle.rules_calls.specs.UpdateReply.{updateReply, confirmReply}
 
 -- ---- `update`
@@ -92,8 +94,8 @@ module _ (s : Inputs) (l : Lists) (commands : List ℕ) (input time : ℕ) {n : 
         (passed-by s l (length commands) input time is-input passed 13 (no-ask 13 0 (ap pending (proposed-is Nothing e))))
         (λ z. omega arith)
 
-    pub taken-asked : slot .«delay_changes» < 9_223_372_036_854_775_808
-    taken-asked = subst (λ (x : Slot). x .«delay_changes» < 9_223_372_036_854_775_808) (sym is-slot) (call-changes s l (length commands) input time 0 (sym is-input ∙ passed))
+    pub taken-asked : slot .«delay_changes» < counterLimit
+    taken-asked = subst (λ (x : Slot). x .«delay_changes» < counterLimit) (sym is-slot) (call-changes s l (length commands) input time 0 (sym is-input ∙ passed))
 
     pub confirm-asked : (3 ≤ length commands) × (input < 16)
     confirm-asked =

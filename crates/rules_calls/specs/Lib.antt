@@ -12,8 +12,10 @@ pub mod RouteReply
 -- `update`, `confirm_delay`
 pub mod UpdateChecks
 pub mod Update
+pub mod ConfirmDelay
 pub mod UpdateReply
 -- `status`, `has_channels`, `settled`
 pub mod StatusChecks
 pub mod Status
-pub mod StatusAnswers
+pub mod HasChannels
+pub mod Settled

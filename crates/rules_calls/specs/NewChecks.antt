@@ -5,7 +5,7 @@ use mathlib.Core.List.{List}
 use lib.Dec.{leb, eqb}
 use lib.ListN.{length}
 use Rattle.base.specs.Choice.{both, ask}
-use Rattle.base.specs.Limits.{timely}
+use Rattle.base.specs.Limits.{timely, samplesLimit}
 use Rattle.policy.specs.Settings.{percentAllowed}
 use Rattle.rules_record.specs.declared.Commands.the-variants.{Words}
 use Rattle.rules_record.specs.Lent.{Lists, bucketsIn}
@@ -16,7 +16,7 @@ use Rattle.rules_calls.specs.NewLoading.{loadFits}
 
 -- 4: "Is margin at most 96,000, percent 0 to 1,000 and no NaN?"
 unfoldable pub marginFits : Settings → Bool
-marginFits settings = both (leb (settings .margin) 96000) (percentAllowed (settings .percent))
+marginFits settings = both (leb (settings .margin) samplesLimit) (percentAllowed (settings .percent))
 
 -- 1 2 3 4 5, with so many flow bytes, loaded delays and words of commands: the number of the first that says no,
 -- or the number that the checks after them give

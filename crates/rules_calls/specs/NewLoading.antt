@@ -6,7 +6,7 @@ use lib.ListN.{getD}
 use Rattle.base.specs.Lists.{all}
 use Rattle.rules_record.specs.declared.Flow.{Flow}
 use Rattle.rules_record.specs.declared.Inputs.{Inputs}
-use Rattle.rules_record.specs.Flows.{admits, enrolled, placeOf, kept}
+use Rattle.rules_record.specs.Flows.{admits, enrolled, flowPlace, kept}
 
 -- "A flow is 16 bytes": the number that n bytes from a place on make, the first weighing most
 unfoldable pub bytesAt : (bytes : List ℕ) (place n : ℕ) → ℕ
@@ -19,7 +19,7 @@ loadedFlow bytes k = record { high = bytesAt bytes (k * 16) 8; low = bytesAt byt
 
 -- the flow is enrolled, and the delay is remembered for it
 unfoldable pub loadedOne : (flow : Flow) (delay : ℕ) (s : Inputs) → Inputs
-loadedOne flow delay s = kept (enrolled s flow) (placeOf (enrolled s flow) flow) delay
+loadedOne flow delay s = kept (enrolled s flow) (flowPlace (enrolled s flow) flow) delay
 
 -- the first n of the loaded delays, in their order
 unfoldable pub loadedBelow : (n : ℕ) (bytes delays : List ℕ) (s : Inputs) → Inputs

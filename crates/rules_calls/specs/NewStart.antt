@@ -9,7 +9,7 @@ use Rattle.rules_record.specs.declared.ExtraDelay.the-variants.{Auto, Ms}
 use Rattle.rules_record.specs.declared.Inputs.{Inputs}
 use Rattle.rules_record.specs.Slots.{withConfig, withHead}
 use Rattle.rules_record.specs.Inputs.{slotAt, putSlot}
-use Rattle.rules_record.specs.Commands.{Done, quiet, first}
+use Rattle.rules_record.specs.Commands.{Done, quiet, sendFirst}
 use Rattle.rules_routing.specs.SetDelay.{setDelayOf}
 use Rattle.rules_record.specs.Lent.{Lists, lists}
 use Rattle.rules_record.specs.Effects.{Effect, beside}
@@ -32,7 +32,7 @@ startedOne i (Ms delay) time s = setDelayOf (madeAt i (Ms delay) time s) i (min 
 
 -- what the second step does after the first: "Commands stand in sending order"
 abbrev pub thenDone : (done : Done) (next : (Inputs → Done)) → Done
-thenDone done next = first (done .words) (next (done .inputs))
+thenDone done next = sendFirst (done .words) (next (done .inputs))
 
 -- the first n inputs, in their order
 unfoldable pub startedBelow : (n : ℕ) (kinds : List ExtraDelay) (time : ℕ) (s : Inputs) → Done
@@ -44,7 +44,7 @@ abbrev pub zeroed : List ℕ → List ℕ
 zeroed places = replicate (length places) 0
 
 abbrev pub zeroedLists : Lists → Lists
-zeroedLists l = lists (zeroed (l .starts)) (zeroed (l .totals)) (zeroed (l .counts)) (zeroed (l .times)) (zeroed (l .lags))
+zeroedLists l = lists (zeroed (l .starts)) (zeroed (l .totals)) (zeroed (l .counts)) (zeroed (l .times)) (zeroed (l .peaks))
 
 -- the record with the loaded delays
 abbrev pub loaded : (settings : Settings) (bytes delays : List ℕ) → Inputs

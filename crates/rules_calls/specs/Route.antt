@@ -14,7 +14,7 @@ use Rattle.rules_record.specs.declared.Slot.{Slot}
 use Rattle.rules_record.specs.declared.Inputs.{Inputs}
 use Rattle.rules_record.specs.Slots.{isAuto, withState, withRoute, withInode, withDelay, withProposed}
 use Rattle.rules_record.specs.Inputs.{slotAt}
-use Rattle.rules_record.specs.Flows.{enrolled, placeOf}
+use Rattle.rules_record.specs.Flows.{enrolled, flowPlace}
 use Rattle.rules_record.specs.Commands.{Done, clearInput, setDelay, quiet}
 use Rattle.rules_routing.specs.declared.World.{World}
 use Rattle.rules_routing.specs.TryOpen.{tryOpenOf}
@@ -33,7 +33,7 @@ enrolledFor s (Wanted.From source) = enrolled s (source .flow)
 -- a route names its flow by its place in the flow table
 abbrev pub routeFor : (s : Inputs) → Wanted → Routed
 routeFor s Wanted.Nothing = Nowhere
-routeFor s (Wanted.From source) = To (record { domain = source .domain; flow = placeOf s (source .flow) })
+routeFor s (Wanted.From source) = To (record { domain = source .domain; flow = flowPlace s (source .flow) })
 
 -- ---- the route that was
 -- "an equal route on a routed input"

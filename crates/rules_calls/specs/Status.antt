@@ -2,9 +2,8 @@
 use Prim.Native.Nat.{ℕ, _+_, _*_}
 use mathlib.Core.Bool.{false}
 use mathlib.Core.List.{List}
-use lib.Dec.{eqb}
 use lib.IntN.{pos}
-use lib.Ieee.{Float, fin, binary64, round}
+use lib.Ieee.{Float, fin}
 use lib.ListN.{take}
 use Rattle.base.specs.Choice.{pick, accepted}
 use Rattle.base.specs.Lists.{part}
@@ -12,10 +11,10 @@ use Rattle.doubles.specs.Doubles.{msOf}
 use Rattle.rules_window.specs.declared.Quantile.{Quantile}
 use Rattle.rules_window.specs.declared.Quantile.the-variants as Quantile
 use Rattle.rules_window.specs.Window.{Window}
-use Rattle.rules_window.specs.Quantile.{quantileOf}
+use Rattle.rules_window.specs.Quantile.{quantileOf, thousandths}
 use Rattle.delay_hold.specs.declared.Lag.{Lag}
 use Rattle.delay_hold.specs.declared.Lag.the-variants as Lag
-use Rattle.delay_hold.specs.Peaks.{worstOf}
+use Rattle.delay_hold.specs.Step4Peaks.{worstOf}
 use Rattle.rules_record.specs.declared.AutoTag.the-variants as AutoTag
 use Rattle.rules_record.specs.declared.ExtraDelay.the-variants.{Auto}
 use Rattle.rules_record.specs.declared.State.{State}
@@ -25,7 +24,8 @@ use Rattle.rules_record.specs.declared.Proposal.{Proposal}
 use Rattle.rules_record.specs.declared.Proposal.the-variants as Proposal
 use Rattle.rules_record.specs.declared.Slot.{Slot}
 use Rattle.rules_record.specs.declared.Inputs.{Inputs}
-use Rattle.rules_record.specs.Slots.{stateNumber, isAuto}
+use Rattle.rules_record.specs.Slots.{isAuto}
+use Rattle.rules_record.specs.States.{stateNumber, isUnrouted}
 use Rattle.rules_record.specs.Inputs.{slotAt}
 use Rattle.rules_record.specs.Flows.{flowAt}
 use Rattle.rules_record.specs.Lent.{Lists, windowFor}
@@ -45,7 +45,7 @@ sourceOf s (Routed.To route) = Sourced.From (record { flow = flowAt s (route .fl
 
 -- "channels (0 if Unrouted)"
 unfoldable pub channelsShown : (state : State) (channels : ℕ) → ℕ
-channelsShown state channels = pick (eqb (stateNumber state) 0) 0 channels
+channelsShown state channels = pick (isUnrouted state) 0 channels
 
 -- "`ms` .. of the proposal"
 abbrev pub proposedMs : Proposal → Milliseconds
@@ -67,10 +67,6 @@ abbrev pub arrivalOf : Quantile → (high highest : Quantile) → Arrival
 arrivalOf (Quantile.End p50) high highest = arrivalWith p50 high highest
 arrivalOf Quantile.None high highest = Arrival.None
 arrivalOf (Quantile.Refused number) high highest = Arrival.None
-
--- k thousandths as a double
-unfoldable pub thousandths : ℕ → Float
-thousandths k = round binary64 false k 1000
 
 -- "without limit"
 unfoldable pub arrivalIn : Window → Arrival
@@ -98,7 +94,7 @@ statusFor s l i applied channels slot =
       «proposed_delay_ms» = proposedMs (slot .proposed);
       «lag_ms» = msOf (slot .«last_lag»);
       «arrival_lag_ms» = arrivalIn (windowFor s l i slot);
-      «worst_lag_ms» = worstMs slot (part (i * 600) 600 (l .lags));
+      «worst_lag_ms» = worstMs slot (part (i * 600) 600 (l .peaks));
       «delay_changes» = slot .«delay_changes»;
       «late_events» = slot .«late_events»;
       reopens = slot .reopens;

@@ -7,7 +7,8 @@ use Rattle.rules_record.specs.declared.Inputs.{Inputs}
 use Rattle.rules_record.specs.Lent.{Lists}
 use Rattle.rules_record.specs.Reply.{Reply, replied}
 use Rattle.rules_calls.specs.UpdateChecks.{updateNumber, confirmNumber}
-use Rattle.rules_calls.specs.Update.{updated, confirmed}
+use Rattle.rules_calls.specs.Update.{updated}
+use Rattle.rules_calls.specs.ConfirmDelay.{confirmed}
 
 unfoldable pub updateReply : (s : Inputs) (l : Lists) (commands : List ℕ) (input : ℕ) (kind : ExtraDelay) (time : ℕ) → Reply
 updateReply s l commands input kind time = replied (updateNumber s l (length commands) input kind time) s l commands (updated input kind time s l)

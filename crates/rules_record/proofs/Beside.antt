@@ -3,8 +3,7 @@ use Prim.Native.Nat.{ℕ, _*_, _<_}
 use mathlib.Core.Path.{_≡_, refl, _∙_}
 use lib.ListN.{length}
 use Rattle.base.specs.Lists.{part}
-use Rattle.rules_window.specs.Window.{Window}
-use Rattle.rules_window.specs.Window.{windowed}
+use Rattle.rules_window.specs.Window.{Window, windowed}
 use Rattle.rules_window.specs.Parts.{partOf}
 use Rattle.delay_hold.specs.Next.{Held, held}
 use Rattle.rules_record.specs.Lent.{Lists, withWindow, withHeld}
@@ -17,7 +16,7 @@ pub record Beside (n buckets i : ℕ) (l m : Lists) : Type 0 where
   pub totals : (j : ℕ) → j < n → (j ≡ i → ⊥) → part (j * 11) 11 (m .totals) ≡ part (j * 11) 11 (l .totals)
   pub counts : (j : ℕ) → j < n → (j ≡ i → ⊥) → part (j * (11 * buckets)) (11 * buckets) (m .counts) ≡ part (j * (11 * buckets)) (11 * buckets) (l .counts)
   pub times : (j : ℕ) → j < n → (j ≡ i → ⊥) → part (j * 600) 600 (m .times) ≡ part (j * 600) 600 (l .times)
-  pub lags : (j : ℕ) → j < n → (j ≡ i → ⊥) → part (j * 600) 600 (m .lags) ≡ part (j * 600) 600 (l .lags)
+  pub peaks : (j : ℕ) → j < n → (j ≡ i → ⊥) → part (j * 600) 600 (m .peaks) ≡ part (j * 600) 600 (l .peaks)
   pub long : Long n buckets m
 
 module _ (n buckets i : ℕ) (l : Lists) (long : Long n buckets l) where
@@ -27,7 +26,7 @@ module _ (n buckets i : ℕ) (l : Lists) (long : Long n buckets l) where
     totals = λ j h apart. refl;
     counts = λ j h apart. refl;
     times = λ j h apart. refl;
-    lags = λ j h apart. refl;
+    peaks = λ j h apart. refl;
     long = long;
   }
 
@@ -40,13 +39,13 @@ module _ (n buckets i : ℕ) (l : Lists) (long : Long n buckets l) where
         totals = block-other n 11 i (w .totals) (l .totals) totals (long .totals) h;
         counts = block-other n (11 * buckets) i (w .counts) (l .counts) counts (long .counts) h;
         times = λ j g apart. refl;
-        lags = λ j g apart. refl;
+        peaks = λ j g apart. refl;
         long = record {
           starts = block-length n 11 i (w .starts) (l .starts) starts (long .starts) h ∙ long .starts;
           totals = block-length n 11 i (w .totals) (l .totals) totals (long .totals) h ∙ long .totals;
           counts = block-length n (11 * buckets) i (w .counts) (l .counts) counts (long .counts) h ∙ long .counts;
           times = long .times;
-          lags = long .lags;
+          peaks = long .peaks;
         };
       }
 
@@ -69,21 +68,21 @@ module _ (n buckets i : ℕ) (l : Lists) (long : Long n buckets l) where
         totals = λ j g apart. refl;
         counts = λ j g apart. refl;
         times = block-other n 600 i (v .times) (l .times) times (long .times) h;
-        lags = block-other n 600 i (v .lags) (l .lags) lags (long .lags) h;
+        peaks = block-other n 600 i (v .lags) (l .peaks) lags (long .peaks) h;
         long = record {
           starts = long .starts;
           totals = long .totals;
           counts = long .counts;
           times = block-length n 600 i (v .times) (l .times) times (long .times) h ∙ long .times;
-          lags = block-length n 600 i (v .lags) (l .lags) lags (long .lags) h ∙ long .lags;
+          peaks = block-length n 600 i (v .lags) (l .peaks) lags (long .peaks) h ∙ long .peaks;
         };
       }
 
-      pub held-same : held (v .hold) (part (i * 600) 600 (withHeld i v l .times)) (part (i * 600) 600 (withHeld i v l .lags)) ≡ v
+      pub held-same : held (v .hold) (part (i * 600) 600 (withHeld i v l .times)) (part (i * 600) 600 (withHeld i v l .peaks)) ≡ v
       held-same = λ t. record {
         hold = v .hold;
         times = block-same n 600 i (v .times) (l .times) times (long .times) h t;
-        lags = block-same n 600 i (v .lags) (l .lags) lags (long .lags) h t;
+        lags = block-same n 600 i (v .lags) (l .peaks) lags (long .peaks) h t;
       }
 
 -- one replacement after the other
@@ -93,6 +92,6 @@ beside-then n buckets i l m k a b = record {
   totals = λ j h apart. b .totals j h apart ∙ a .totals j h apart;
   counts = λ j h apart. b .counts j h apart ∙ a .counts j h apart;
   times = λ j h apart. b .times j h apart ∙ a .times j h apart;
-  lags = λ j h apart. b .lags j h apart ∙ a .lags j h apart;
+  peaks = λ j h apart. b .peaks j h apart ∙ a .peaks j h apart;
   long = b .long;
 }

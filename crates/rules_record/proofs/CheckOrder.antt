@@ -12,7 +12,7 @@ use Rattle.policy.specs.Settings.{marginsAllowed}
 use Rattle.rules_record.specs.declared.Inputs.{Inputs}
 use Rattle.rules_record.specs.declared.Commands.{Commands}
 use Rattle.rules_record.specs.Lent.{Lists, bucketsIn}
-use Rattle.rules_record.specs.Record.{wholeRecord}
+use Rattle.rules_record.specs.WholeRecord.{wholeRecord}
 use Rattle.rules_record.specs.Checks.{inputsAllowed, bucketsAllowed, pausesAllowed, listsFit, commandsFit, recordNumber, ownNumber}
 
 -- "Asked in this order ..; a no ends it with that number"

@@ -1,11 +1,10 @@
 -- What the number 0 of checks 1 to 6 says, as facts, and back; and the number with other checks after them. Assumes nothing.
 use Prim.Native.Nat.{ℕ}
-use mathlib.Core.Bool.{Bool, true, false}
+use mathlib.Core.Bool.{true}
 use mathlib.Core.Path.{_≡_, refl, _∙_}
 use denote.Floats.{is-true}
 use borrow.Author.Tests.{leb-true, eqb-true, le-leb, eq-eqb}
-use Rattle.base.specs.Choice.{ask}
-use Rattle.base.proofs.Choices.{yes-ask, asked}
+use Rattle.base.proofs.Choices.{yes-ask, asked, same-refusal}
 use Rattle.base.proofs.Points.{both-true, true-both}
 use Rattle.policy.specs.declared.DelayPolicy.{DelayPolicy}
 use Rattle.policy.specs.Settings.{reachesAllowed, timesAllowed, marginsAllowed}
@@ -78,7 +77,7 @@ module _ (n buckets : ℕ) (l : Lists) where
         totals = eqb-true _ _ (d2 .0);
         counts = eqb-true _ _ (d3 .0);
         times = eqb-true _ _ (d4 .0);
-        lags = eqb-true _ _ (d4 .1);
+        peaks = eqb-true _ _ (d4 .1);
       }
 
   pub five-yes : Long n buckets l → listsFit n buckets l ≡ true
@@ -86,14 +85,9 @@ module _ (n buckets : ℕ) (l : Lists) where
   five-yes f =
       true-both _ _ (eq-eqb _ _ (f .starts))
       (true-both _ _ (eq-eqb _ _ (f .totals))
-      (true-both _ _ (eq-eqb _ _ (f .counts)) (true-both _ _ (eq-eqb _ _ (f .times)) (eq-eqb _ _ (f .lags)))))
+      (true-both _ _ (eq-eqb _ _ (f .counts)) (true-both _ _ (eq-eqb _ _ (f .times)) (eq-eqb _ _ (f .peaks)))))
 
 -- ---- 1 to 6
--- a check refuses alike, whatever comes after those that refused
-same-refusal : (k : ℕ) (b : Bool) {m n : ℕ} → ((n ≡ 0 → ⊥) → m ≡ n) → (ask k b n ≡ 0 → ⊥) → ask k b m ≡ ask k b n
-unfolding ask
-same-refusal k true same none = same none
-same-refusal k false same none = refl
 
 -- what they let through
 pub record Passed (s : Inputs) (l : Lists) (commands : Commands) : Type 0 where

@@ -4,16 +4,15 @@ use mathlib.Core.Bool.{Bool, true, false, not}
 use mathlib.Core.Path.{_≡_, refl, ap, _∙_}
 use mathlib.Core.List.{[], _∷_}
 use lib.ListN.{replicate}
-use Rattle.base.specs.Choice.{pick}
+use Rattle.base.specs.Choice.{pick, both}
 use Rattle.policy.specs.declared.DelayPolicy.{DelayPolicy}
 use Rattle.policy.specs.Settings.{timesAllowed}
 use Rattle.rules_record.specs.declared.Commands.the-variants.{Absent, Words}
 use Rattle.rules_record.specs.Lent.{Lists, lists}
-use Rattle.rules_record.specs.Checks.{pausesAllowed, listsFit, commandsFit}
+use Rattle.rules_record.specs.Checks.{pausesAllowed, listsFit, commandsFit, inputsAllowed}
 use lib.Dec.{ltb}
 use lib.Ieee.{Float}
 use borrow.Author.Tests.{eq-eqb, ne-eqb, lt-ltb, le-ltb}
-use Rattle.base.specs.Choice.{both}
 use Rattle.base.proofs.Choices.{yes-pick, no-pick, pick-all}
 use Rattle.rules_record.specs.declared.AutoTag.{AutoTag}
 use Rattle.rules_record.specs.declared.ExtraDelay.the-variants.{Auto, Ms}
@@ -30,13 +29,13 @@ use Rattle.rules_record.specs.declared.Slot.{Slot}
 use Rattle.rules_record.specs.declared.Instance.{Instance}
 use Rattle.rules_record.specs.declared.Extra.{Extra}
 use Rattle.rules_record.specs.declared.Inputs.{Inputs}
-use Rattle.rules_record.specs.Slots.{stateNumber, isAuto, emptySlot, withState, withRoute, withInode}
+use Rattle.rules_record.specs.Slots.{isAuto, emptySlot, withState, withRoute, withInode}
+use Rattle.rules_record.specs.States.{stateNumber}
 use Rattle.rules_record.specs.Commands.{setInput, clearInput, setDelay}
-use Rattle.rules_record.specs.Lent.{Lists}
-use Rattle.rules_record.specs.Flows.{placeOf, admits, recalled, kept, differs, marked, remembered}
-use Rattle.rules_record.specs.Instances.{sameKey, usesKey, isExtra, anyUses, wantedKey}
-use Rattle.rules_record.specs.Places.{routeFits}
-use Rattle.rules_record.specs.Checks.{inputsAllowed, pausesAllowed, listsFit, commandsFit}
+use Rattle.rules_record.specs.Flows.{flowPlace, admits, recalled, kept, differs, marked, remembered}
+use Rattle.rules_record.specs.Instances.{sameKey}
+use Rattle.rules_record.specs.Prune.{usesKey, isExtra, anyUses, wantedKey}
+use Rattle.rules_record.specs.WholePlaces.{routeFits}
 
 -- "States: 0 Unrouted, 1 Waiting, 2 Running, 3 Stalled."
 pub states-numbered : stateNumber Unrouted ∷ stateNumber Waiting ∷ stateNumber Running ∷ stateNumber Stalled ∷ [] ≡ 0 ∷ 1 ∷ 2 ∷ 3 ∷ []
@@ -107,17 +106,17 @@ commands-of-three-words = refl
 
 -- 9: "Is the flow known, or the flow table short of 64?"
 module _ (s : Inputs) (flow : Flow) where
-  pub known-flow-admitted : placeOf s flow < s .«flow_count» → admits s flow ≡ true
+  pub known-flow-admitted : flowPlace s flow < s .«flow_count» → admits s flow ≡ true
   unfolding admits
   known-flow-admitted h = yes-pick true _ (lt-ltb _ _ h)
 
-  pub full-table-refuses : 64 ≤ s .«flow_count» → s .«flow_count» ≤ placeOf s flow → admits s flow ≡ false
+  pub full-table-refuses : 64 ≤ s .«flow_count» → s .«flow_count» ≤ flowPlace s flow → admits s flow ≡ false
   unfolding admits
   full-table-refuses full unknown = no-pick true _ (le-ltb _ _ unknown) ∙ le-ltb _ _ full
 
   pub short-table-admits : s .«flow_count» < 64 → admits s flow ≡ true
   unfolding admits
-  short-table-admits h = pick-all (λ (b : Bool). b ≡ true) (ltb (placeOf s flow) (s .«flow_count»)) refl (lt-ltb _ _ h)
+  short-table-admits h = pick-all (λ (b : Bool). b ≡ true) (ltb (flowPlace s flow) (s .«flow_count»)) refl (lt-ltb _ _ h)
 
 -- "`ExtraDelay` is Auto with its tag, or Ms with a double"
 pub auto-or-manual : (tag : AutoTag) (delay : Float) → (isAuto (Auto tag) ≡ true) × (isAuto (Ms delay) ≡ false)

@@ -13,8 +13,8 @@ use Rattle.rules_record.specs.Inputs.{slotAt}
 use Rattle.rules_record.specs.Flows.{emptyEntry, entryAt}
 use Rattle.rules_record.specs.Instances.{noKey, keyAt}
 use Rattle.rules_record.specs.Lent.{Lists}
-use Rattle.rules_record.specs.Places.{wholeSlot, unusedSlot, unusedEntry, entryFits, entriesFit, wholeFlows, unusedKey, keyFits, keysFit, wholeInstances}
-use Rattle.rules_record.specs.Record.{wholeInput, inputFits, wholeInputs, wholeRecord}
+use Rattle.rules_record.specs.WholePlaces.{wholeSlot, unusedSlot, unusedEntry, entryFits, entriesFit, wholeFlows, unusedKey, keyFits, keysFit, wholeInstances}
+use Rattle.rules_record.specs.WholeRecord.{wholeInput, inputFits, wholeInputs, wholeRecord}
 use Rattle.rules_record.specs.Facts.{WholeSlot, WholeInput, WholeFlows, WholeInstances, Whole}
 use Rattle.rules_record.proofs.Unused.{unused-slot, empty-slot, unused-entry, empty-entry, unused-key, no-key}
 

@@ -5,7 +5,6 @@ use mathlib.Core.Path.{_≡_, refl, sym, _∙_, ap, ap₂}
 use mathlib.Core.List.{[], _∷_}
 use native.Mathlib.Nat.{le-of-eq}
 use native.Mathlib.Omega.{arith}
-use lib.Dec.{ltb}
 use lib.ListN.{length, length-append}
 use Rattle.base.specs.Choice.{pick}
 use Rattle.base.specs.Lists.{sum}
@@ -18,13 +17,14 @@ use Rattle.rules_record.specs.declared.Routed.{Routed}
 use Rattle.rules_record.specs.declared.Routed.the-variants.{Nowhere, To}
 use Rattle.rules_record.specs.declared.Inode.{Inode}
 use Rattle.rules_record.specs.declared.Inode.the-variants.{Gone, Of}
-use Rattle.rules_record.specs.Slots.{stateNumber}
+use Rattle.rules_record.specs.States.{isShut}
 use Rattle.rules_record.specs.Inputs.{slotAt}
 use Rattle.base.proofs.Tests.{not-both}
 use Rattle.rules_record.specs.declared.Extra.{Extra}
 use Rattle.rules_record.specs.declared.Extra.the-variants.{Nothing, Key}
 use Rattle.base.specs.Any.{any}
-use Rattle.rules_record.specs.Instances.{sameKey, keyAt, held, readsKey, usesKey, anyUses, isExtra, wantedKey, keepOne, keptKeys, pruned}
+use Rattle.rules_record.specs.Instances.{sameKey, keyAt, keysHeld}
+use Rattle.rules_record.specs.Prune.{readsKey, usesKey, anyUses, isExtra, wantedKey, keepOne, keptKeys, pruned}
 use Rattle.rules_record.proofs.InstanceKeys.{same-key, Distinct, pruned-count}
 
 -- how many of the first n keys pass a test
@@ -52,7 +52,7 @@ fails-count false h = refl
 
 -- a test that only one key passes counts at most one, where keys are distinct
 module _ (p : Instance → Bool) (only : (a b : Instance) → p a ≡ true → p b ≡ true → a ≡ b) (s : Inputs) where
-  count-one : (n : ℕ) → n ≤ held s → Distinct s → count p s n ≤ 1
+  count-one : (n : ℕ) → n ≤ keysHeld s → Distinct s → count p s n ≤ 1
   unfolding sum Distinct
   count-one zero l d = omega arith
   count-one (suc n) l d =
@@ -72,28 +72,28 @@ reads-one (To route) (Of inode) a b e f = sym (same-key _ a e) ∙ same-key _ b 
 
 uses-one : (slot : Slot) (a b : Instance) → usesKey slot a ≡ true → usesKey slot b ≡ true → a ≡ b
 unfolding usesKey
-uses-one slot a b e f = go (ltb (stateNumber (slot .state)) 2) e f
+uses-one slot a b e f = go (isShut (slot .state)) e f
   where
     go : (t : Bool) → pick t false (readsKey (slot .route) (slot .inode) a) ≡ true → pick t false (readsKey (slot .route) (slot .inode) b) ≡ true → a ≡ b
     go true e f = absurd (not-both e refl)
     go false e f = reads-one (slot .route) (slot .inode) a b e f
 
 module _ (s : Inputs) (d : Distinct s) where
-  any-few : (k : ℕ) → count (λ key. any (λ i. usesKey (slotAt s i) key) k) s (held s) ≤ k
+  any-few : (k : ℕ) → count (λ key. any (λ i. usesKey (slotAt s i) key) k) s (keysHeld s) ≤ k
   unfolding any or
-  any-few zero = le-of-eq (sum-zero _ (held s) (λ i l. refl))
+  any-few zero = le-of-eq (sum-zero _ (keysHeld s) (λ i l. refl))
   any-few (suc k) =
-      let low : count (λ key. any (λ i. usesKey (slotAt s i) key) k) s (held s) ≤ k = any-few k in
+      let low : count (λ key. any (λ i. usesKey (slotAt s i) key) k) s (keysHeld s) ≤ k = any-few k in
       omega (
         arith,
         low,
-        count-or (λ key. any (λ i. usesKey (slotAt s i) key) k) (λ key. usesKey (slotAt s k) key) (λ key. any (λ i. usesKey (slotAt s i) key) (suc k)) (λ key. refl) s (held s),
-        count-one (λ key. usesKey (slotAt s k) key) (uses-one (slotAt s k)) s (held s) (omega arith) d,
+        count-or (λ key. any (λ i. usesKey (slotAt s i) key) k) (λ key. usesKey (slotAt s k) key) (λ key. any (λ i. usesKey (slotAt s i) key) (suc k)) (λ key. refl) s (keysHeld s),
+        count-one (λ key. usesKey (slotAt s k) key) (uses-one (slotAt s k)) s (keysHeld s) (omega arith) d,
       )
 
-  extra-few : (extra : Extra) → count (isExtra extra) s (held s) ≤ 1
-  extra-few Nothing = omega (arith, sum-zero (λ i. 0) (held s) (λ i l. refl))
-  extra-few (Key one) = count-one (sameKey one) (λ a b e f. sym (same-key one a e) ∙ same-key one b f) s (held s) (omega arith) d
+  extra-few : (extra : Extra) → count (isExtra extra) s (keysHeld s) ≤ 1
+  extra-few Nothing = omega (arith, sum-zero (λ i. 0) (keysHeld s) (λ i l. refl))
+  extra-few (Key one) = count-one (sameKey one) (λ a b e f. sym (same-key one a e) ∙ same-key one b f) s (keysHeld s) (omega arith) d
 
 -- what is kept is what is wanted
 kept-count : (s : Inputs) (extra : Extra) (n : ℕ) → length (keptKeys s extra n) ≡ count (wantedKey s extra) s n
@@ -114,8 +114,8 @@ pruned-few s extra d =
     omega (
       arith,
       pruned-count s extra,
-      kept-count s extra (held s),
-      count-or (isExtra extra) (anyUses s) (wantedKey s extra) (λ key. refl) s (held s),
+      kept-count s extra (keysHeld s),
+      count-or (isExtra extra) (anyUses s) (wantedKey s extra) (λ key. refl) s (keysHeld s),
       extra-few s d extra,
       any-few s d 16,
     )

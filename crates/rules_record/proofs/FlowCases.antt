@@ -1,7 +1,7 @@
 -- The definitions of the flow table as the code comes to them. Assumes nothing.
 use Prim.Native.Nat.{ℕ, _<_, _≤_}
 use mathlib.Core.Bool.{Bool, true, false}
-use mathlib.Core.Path.{_≡_, sym, ap, _∙_}
+use mathlib.Core.Path.{_≡_, sym, ap, _∙_, refl}
 use native.Mathlib.Omega.{arith}
 use lib.ListN.{getD}
 use borrow.Author.Tests.{eq-eqb, ne-eqb, lt-ltb, le-ltb}
@@ -18,7 +18,7 @@ use Rattle.rules_record.specs.declared.Routed.the-variants.{Nowhere, To}
 use Rattle.rules_record.specs.declared.Slot.{Slot}
 use Rattle.rules_record.specs.declared.Inputs.{Inputs}
 use Rattle.rules_record.specs.Slots.{isAuto}
-use Rattle.rules_record.specs.Flows.{emptyEntry, entryAt, sameFlow, flowAt, known, placeBelow, placeOf, newAt, added, enrolledAt, enrolled, recalled, kept, differs, marked, remembered, rememberedBy, rememberedFor}
+use Rattle.rules_record.specs.Flows.{emptyEntry, entryAt, sameFlow, flowAt, known, placeBelow, flowPlace, newAt, added, enrolledAt, enrolled, recalled, kept, differs, marked, remembered, rememberedBy, rememberedFor}
 
 module _ (s : Inputs) (place : ℕ) where
   pub entry-in : place < 64 → entryAt s place ≡ getD (s .flows) place emptyEntry
@@ -54,7 +54,7 @@ pub known-most : (s : Inputs) → known s ≤ 64
 unfolding known
 known-most s = omega arith
 
-module _ (s : Inputs) (flow : Flow) {place : ℕ} (e : place ≡ placeOf s flow) where
+module _ (s : Inputs) (flow : Flow) {place : ℕ} (e : place ≡ flowPlace s flow) where
   by : enrolled s flow ≡ enrolledAt place s flow
   unfolding enrolled
   by = ap (λ (p : ℕ). enrolledAt p s flow) (sym e)
@@ -97,5 +97,12 @@ module _ (s : Inputs) (slot : Slot) (delay : ℕ) where
     pub for-automatic : isAuto (slot .config .«extra_delay») ≡ true → rememberedFor s slot delay ≡ remembered s (route .flow) delay
     for-automatic h = routed ∙ yes-pick _ _ h
 
-    pub for-manual : isAuto (slot .config .«extra_delay») ≡ false → rememberedFor s slot delay ≡ s
-    for-manual h = routed ∙ no-pick _ _ h
+-- a delay of an input that is not automatic is not remembered
+pub unremembered : (route : Routed) (automatic : Bool) (s : Inputs) (delay : ℕ) → automatic ≡ false → rememberedBy route automatic s delay ≡ s
+unfolding rememberedBy
+unremembered Nowhere automatic s delay e = refl
+unremembered (To route) automatic s delay e = ap (λ (b : Bool). rememberedBy (To route) b s delay) e
+
+pub for-manual : (s : Inputs) (slot : Slot) (delay : ℕ) → isAuto (slot .config .«extra_delay») ≡ false → rememberedFor s slot delay ≡ s
+unfolding rememberedFor
+for-manual s slot delay h = unremembered (slot .route) _ s delay h

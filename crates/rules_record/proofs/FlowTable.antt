@@ -1,6 +1,6 @@
 -- What the flow table keeps: places are stable, flows stay distinct, what was enrolled is found, and a remembered delay concerns one flow. Assumes nothing.
 use Prim.Native.Nat.{ℕ, suc, _<_, _≤_, min}
-use mathlib.Core.Bool.{Bool, true, false}
+use mathlib.Core.Bool.{Bool, true}
 use mathlib.Core.Path.{_≡_, refl, sym, ap, ap₂, _∙_}
 use mathlib.Core.Logic.{⊎-elim}
 use native.Mathlib.Nat.{eq-or-lt-of-le, le-of-suc-le-suc}
@@ -24,10 +24,10 @@ use Rattle.rules_record.specs.declared.Inputs.{Inputs}
 use Rattle.base.specs.First.{first}
 use Rattle.rules_record.specs.Slots.{isAuto}
 use Rattle.rules_record.specs.Inputs.{slotAt, withFlows}
-use Rattle.base.proofs.First.{first-at-most, first-holds, first-before, first-only, first-cong}
+use Rattle.base.proofs.First.{first-at-most, first-holds, first-before, first-only, first-cong, first-distinct}
 use Rattle.rules_record.specs.Sized.{Sized}
 use Rattle.base.proofs.Tests.{not-both, all-cong}
-use Rattle.rules_record.specs.Flows.{emptyEntry, entryAt, sameFlow, flowAt, holdsFlow, known, placeBelow, placeOf, newAt, distinctFlows, admits, added, enrolledAt, enrolled, recalled, kept, differs, marked, remembered, rememberedBy, rememberedFor}
+use Rattle.rules_record.specs.Flows.{emptyEntry, entryAt, sameFlow, flowAt, holdsFlow, known, placeBelow, flowPlace, newAt, distinctFlows, admits, added, enrolledAt, enrolled, recalled, kept, differs, marked, remembered, rememberedBy, rememberedFor}
 use Rattle.rules_record.proofs.FlowCases.{entry-in, entry-past}
 
 -- ---- one flow
@@ -43,27 +43,22 @@ flow-same a = true-both (eqb (a .high) (a .high)) (eqb (a .low) (a .low)) (eq-eq
 
 -- ---- where a flow stands
 module _ (s : Inputs) (flow : Flow) where
-  pub place-most : placeOf s flow ≤ known s
-  unfolding placeOf placeBelow
+  pub place-most : flowPlace s flow ≤ known s
+  unfolding flowPlace placeBelow
   place-most = first-at-most (holdsFlow s flow) (known s)
 
-  pub place-holds : placeOf s flow < known s → flowAt s (placeOf s flow) ≡ flow
-  unfolding placeOf placeBelow
+  pub place-holds : flowPlace s flow < known s → flowAt s (flowPlace s flow) ≡ flow
+  unfolding flowPlace placeBelow
   place-holds l = same-flow _ _ (first-holds (holdsFlow s flow) (known s) l)
 
-  pub place-before : (place : ℕ) → place < placeOf s flow → flowAt s place ≡ flow → ⊥
-  unfolding placeOf placeBelow
+  pub place-before : (place : ℕ) → place < flowPlace s flow → flowAt s place ≡ flow → ⊥
+  unfolding flowPlace placeBelow
   place-before place l e = not-both (ap (λ (x : Flow). sameFlow x flow) e ∙ flow-same flow) (first-before (holdsFlow s flow) (known s) place l)
 
 -- ---- distinct flows
 pub distinct-places : (s : Inputs) → distinctFlows s ≡ true → (a b : ℕ) → a < known s → b < known s → flowAt s a ≡ flowAt s b → a ≡ b
 unfolding distinctFlows placeBelow
-distinct-places s h a b l m e = by-le a b (λ k. ⊎-elim (λ q. q) (λ k. absurd (later a b k m e)) (eq-or-lt-of-le k)) (λ k. absurd (later b a k l (sym e)))
-  where
-    later : (a b : ℕ) → a < b → b < known s → flowAt s a ≡ flowAt s b → ⊥
-    later a b k m e =
-        let new : first (holdsFlow s (flowAt s b)) b ≡ b = eqb-true _ _ (all-at (newAt s) (known s) h b m) in
-        not-both (ap (λ (x : Flow). sameFlow x (flowAt s b)) e ∙ flow-same (flowAt s b)) (first-before (holdsFlow s (flowAt s b)) b a (rw new k))
+distinct-places s h = first-distinct (flowAt s) sameFlow flow-same (known s) h
 
 -- a place is new by the flows up to it
 new-cong : (s z : Inputs) (place : ℕ) → ((j : ℕ) → j ≤ place → flowAt z j ≡ flowAt s j) → newAt z place ≡ newAt s place
@@ -94,15 +89,15 @@ module _ (s : Inputs) (flow : Flow) (within : s .«flow_count» ≤ 64) where
   unfolding known
   known-count = omega arith
 
-  place-count : placeOf s flow ≤ s .«flow_count»
+  place-count : flowPlace s flow ≤ s .«flow_count»
   place-count = omega (arith, place-most s flow, known-count)
 
   -- a flow is known, or takes the next place, or the table is full
-  enrol-rule : (P : Inputs → Type 0) → (placeOf s flow < s .«flow_count» → P s) → (placeOf s flow ≡ s .«flow_count» → s .«flow_count» < 64 → P (added (placeOf s flow) s flow)) → (s .«flow_count» ≡ 64 → P s) → P (enrolled s flow)
+  enrol-rule : (P : Inputs → Type 0) → (flowPlace s flow < s .«flow_count» → P s) → (flowPlace s flow ≡ s .«flow_count» → s .«flow_count» < 64 → P (added (flowPlace s flow) s flow)) → (s .«flow_count» ≡ 64 → P s) → P (enrolled s flow)
   unfolding enrolled enrolledAt
   enrol-rule P f g k =
-      lt-rule (placeOf s flow) (s .«flow_count») _ _ P f
-      (λ l. lt-rule (placeOf s flow) 64 _ _ P (λ m. g (omega (arith, place-count)) (omega (arith, place-count))) (λ m. k (omega (arith, place-count))))
+      lt-rule (flowPlace s flow) (s .«flow_count») _ _ P f
+      (λ l. lt-rule (flowPlace s flow) 64 _ _ P (λ m. g (omega (arith, place-count)) (omega (arith, place-count))) (λ m. k (omega (arith, place-count))))
 
   pub enrolled-within : enrolled s flow .«flow_count» ≤ 64
   enrolled-within = enrol-rule (λ z. z .«flow_count» ≤ 64) (λ l. within) (λ e l. omega (arith, e)) (λ e. within)
@@ -112,41 +107,41 @@ module _ (s : Inputs) (flow : Flow) (within : s .«flow_count» ≤ 64) where
 
   -- a flow never leaves its place, nor does its delay
   pub enrolled-stable : (place : ℕ) → place < s .«flow_count» → entryAt (enrolled s flow) place ≡ entryAt s place
-  enrolled-stable place l = enrol-rule (λ z. entryAt z place ≡ entryAt s place) (λ k. refl) (λ e k. entry-other s (placeOf s flow) _ _ _ place (λ q. omega (arith, q, e))) (λ e. refl)
+  enrolled-stable place l = enrol-rule (λ z. entryAt z place ≡ entryAt s place) (λ k. refl) (λ e k. entry-other s (flowPlace s flow) _ _ _ place (λ q. omega (arith, q, e))) (λ e. refl)
 
   -- the table with the flow at the next place
-  module _ (h : Sized s) (e : placeOf s flow ≡ s .«flow_count») (room : s .«flow_count» < 64) where
+  module _ (h : Sized s) (e : flowPlace s flow ≡ s .«flow_count») (room : s .«flow_count» < 64) where
     abbrev more : Inputs
-    more = added (placeOf s flow) s flow
+    more = added (flowPlace s flow) s flow
 
     more-known : known more ≡ suc (known s)
     unfolding known
     more-known = omega (arith, e)
 
-    more-here : flowAt more (placeOf s flow) ≡ flow
+    more-here : flowAt more (flowPlace s flow) ≡ flow
     unfolding flowAt
-    more-here = ap (λ (x : FlowEntry). x .flow) (entry-same s (placeOf s flow) _ _ _ (omega (arith, e)) (h .flows))
+    more-here = ap (λ (x : FlowEntry). x .flow) (entry-same s (flowPlace s flow) _ _ _ (omega (arith, e)) (h .flows))
 
     more-before : (j : ℕ) → j < known s → flowAt more j ≡ flowAt s j
     unfolding flowAt
-    more-before j l = ap (λ (x : FlowEntry). x .flow) (entry-other s (placeOf s flow) _ _ _ j (λ q. omega (arith, q, e, known-count)))
+    more-before j l = ap (λ (x : FlowEntry). x .flow) (entry-other s (flowPlace s flow) _ _ _ j (λ q. omega (arith, q, e, known-count)))
 
     -- the new flow stands nowhere before
     more-last : newAt more (known s) ≡ true
-    unfolding placeBelow placeOf
+    unfolding placeBelow flowPlace
     more-last =
         let at : flowAt more (known s) ≡ flow = ap (flowAt more) (known-count ∙ sym e) ∙ more-here in
-        let same : first (holdsFlow more (flowAt more (known s))) (known s) ≡ placeOf s flow = first-cong _ _ (known s) (λ j l. ap₂ sameFlow (more-before j l) at) in
+        let same : first (holdsFlow more (flowAt more (known s))) (known s) ≡ flowPlace s flow = first-cong _ _ (known s) (λ j l. ap₂ sameFlow (more-before j l) at) in
         eq-eqb _ _ (same ∙ e ∙ sym known-count)
 
     more-distinct : distinctFlows s ≡ true → distinctFlows more ≡ true
     unfolding distinctFlows
     more-distinct d = rw more-known (all-intro (newAt more) (suc (known s)) (λ j l. ⊎-elim (λ q. rw q more-last) (λ k. new-cong s more j (λ i m. more-before i (omega arith)) ∙ all-at (newAt s) (known s) d j k) (eq-or-lt-of-le (le-of-suc-le-suc l))))
 
-    more-place : placeOf more flow ≡ placeOf s flow
-    unfolding placeOf placeBelow
+    more-place : flowPlace more flow ≡ flowPlace s flow
+    unfolding flowPlace placeBelow
     more-place =
-        first-only (holdsFlow more flow) (known more) (placeOf s flow) (omega (arith, e, known-count, more-known))
+        first-only (holdsFlow more flow) (known more) (flowPlace s flow) (omega (arith, e, known-count, more-known))
         (ap (λ (x : Flow). sameFlow x flow) more-here ∙ flow-same flow)
         (λ j l. ap (λ (x : Flow). sameFlow x flow) (more-before j (omega (arith, e, known-count))) ∙ first-before (holdsFlow s flow) (known s) j l)
 
@@ -155,31 +150,31 @@ module _ (s : Inputs) (flow : Flow) (within : s .«flow_count» ≤ 64) where
 
   -- what was enrolled is found, at the place that was free
   module _ (h : Sized s) (admitted : admits s flow ≡ true) where
-    room-or-known : s .«flow_count» ≡ 64 → placeOf s flow < s .«flow_count»
+    room-or-known : s .«flow_count» ≡ 64 → flowPlace s flow < s .«flow_count»
     unfolding admits
-    room-or-known e = by-bool (ltb (placeOf s flow) (s .«flow_count»)) (λ h. ltb-true _ _ h) (λ h. absurd (not-both (sym (no-pick _ _ h) ∙ admitted) (le-ltb (s .«flow_count») 64 (omega arith))))
+    room-or-known e = by-bool (ltb (flowPlace s flow) (s .«flow_count»)) (λ h. ltb-true _ _ h) (λ h. absurd (not-both (sym (no-pick _ _ h) ∙ admitted) (le-ltb (s .«flow_count») 64 (omega arith))))
 
-    pub enrolled-place : placeOf (enrolled s flow) flow ≡ placeOf s flow
-    enrolled-place = enrol-rule (λ z. placeOf z flow ≡ placeOf s flow) (λ l. refl) (λ e l. more-place h e l) (λ e. refl)
+    pub enrolled-place : flowPlace (enrolled s flow) flow ≡ flowPlace s flow
+    enrolled-place = enrol-rule (λ z. flowPlace z flow ≡ flowPlace s flow) (λ l. refl) (λ e l. more-place h e l) (λ e. refl)
 
-    pub enrolled-known : placeOf s flow < enrolled s flow .«flow_count»
-    enrolled-known = enrol-rule (λ z. placeOf s flow < z .«flow_count») (λ l. l) (λ e l. omega arith) (λ e. room-or-known e)
+    pub enrolled-known : flowPlace s flow < enrolled s flow .«flow_count»
+    enrolled-known = enrol-rule (λ z. flowPlace s flow < z .«flow_count») (λ l. l) (λ e l. omega arith) (λ e. room-or-known e)
 
-    pub enrolled-holds : flowAt (enrolled s flow) (placeOf s flow) ≡ flow
-    enrolled-holds = enrol-rule (λ z. flowAt z (placeOf s flow) ≡ flow) (λ l. place-holds s flow (omega (arith, known-count))) (λ e l. more-here h e l) (λ e. place-holds s flow (omega (arith, known-count, room-or-known e)))
+    pub enrolled-holds : flowAt (enrolled s flow) (flowPlace s flow) ≡ flow
+    enrolled-holds = enrol-rule (λ z. flowAt z (flowPlace s flow) ≡ flow) (λ l. place-holds s flow (omega (arith, known-count))) (λ e l. more-here h e l) (λ e. place-holds s flow (omega (arith, known-count, room-or-known e)))
 
 -- only the flow table changes, and the unsaved mark stays
 pub enrolled-rest : (s : Inputs) (flow : Flow) → enrolled s flow ≡ withFlows s (enrolled s flow .flows) (enrolled s flow .«flow_count») (s .unsaved)
 unfolding enrolled enrolledAt
 enrolled-rest s flow =
-    pick-all (λ (z : Inputs). z ≡ withFlows s (z .flows) (z .«flow_count») (s .unsaved)) (ltb (placeOf s flow) (s .«flow_count»)) refl
-    (pick-all (λ (z : Inputs). z ≡ withFlows s (z .flows) (z .«flow_count») (s .unsaved)) (ltb (placeOf s flow) 64) refl refl)
+    pick-all (λ (z : Inputs). z ≡ withFlows s (z .flows) (z .«flow_count») (s .unsaved)) (ltb (flowPlace s flow) (s .«flow_count»)) refl
+    (pick-all (λ (z : Inputs). z ≡ withFlows s (z .flows) (z .«flow_count») (s .unsaved)) (ltb (flowPlace s flow) 64) refl refl)
 
 pub enrolled-sized : (s : Inputs) (flow : Flow) → Sized s → Sized (enrolled s flow)
 unfolding enrolled enrolledAt
 enrolled-sized s flow h =
-    pick-all Sized (ltb (placeOf s flow) (s .«flow_count»)) h
-    (pick-all Sized (ltb (placeOf s flow) 64) (record { slots = h .slots; flows = length-set (s .flows) _ _ ∙ h .flows; instances = h .instances }) h)
+    pick-all Sized (ltb (flowPlace s flow) (s .«flow_count»)) h
+    (pick-all Sized (ltb (flowPlace s flow) 64) (record { slots = h .slots; flows = length-set (s .flows) _ _ ∙ h .flows; instances = h .instances }) h)
 
 -- ---- remembering
 module _ (s : Inputs) (place delay : ℕ) where
@@ -217,17 +212,6 @@ module _ (s : Inputs) (place delay : ℕ) where
       let here : kept s place delay ≡ withFlows s (kept s place delay .flows) (s .«flow_count») (kept s place delay .unsaved) =
       pick-all (λ (z : Inputs). z ≡ withFlows s (z .flows) (s .«flow_count») (z .unsaved)) (ltb place 64) refl refl in
       kept-rule (λ z. z ≡ withFlows s (z .flows) (s .«flow_count») (z .unsaved)) here (ap marked here)
-
-  -- the mark is set where the delay differs, and else stays
-  pub remember-unsaved : remembered s place delay .unsaved ≡ pick (differs (recalled s place) delay) true (s .unsaved)
-  unfolding remembered kept
-  remember-unsaved =
-      let here : kept s place delay .unsaved ≡ s .unsaved = pick-all (λ (z : Inputs). z .unsaved ≡ s .unsaved) (ltb place 64) refl refl in
-      by (differs (recalled s place) delay) here
-    where
-      by : (b : Bool) → kept s place delay .unsaved ≡ s .unsaved → pick b (marked (kept s place delay)) (kept s place delay) .unsaved ≡ pick b true (s .unsaved)
-      by true e = refl
-      by false e = e
 
   -- every flow stays at its place
   pub remember-flow : Sized s → (j : ℕ) → flowAt (remembered s place delay) j ≡ flowAt s j

@@ -24,10 +24,11 @@ use Rattle.rules_record.specs.Inputs.{slotAt, withInstances}
 use Rattle.rules_record.proofs.SlotFrame.{slot-in}
 use Rattle.rules_record.specs.declared.Extra.{Extra}
 use Rattle.rules_record.specs.declared.Extra.the-variants.{Nothing}
-use Rattle.rules_record.specs.Instances.{sameKey, noKey, keyAt, held, keyBelow, newKeyAt, usesKey, anyUses, isExtra, wantedKey, keepOne, keptKeys, withKeys, pruned}
+use Rattle.rules_record.specs.Instances.{sameKey, noKey, keyAt, keysHeld, keyBelow, newKeyAt}
+use Rattle.rules_record.specs.Prune.{usesKey, anyUses, isExtra, wantedKey, keepOne, keptKeys, withKeys, pruned}
 
-pub held-most : (s : Inputs) → held s ≤ 18
-unfolding held
+pub held-most : (s : Inputs) → keysHeld s ≤ 18
+unfolding keysHeld
 held-most s = omega arith
 
 -- the loops read the table alone: of its places the first that holds the key
@@ -147,11 +148,11 @@ laid keys h =
     ∙ ap (λ (k : ℕ). keys ++ drop k unused) (zero-add (length keys))
     ∙ ap (λ (x : List Instance). keys ++ x) (drop-unused (length keys) 18)
 
-pub prune-ends : {s : Inputs} {extra : Extra} {n i : ℕ} {kept : List Instance} {count : ℕ} → Pruning s extra n i kept count → n ≤ i → n ≡ held s → withInstances s kept count ≡ pruned s extra
+pub prune-ends : {s : Inputs} {extra : Extra} {n i : ℕ} {kept : List Instance} {count : ℕ} → Pruning s extra n i kept count → n ≤ i → n ≡ keysHeld s → withInstances s kept count ≡ pruned s extra
 unfolding pruned withKeys
 prune-ends {s} {extra} {n} {i} {kept} {count} v h e =
-    let q : i ≡ held s = omega (arith, v .within) in
-    let keys : List Instance = keptKeys s extra (held s) in
+    let q : i ≡ keysHeld s = omega (arith, v .within) in
+    let keys : List Instance = keptKeys s extra (keysHeld s) in
     let b : count ≡ length keys = v .counted ∙ ap (λ (m : ℕ). length (keptKeys s extra m)) q in
     let a : kept ≡ keys ++ replicate (18 - length keys) noKey = v .stored ∙ ap (λ (m : ℕ). sets unused 0 (keptKeys s extra m)) q ∙ laid keys (omega (arith, v .few, b, q, held-most s)) in
     rw (a, b)

@@ -7,21 +7,22 @@ use mathlib.Core.Logic.{⊎-elim}
 use native.Mathlib.Nat.{eq-or-lt-of-le, le-of-suc-le-suc}
 use native.Mathlib.Omega.{arith}
 use lib.Dec.{eqb, ltb}
-use lib.ListN.{length, getD, set, replicate, length-append, length-set, length-replicate}
+use lib.ListN.{length, getD, set, replicate, length-append, length-set, length-replicate, List·getD-append}
 use lib.Seq.{getD-set-same, getD-set-other, getD-append-seam}
 use borrow.Author.Tests.{eq-eqb, eqb-true, lt-ltb, ltb-false}
 use Rattle.base.specs.Choice.{pick}
-use Rattle.base.proofs.Choices.{by-bool, by-le, lt-rule, pick-all, yes-pick}
-use Rattle.base.proofs.Points.{both-true, true-both, all-at, all-intro}
+use Rattle.base.proofs.Choices.{by-bool, lt-rule, pick-all, yes-pick}
+use Rattle.base.proofs.Points.{both-true, true-both, all-intro}
 use Rattle.rules_record.specs.declared.Instance.{Instance}
 use Rattle.rules_record.specs.declared.Inputs.{Inputs}
 use Rattle.base.specs.First.{first}
 use Rattle.rules_record.specs.Inputs.{withInstances}
-use Rattle.base.proofs.First.{first-before, first-missed}
+use Rattle.base.proofs.First.{first-before, first-missed, first-distinct}
 use Rattle.rules_record.specs.Sized.{Sized}
 use Rattle.base.proofs.Tests.{not-both}
 use Rattle.rules_record.specs.declared.Extra.{Extra}
-use Rattle.rules_record.specs.Instances.{sameKey, noKey, keyAt, held, holdsKey, keyBelow, foundKey, newKeyAt, distinctKeys, made, wantedKey, keepOne, keptKeys, withKeys, pruned}
+use Rattle.rules_record.specs.Instances.{sameKey, noKey, keyAt, keysHeld, holdsKey, keyBelow, foundKey, newKeyAt, distinctKeys, made}
+use Rattle.rules_record.specs.Prune.{wantedKey, keepOne, keptKeys, withKeys, pruned}
 use Rattle.rules_record.proofs.InstanceCases.{held-most}
 
 -- ---- one key
@@ -37,34 +38,29 @@ key-same a = true-both (eqb (a .flow) (a .flow)) (eqb (a .inode) (a .inode)) (eq
 
 -- ---- the test and what it says
 unfoldable pub Distinct : Inputs → Type 0
-Distinct s = (a b : ℕ) → a < held s → b < held s → keyAt s a ≡ keyAt s b → a ≡ b
+Distinct s = (a b : ℕ) → a < keysHeld s → b < keysHeld s → keyAt s a ≡ keyAt s b → a ≡ b
 
 pub keys-distinct : (s : Inputs) → distinctKeys s ≡ true → Distinct s
 unfolding Distinct distinctKeys keyBelow
-keys-distinct s h a b l m e = by-le a b (λ k. ⊎-elim (λ q. q) (λ k. absurd (later a b k m e)) (eq-or-lt-of-le k)) (λ k. absurd (later b a k l (sym e)))
-  where
-    later : (a b : ℕ) → a < b → b < held s → keyAt s a ≡ keyAt s b → ⊥
-    later a b k m e =
-        let new : first (holdsKey s (keyAt s b)) b ≡ b = eqb-true _ _ (all-at (newKeyAt s) (held s) h b m) in
-        not-both (ap (λ (x : Instance). sameKey x (keyAt s b)) e ∙ key-same (keyAt s b)) (first-before (holdsKey s (keyAt s b)) b a (rw new k))
+keys-distinct s h = first-distinct (keyAt s) sameKey key-same (keysHeld s) h
 
 pub distinct-keys : (s : Inputs) → Distinct s → distinctKeys s ≡ true
 unfolding Distinct distinctKeys keyBelow
 distinct-keys s d =
-    all-intro (newKeyAt s) (held s)
+    all-intro (newKeyAt s) (keysHeld s)
     (λ b m. eq-eqb _ _ (first-missed (holdsKey s (keyAt s b)) b (λ a l. by-bool (sameKey (keyAt s a) (keyAt s b)) (λ h. absurd (twice a b l m (same-key _ _ h))) (λ h. h))))
   where
-    twice : (a b : ℕ) → a < b → b < held s → keyAt s a ≡ keyAt s b → ⊥
+    twice : (a b : ℕ) → a < b → b < keysHeld s → keyAt s a ≡ keyAt s b → ⊥
     twice a b l m e = omega (arith, d a b (omega arith) m e)
 
 -- ---- found
-pub found-none : (s : Inputs) (key : Instance) → foundKey s key ≡ false → (place : ℕ) → place < held s → keyAt s place ≡ key → ⊥
+pub found-none : (s : Inputs) (key : Instance) → foundKey s key ≡ false → (place : ℕ) → place < keysHeld s → keyAt s place ≡ key → ⊥
 unfolding foundKey keyBelow
 found-none s key h place l e =
-    let none : held s ≤ first (holdsKey s key) (held s) = ltb-false _ _ h in
-    not-both (ap (λ (x : Instance). sameKey x key) e ∙ key-same key) (first-before (holdsKey s key) (held s) place (omega arith))
+    let none : keysHeld s ≤ first (holdsKey s key) (keysHeld s) = ltb-false _ _ h in
+    not-both (ap (λ (x : Instance). sameKey x key) e ∙ key-same key) (first-before (holdsKey s key) (keysHeld s) place (omega arith))
 
-pub found-at : (s : Inputs) (key : Instance) (place : ℕ) → place < held s → keyAt s place ≡ key → foundKey s key ≡ true
+pub found-at : (s : Inputs) (key : Instance) (place : ℕ) → place < keysHeld s → keyAt s place ≡ key → foundKey s key ≡ true
 found-at s key place l e = by-bool (foundKey s key) (λ h. h) (λ h. absurd (found-none s key h place l e))
 
 -- ---- one more key, that was not there
@@ -89,7 +85,7 @@ module _ (s : Inputs) (key : Instance) where
   next-before place l = ap (λ (x : Instance). pick (ltb place 18) x noKey) (getD-set-other (s .instances) (s .«instance_count») place key noKey (λ e. omega arith))
 
   next-distinct : s .«instance_count» < 18 → Sized s → foundKey s key ≡ false → Distinct s → Distinct next
-  unfolding Distinct held
+  unfolding Distinct keysHeld
   next-distinct room h none d a b l m e =
       apart-more (keyAt next) (s .«instance_count»)
       (λ i j p q f. d i j (omega arith) (omega arith) (sym (next-before i p) ∙ f ∙ next-before j q))
@@ -104,25 +100,16 @@ module _ (s : Inputs) (key : Instance) where
   unfolding made
   made-sized h = pick-all Sized (ltb (s .«instance_count») 18) (record { slots = h .slots; flows = h .flows; instances = length-set (s .instances) _ _ ∙ h .instances }) h
 
-  -- the key is there then
-  pub made-found : s .«instance_count» < 18 → Sized s → foundKey (made s key) key ≡ true
-  unfolding made held
-  made-found l h = rw (lt-ltb _ _ l) (found-at next key (s .«instance_count») (omega arith) (next-last l h))
-
   -- only the instance table changes
   pub made-rest : made s key ≡ withInstances s (made s key .instances) (made s key .«instance_count»)
   unfolding made
   made-rest = pick-all (λ (z : Inputs). z ≡ withInstances s (z .instances) (z .«instance_count»)) (ltb (s .«instance_count») 18) refl refl
 
 -- ---- pruned
-getD-append-left : {A : Type 0} (xs ys : List A) (i : ℕ) (none : A) → i < length xs → getD (xs ++ ys) i none ≡ getD xs i none
-getD-append-left [] ys i none l = absurd (omega arith)
-getD-append-left (x ∷ xs) ys zero none l = refl
-getD-append-left (x ∷ xs) ys (suc i) none l = getD-append-left xs ys i none (omega arith)
 
 module _ (s : Inputs) (extra : Extra) where
   -- a place is kept or goes
-  kept-rule : (n : ℕ) (P : List Instance → Type 0) → P (keptKeys s extra n ++ (keyAt s n ∷ [])) → P (keptKeys s extra n) → P (keptKeys s extra (suc n))
+  pub kept-rule : (n : ℕ) (P : List Instance → Type 0) → P (keptKeys s extra n ++ (keyAt s n ∷ [])) → P (keptKeys s extra n) → P (keptKeys s extra (suc n))
   unfolding keptKeys keepOne
   kept-rule n P p q = by-bool (wantedKey s extra (keyAt s n)) (λ e. rw e p) (λ e. rw (e, append-nil) q)
 
@@ -148,7 +135,7 @@ module _ (s : Inputs) (extra : Extra) where
           let most : a ≤ length (keptKeys s extra n) = omega (arith, length-append (keptKeys s extra n) (keyAt s n ∷ [])) in
           ⊎-elim
           (λ q. f n (omega arith) (sym (getD-append-seam (keptKeys s extra n) (keyAt s n) [] noKey) ∙ sym (ap (λ (i : ℕ). getD (keptKeys s extra n ++ (keyAt s n ∷ [])) i noKey) q) ∙ h))
-          (λ k. g a k (sym (getD-append-left (keptKeys s extra n) (keyAt s n ∷ []) a noKey k) ∙ h))
+          (λ k. g a k (sym (List·getD-append (keptKeys s extra n) (keyAt s n ∷ []) noKey a k) ∙ h))
           (eq-or-lt-of-le most)
 
   -- distinct places give distinct keys
@@ -160,40 +147,40 @@ module _ (s : Inputs) (extra : Extra) where
   apart-snoc keys key d new a b l m e =
       let size : length (keys ++ (key ∷ [])) ≡ suc (length keys) = simp length-append (omega arith) in
       apart-more (λ i. getD (keys ++ (key ∷ [])) i noKey) (length keys)
-      (λ i j p q f. d i j p q (sym (getD-append-left keys (key ∷ []) i noKey p) ∙ f ∙ getD-append-left keys (key ∷ []) j noKey q))
-      (λ i p f. new i p (sym (getD-append-left keys (key ∷ []) i noKey p) ∙ f ∙ getD-append-seam keys key [] noKey))
+      (λ i j p q f. d i j p q (sym (List·getD-append keys (key ∷ []) noKey i p) ∙ f ∙ List·getD-append keys (key ∷ []) noKey j q))
+      (λ i p f. new i p (sym (List·getD-append keys (key ∷ []) noKey i p) ∙ f ∙ getD-append-seam keys key [] noKey))
       a b (omega arith) (omega arith) e
 
-  kept-apart : (n : ℕ) → n ≤ held s → Distinct s → Apart (keptKeys s extra n)
+  kept-apart : (n : ℕ) → n ≤ keysHeld s → Distinct s → Apart (keptKeys s extra n)
   unfolding keptKeys Apart Distinct
   kept-apart zero l d = λ a b p q e. absurd (omega arith)
   kept-apart (suc n) l d =
       let low : Apart (keptKeys s extra n) = kept-apart n (omega arith) d in
       kept-rule n Apart (apart-snoc (keptKeys s extra n) (keyAt s n) low (kept-absent n (keyAt s n) (λ place m e. omega (arith, d place n (omega arith) l e)))) low
 
-  pub pruned-count : pruned s extra .«instance_count» ≡ length (keptKeys s extra (held s))
+  pub pruned-count : pruned s extra .«instance_count» ≡ length (keptKeys s extra (keysHeld s))
   unfolding pruned withKeys
   pruned-count = refl
 
-  pruned-most : length (keptKeys s extra (held s)) ≤ 18
-  pruned-most = omega (arith, kept-length (held s), held-most s)
+  pruned-most : length (keptKeys s extra (keysHeld s)) ≤ 18
+  pruned-most = omega (arith, kept-length (keysHeld s), held-most s)
 
-  pruned-held : held (pruned s extra) ≡ length (keptKeys s extra (held s))
-  unfolding held
+  pruned-held : keysHeld (pruned s extra) ≡ length (keptKeys s extra (keysHeld s))
+  unfolding keysHeld
   pruned-held = omega (arith, pruned-count, pruned-most)
 
-  pruned-at : (place : ℕ) → place < length (keptKeys s extra (held s)) → keyAt (pruned s extra) place ≡ getD (keptKeys s extra (held s)) place noKey
+  pub pruned-at : (place : ℕ) → place < length (keptKeys s extra (keysHeld s)) → keyAt (pruned s extra) place ≡ getD (keptKeys s extra (keysHeld s)) place noKey
   unfolding keyAt pruned withKeys
   pruned-at place l =
       yes-pick _ _ (lt-ltb place 18 (omega (arith, pruned-most)))
-      ∙ getD-append-left (keptKeys s extra (held s)) (replicate (18 - length (keptKeys s extra (held s))) noKey) place noKey l
+      ∙ List·getD-append (keptKeys s extra (keysHeld s)) (replicate (18 - length (keptKeys s extra (keysHeld s))) noKey) noKey place l
 
   pub pruned-distinct : Distinct s → Distinct (pruned s extra)
   unfolding Distinct Apart
   pruned-distinct d a b l m e =
-      let p : a < length (keptKeys s extra (held s)) = rw pruned-held at l in
-      let q : b < length (keptKeys s extra (held s)) = rw pruned-held at m in
-      kept-apart (held s) (omega arith) d a b p q (sym (pruned-at a p) ∙ e ∙ pruned-at b q)
+      let p : a < length (keptKeys s extra (keysHeld s)) = rw pruned-held at l in
+      let q : b < length (keptKeys s extra (keysHeld s)) = rw pruned-held at m in
+      kept-apart (keysHeld s) (omega arith) d a b p q (sym (pruned-at a p) ∙ e ∙ pruned-at b q)
 
   pub pruned-sized : Sized s → Sized (pruned s extra)
   unfolding pruned withKeys

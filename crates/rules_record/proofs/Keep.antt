@@ -5,26 +5,24 @@ use mathlib.Core.Path.{_≡_, refl, sym, ap, subst, _∙_}
 use native.Mathlib.Omega.{arith}
 use lib.Dec.{eqb}
 use lib.ListN.{length, set, length-set, length-replicate}
-use borrow.Author.Tests.{eqb-true, eqb-false, lt-ltb}
+use borrow.Author.Tests.{eqb-true, eqb-false}
 use Rattle.base.specs.Lists.{part}
-use Rattle.base.proofs.Choices.{yes-pick, by-bool}
-use Rattle.rules_window.specs.Window.{Window, fresh}
-use Rattle.rules_window.specs.Window.{windowed}
-use Rattle.rules_window.specs.Whole.{wholeWindow, Sound}
+use Rattle.base.proofs.Choices.{by-bool}
+use Rattle.rules_window.specs.Window.{Window, fresh, windowed}
+use Rattle.rules_window.specs.WholeWindow.{wholeWindow, Sound}
 use Rattle.rules_window.specs.Parts.{partOf}
 use Rattle.delay_hold.specs.Next.{Held, held, freshHold, clearedHold}
 use Rattle.delay_hold.specs.Whole.{wholeHold}
 use Rattle.rules_record.specs.declared.Slot.{Slot}
 use Rattle.rules_record.specs.declared.Inputs.{Inputs}
 use Rattle.rules_record.specs.Inputs.{slotAt, putSlot, withSlots}
-use Rattle.rules_record.proofs.SlotFrame.{slot-same, slot-other}
+use Rattle.rules_record.proofs.SlotFrame.{slot-same, slot-other, put-stores}
 use Rattle.rules_record.specs.Flows.{entryAt, flowAt, known}
 use Rattle.rules_record.proofs.FlowTable.{distinct-cong}
 use Rattle.rules_record.specs.Instances.{keyAt, keyBelow, distinctKeys}
 use Rattle.rules_record.specs.Instances as keys
 use Rattle.rules_record.specs.Lent.{Lists, bucketsIn, windowFor, heldFor, windowOf, heldOf, withWindow, withHeld}
-use Rattle.rules_record.specs.Facts.{WholeSlot, WholeInput, WholeFlows, WholeInstances}
-use Rattle.rules_record.specs.Facts.{Checked}
+use Rattle.rules_record.specs.Facts.{WholeSlot, WholeInput, WholeFlows, WholeInstances, Checked}
 use Rattle.rules_record.proofs.Beside.{Beside, beside-same, beside-window, beside-held, beside-then, window-same, held-same}
 use Rattle.rules_record.proofs.Shapes.{held-times, held-lags, fresh-sound, cleared-whole}
 
@@ -37,8 +35,7 @@ module _ (s : Inputs) (l m : Lists) (i : ℕ) (slot : Slot) (c : Checked s l) (h
   after = withSlots s (set (s .slots) i slot)
 
   put-is : putSlot s i slot ≡ after
-  unfolding putSlot
-  put-is = yes-pick _ _ (lt-ltb _ _ low)
+  put-is = put-stores s i slot low
 
   here : slotAt after i ≡ slot
   here = ap (λ (z : Inputs). slotAt z i) (sym put-is) ∙ slot-same s i slot low (c .sized .slots)
@@ -46,11 +43,7 @@ module _ (s : Inputs) (l m : Lists) (i : ℕ) (slot : Slot) (c : Checked s l) (h
   there : (j : ℕ) → (j ≡ i → ⊥) → slotAt after j ≡ slotAt s j
   there j apart = ap (λ (z : Inputs). slotAt z j) (sym put-is) ∙ slot-other s i slot j apart
 
-  -- the window and the hold of input i are those of the new slot and lists
-  pub window-own : windowOf (putSlot s i slot) m i ≡ windowFor s m i slot
-  unfolding bucketsIn
-  window-own = ap (λ (z : Inputs). windowOf z m i) put-is ∙ (λ t. windowFor s m i (here t))
-
+  -- the hold of input i is that of the new slot and lists
   pub held-own : heldOf (putSlot s i slot) m i ≡ heldFor m i slot
   held-own = ap (λ (z : Inputs). heldOf z m i) put-is ∙ (λ t. heldFor m i (here t))
 
@@ -71,7 +64,7 @@ module _ (s : Inputs) (l m : Lists) (i : ℕ) (slot : Slot) (c : Checked s l) (h
   pub held-other : (j : ℕ) → j < s .count → (j ≡ i → ⊥) → heldOf (putSlot s i slot) m j ≡ heldOf s l j
   held-other j g apart =
       ap (λ (z : Inputs). heldOf z m j) put-is
-      ∙ (λ t. record { hold = there j apart t .hold; times = beside .times j g apart t; lags = beside .lags j g apart t })
+      ∙ (λ t. record { hold = there j apart t .hold; times = beside .times j g apart t; lags = beside .peaks j g apart t })
 
   other-input : (j : ℕ) → j < s .count → (j ≡ i → ⊥) → WholeInput after m j
   other-input j g apart =
@@ -92,7 +85,7 @@ module _ (s : Inputs) (l m : Lists) (i : ℕ) (slot : Slot) (c : Checked s l) (h
   }
 
   same-instances : WholeInstances after
-  unfolding keyAt distinctKeys keyBelow keys.held
+  unfolding keyAt distinctKeys keyBelow keys.keysHeld
   same-instances = record {
     most = c .whole .instances .most;
     distinct = c .whole .instances .distinct;
@@ -145,7 +138,7 @@ module _ (s : Inputs) (l : Lists) (i : ℕ) (slot : Slot) (c : Checked s l) (h :
 
     pub held-read : slot .hold ≡ v .hold → heldFor (withHeld i v l) i slot ≡ v
     held-read e =
-        (λ t. held (e t) (part (i * 600) 600 (withHeld i v l .times)) (part (i * 600) 600 (withHeld i v l .lags)))
+        (λ t. held (e t) (part (i * 600) 600 (withHeld i v l .times)) (part (i * 600) 600 (withHeld i v l .peaks)))
         ∙ held-same (s .count) (bucketsIn s) i l (c .fitting .long) h v times lags
 
   -- ---- the record stays checked
@@ -158,7 +151,7 @@ module _ (s : Inputs) (l : Lists) (i : ℕ) (slot : Slot) (c : Checked s l) (h :
 
     old-hold : slot .hold ≡ slotAt s i .hold → wholeHold (s .policy) (s .width) (heldFor l i slot) ≡ true
     old-hold e =
-        (λ t. wholeHold (s .policy) (s .width) (held (e t) (part (i * 600) 600 (l .times)) (part (i * 600) 600 (l .lags))))
+        (λ t. wholeHold (s .policy) (s .width) (held (e t) (part (i * 600) 600 (l .times)) (part (i * 600) 600 (l .peaks))))
         ∙ c .whole .inputs i h .hold
 
     -- the slot is changed, but for its seconds and its hold

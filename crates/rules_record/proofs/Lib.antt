@@ -15,6 +15,7 @@ pub mod Checked
 pub mod Effects
 pub mod Facts
 pub mod Keep
+pub mod InputNumbers
 pub mod Numbers
 pub mod OnePart
 pub mod Pruned

@@ -1,10 +1,10 @@
--- Checks 7 and 8 after 1 to 6, and the call's own check after them. Assumes nothing.
+-- Check 8 after 1 to 7, and the call's own check after it. Assumes nothing.
 use Prim.Native.Nat.{ℕ, _*_, _≤_, _<_}
 use mathlib.Core.Path.{_≡_, sym, _∙_}
 use native.Mathlib.Omega.{arith}
 use lib.Dec.{ltb}
 use borrow.Author.Tests.{leb-true, ltb-true, eqb-true, lt-ltb, le-ltb, le-leb, lt-leb}
-use Rattle.base.specs.Limits.{timeLimit, timely}
+use Rattle.base.specs.Limits.{timeLimit, timely, counterLimit}
 use Rattle.base.proofs.Choices.{yes-ask, no-ask, asked, by-bool, by-zero}
 use Rattle.rules_record.specs.declared.Inputs.{Inputs}
 use Rattle.rules_record.specs.Inputs.{slotAt}
@@ -12,57 +12,55 @@ use Rattle.rules_record.specs.declared.Commands.the-variants.{Words}
 use Rattle.rules_record.specs.Lent.{Lists}
 use Rattle.rules_record.specs.Checks.{recordNumber, inputNumber, timedNumber, Fitting}
 use Rattle.rules_record.specs.Facts.{Whole}
-use Rattle.rules_record.proofs.Checked.{settings-told, passed-number, checked-commands, number-passed, number-refused}
+use Rattle.rules_record.proofs.Checked.{settings-told, checked-commands}
+use Rattle.rules_record.proofs.InputNumbers as seven
 
 -- ---- 7 and 8 after 1 to 6
 module _ (s : Inputs) (l : Lists) (words input time : ℕ) {n : ℕ} (is-record : n ≡ recordNumber s l (Words words) 0) where
   pub record-refused : (n ≡ 0 → ⊥) → n ≡ timedNumber s l words input time 0
-  unfolding timedNumber inputNumber
-  record-refused h = is-record ∙ sym (number-refused s l (Words words) (λ e. h (is-record ∙ e)) _)
+  unfolding timedNumber
+  record-refused h = seven.record-refused s l (Words words) input is-record h _
 
   module _ (passed : n ≡ 0) where
     pub input-missing : s .count ≤ input → 7 ≡ timedNumber s l words input time 0
-    unfolding timedNumber inputNumber
-    input-missing h = sym (number-passed s l (Words words) (sym is-record ∙ passed) _ ∙ no-ask 7 _ (le-ltb _ _ h))
+    unfolding timedNumber
+    input-missing h = seven.input-missing s l (Words words) input is-record passed h _
 
     module _ (there : input < s .count) where
       pub input-late : timeLimit < time → 8 ≡ timedNumber s l words input time 0
-      unfolding timedNumber inputNumber
-      input-late h = sym (number-passed s l (Words words) (sym is-record ∙ passed) _ ∙ yes-ask 7 _ (lt-ltb _ _ there) ∙ no-ask 8 0 (lt-leb _ _ h))
+      unfolding timedNumber
+      input-late h = sym (no-ask 8 0 (lt-leb _ _ h)) ∙ seven.input-there s l (Words words) input is-record passed there _
 
       pub input-timely : time ≤ timeLimit → 0 ≡ timedNumber s l words input time 0
-      unfolding timedNumber inputNumber
-      input-timely h = sym (number-passed s l (Words words) (sym is-record ∙ passed) _ ∙ yes-ask 7 _ (lt-ltb _ _ there) ∙ yes-ask 8 0 (le-leb _ _ h))
+      unfolding timedNumber
+      input-timely h = sym (yes-ask 8 0 (le-leb _ _ h)) ∙ seven.input-there s l (Words words) input is-record passed there _
 
 -- ---- another check after 8
 module _ (s : Inputs) (l : Lists) (words input time : ℕ) where
   -- what number 0 says
   pub input-told : (rest : ℕ) → timedNumber s l words input time rest ≡ 0 → (recordNumber s l (Words words) 0 ≡ 0) × (input < s .count) × (time ≤ timeLimit) × (rest ≡ 0)
-  unfolding timedNumber inputNumber
+  unfolding timedNumber
   input-told rest h =
-      let p = settings-told s l (Words words) _ h in
-      let seven = asked 6 _ _ (p .1) in
-      let eight = asked 7 _ _ (seven .1) in
-      (passed-number s l (Words words) (p .0) 0, ltb-true _ _ (seven .0), leb-true _ _ (eight .0), eight .1)
+      let told = seven.input-told s l (Words words) input _ h in
+      let eight = asked 7 _ _ (told .2) in
+      (told .0, told .1, leb-true _ _ (eight .0), eight .1)
 
   input-passed : timedNumber s l words input time 0 ≡ 0 → (rest : ℕ) → timedNumber s l words input time rest ≡ rest
-  unfolding timedNumber inputNumber
+  unfolding timedNumber
   input-passed h rest =
       let told = input-told 0 h in
-      number-passed s l (Words words) (told .0) _ ∙ yes-ask 7 _ (lt-ltb _ _ (told .1)) ∙ yes-ask 8 rest (le-leb _ _ (told .2))
+      seven.input-passed s l (Words words) input (told .0) (told .1) _ ∙ yes-ask 8 rest (le-leb _ _ (told .2))
 
   input-refused : (timedNumber s l words input time 0 ≡ 0 → ⊥) → (rest : ℕ) → timedNumber s l words input time rest ≡ timedNumber s l words input time 0
-  unfolding timedNumber inputNumber
+  unfolding timedNumber
   input-refused h rest =
-      by-zero (recordNumber s l (Words words) 0)
+      by-zero (inputNumber s l (Words words) input 0)
       (λ e.
-      by-bool (ltb input (s .count))
-      (λ yes.
+      let told = seven.input-told s l (Words words) input 0 e in
       by-bool (timely time)
-      (λ soon. absurd (h (number-passed s l (Words words) e _ ∙ yes-ask 7 _ yes ∙ yes-ask 8 0 soon)))
-      (λ late. number-passed s l (Words words) e _ ∙ yes-ask 7 _ yes ∙ no-ask 8 rest late ∙ sym (number-passed s l (Words words) e _ ∙ yes-ask 7 _ yes ∙ no-ask 8 0 late)))
-      (λ no. number-passed s l (Words words) e _ ∙ no-ask 7 _ no ∙ sym (number-passed s l (Words words) e _ ∙ no-ask 7 _ no)))
-      (λ e. number-refused s l (Words words) e _ ∙ sym (number-refused s l (Words words) e _))
+      (λ soon. absurd (h (seven.input-passed s l (Words words) input (told .0) (told .1) _ ∙ yes-ask 8 0 soon)))
+      (λ late. seven.input-passed s l (Words words) input (told .0) (told .1) _ ∙ no-ask 8 rest late ∙ sym (seven.input-passed s l (Words words) input (told .0) (told .1) _ ∙ no-ask 8 0 late)))
+      (λ e. seven.input-refused s l (Words words) input e _ ∙ sym (seven.input-refused s l (Words words) input e _))
 
   module _ {n : ℕ} (is-input : n ≡ timedNumber s l words input time 0) where
     pub refused-by : (n ≡ 0 → ⊥) → (rest : ℕ) → n ≡ timedNumber s l words input time rest
@@ -101,5 +99,5 @@ module _ (s : Inputs) (l : Lists) (words : ℕ) where
     pub call-room : 3 ≤ words
     call-room = record-room (told .0)
 
-    pub call-changes : slotAt s input .«delay_changes» < 9_223_372_036_854_775_808
+    pub call-changes : slotAt s input .«delay_changes» < counterLimit
     call-changes = record-whole (told .0) .inputs input (told .1) .slot .changes

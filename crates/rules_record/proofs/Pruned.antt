@@ -3,7 +3,7 @@ use Prim.Native.Nat.{ℕ, zero, suc, _+_, _-_, _<_, _≤_}
 use mathlib.Core.Bool.{false}
 use mathlib.Core.Path.{_≡_, refl, sym, ap, subst, _∙_}
 use mathlib.Core.Logic.{⊎-elim}
-use mathlib.Core.List.{List, [], _∷_, _++_, append-nil}
+use mathlib.Core.List.{List, [], _∷_, _++_}
 use native.Mathlib.Nat.{eq-or-lt-of-le, le-of-suc-le-suc}
 use native.Mathlib.Omega.{arith}
 use lib.Dec.{ltb}
@@ -11,19 +11,20 @@ use lib.ListN.{length, getD, replicate, length-append, List·getD-append}
 use lib.Seq.{getD-set-same, getD-set-other, getD-append-seam, getD-append-add}
 use borrow.Author.Tests.{lt-ltb}
 use Rattle.base.specs.Choice.{pick}
-use Rattle.base.proofs.Choices.{by-bool, yes-pick, lt-rule}
+use Rattle.base.proofs.Choices.{lt-rule}
+use Rattle.base.proofs.Points.{replicate-at}
 use Rattle.rules_record.specs.declared.Instance.{Instance}
 use Rattle.rules_record.specs.declared.Inputs.{Inputs}
 use Rattle.rules_record.specs.Inputs.{slotAt, withInstances}
 use Rattle.rules_record.specs.Sized.{Sized}
 use Rattle.rules_record.specs.Flows.{entryAt, flowAt, known, placeBelow, distinctFlows}
 use Rattle.rules_record.specs.declared.Extra.{Extra}
-use Rattle.rules_record.specs.Instances.{noKey, keyAt, held, foundKey, made, wantedKey, keepOne, keptKeys, withKeys, pruned}
-use Rattle.rules_record.proofs.InstanceKeys.{Distinct, keys-distinct, distinct-keys, kept-length, pruned-count, pruned-distinct, pruned-sized, pruned-rest, made-distinct, made-sized, made-rest}
+use Rattle.rules_record.specs.Instances.{noKey, keyAt, keysHeld, foundKey, made}
+use Rattle.rules_record.specs.Prune.{keptKeys, withKeys, pruned}
+use Rattle.rules_record.proofs.InstanceKeys.{Distinct, keys-distinct, distinct-keys, pruned-count, pruned-distinct, pruned-sized, pruned-rest, made-distinct, made-sized, made-rest, kept-rule, pruned-at}
 use Rattle.rules_record.proofs.FewInstances.{pruned-few}
 use Rattle.rules_record.specs.Lent.{Lists, bucketsIn}
-use Rattle.rules_record.specs.Facts.{WholeInput, WholeFlows, WholeInstances}
-use Rattle.rules_record.specs.Facts.{Checked}
+use Rattle.rules_record.specs.Facts.{WholeInput, WholeFlows, WholeInstances, Checked}
 
 -- ---- the instance table is replaced by a whole one
 module _ (s : Inputs) (l : Lists) (c : Checked s l) (instances : List Instance) (n : ℕ) where
@@ -49,23 +50,14 @@ module _ (s : Inputs) (l : Lists) (c : Checked s l) (instances : List Instance) 
   }
 
 -- ---- what is kept was in the table
-same-at : {A : Type 0} (m i : ℕ) (a : A) → getD (replicate m a) i a ≡ a
-same-at zero i a = refl
-same-at (suc m) zero a = refl
-same-at (suc m) (suc i) a = same-at m i a
 
 module _ (s : Inputs) (extra : Extra) where
-  -- a place is kept or goes
-  kept-rule : (n : ℕ) (P : List Instance → Type 0) → P (keptKeys s extra n ++ (keyAt s n ∷ [])) → P (keptKeys s extra n) → P (keptKeys s extra (suc n))
-  unfolding keptKeys keepOne
-  kept-rule n P p q = by-bool (wantedKey s extra (keyAt s n)) (λ e. rw e p) (λ e. rw (e, append-nil) q)
-
   kept-all : (P : Instance → Type 0) (n : ℕ) → ((place : ℕ) → place < n → P (keyAt s place)) → (a : ℕ) → a < length (keptKeys s extra n) → P (getD (keptKeys s extra n) a noKey)
   unfolding keptKeys
   kept-all P zero f a h = absurd (omega arith)
   kept-all P (suc n) f a h =
       let low : (b : ℕ) → b < length (keptKeys s extra n) → P (getD (keptKeys s extra n) b noKey) = kept-all P n (λ place m. f place (omega arith)) in
-      kept-rule n (λ keys. a < length keys → P (getD keys a noKey)) (added low) (low a) h
+      kept-rule s extra n (λ keys. a < length keys → P (getD keys a noKey)) (added low) (low a) h
     where
       added : ((b : ℕ) → b < length (keptKeys s extra n) → P (getD (keptKeys s extra n) b noKey)) → a < length (keptKeys s extra n ++ (keyAt s n ∷ [])) → P (getD (keptKeys s extra n ++ (keyAt s n ∷ [])) a noKey)
       added low m =
@@ -75,35 +67,25 @@ module _ (s : Inputs) (extra : Extra) where
           (λ k. subst P (sym (List·getD-append (keptKeys s extra n) (keyAt s n ∷ []) noKey a k)) (low a k))
           (eq-or-lt-of-le most)
 
-  kept-most : length (keptKeys s extra (held s)) ≤ 18
-  unfolding held
-  kept-most = omega (arith, kept-length s extra (held s))
-
-  pruned-at : (place : ℕ) → place < length (keptKeys s extra (held s)) → keyAt (pruned s extra) place ≡ getD (keptKeys s extra (held s)) place noKey
-  unfolding keyAt pruned withKeys
-  pruned-at place h =
-      yes-pick _ _ (lt-ltb place 18 (omega (arith, kept-most)))
-      ∙ List·getD-append (keptKeys s extra (held s)) (replicate (18 - length (keptKeys s extra (held s))) noKey) noKey place h
-
-  pruned-past : (place : ℕ) → length (keptKeys s extra (held s)) ≤ place → keyAt (pruned s extra) place ≡ noKey
+  pruned-past : (place : ℕ) → length (keptKeys s extra (keysHeld s)) ≤ place → keyAt (pruned s extra) place ≡ noKey
   unfolding keyAt pruned withKeys
   pruned-past place h =
       lt-rule place 18 _ _ (λ x. x ≡ noKey)
       (λ k.
-      let e : length (keptKeys s extra (held s)) + (place - length (keptKeys s extra (held s))) ≡ place = omega arith in
-      rw e at (getD-append-add (keptKeys s extra (held s)) (replicate (18 - length (keptKeys s extra (held s))) noKey) (place - length (keptKeys s extra (held s))) noKey)
-      ∙ same-at (18 - length (keptKeys s extra (held s))) (place - length (keptKeys s extra (held s))) noKey)
+      let e : length (keptKeys s extra (keysHeld s)) + (place - length (keptKeys s extra (keysHeld s))) ≡ place = omega arith in
+      rw e at (getD-append-add (keptKeys s extra (keysHeld s)) (replicate (18 - length (keptKeys s extra (keysHeld s))) noKey) (place - length (keptKeys s extra (keysHeld s))) noKey)
+      ∙ replicate-at (18 - length (keptKeys s extra (keysHeld s))) (place - length (keptKeys s extra (keysHeld s))) noKey)
       (λ k. refl)
 
   -- distinct keys of known flows are whole after a prune
-  pub pruned-whole : Distinct s → ((place : ℕ) → place < held s → keyAt s place .flow < s .«flow_count») → WholeInstances (pruned s extra)
+  pub pruned-whole : Distinct s → ((place : ℕ) → place < keysHeld s → keyAt s place .flow < s .«flow_count») → WholeInstances (pruned s extra)
   pruned-whole d f =
-      let count : pruned s extra .«instance_count» ≡ length (keptKeys s extra (held s)) = pruned-count s extra in
+      let count : pruned s extra .«instance_count» ≡ length (keptKeys s extra (keysHeld s)) = pruned-count s extra in
       let flows : pruned s extra .«flow_count» ≡ s .«flow_count» = ap (λ (z : Inputs). z .«flow_count») (pruned-rest s extra) in
       record {
         most = pruned-few s extra d;
         distinct = distinct-keys (pruned s extra) (pruned-distinct s extra d);
-        known = λ place h. omega (arith, flows, ap (λ (x : Instance). x .flow) (pruned-at place (rw count at h)), kept-all (λ key. key .flow < s .«flow_count») (held s) f place (rw count at h));
+        known = λ place h. omega (arith, flows, ap (λ (x : Instance). x .flow) (pruned-at s extra place (rw count at h)), kept-all (λ key. key .flow < s .«flow_count») (keysHeld s) f place (rw count at h));
         unused = λ place h. pruned-past place (rw count at h);
       }
 
@@ -117,14 +99,14 @@ module _ (s : Inputs) (key : Instance) (sized : Sized s) (few : s .«instance_co
   unfolding keyAt made
   made-before place h = rw (lt-ltb (s .«instance_count») 18 few) (ap (λ (x : Instance). pick (ltb place 18) x noKey) (getD-set-other (s .instances) (s .«instance_count») place key noKey (λ e. omega arith)))
 
-  made-held : held (made s key) ≡ suc (s .«instance_count»)
-  unfolding held made
+  made-held : keysHeld (made s key) ≡ suc (s .«instance_count»)
+  unfolding keysHeld made
   made-held = rw (lt-ltb (s .«instance_count») 18 few) (omega arith)
 
   made-flows : made s key .«flow_count» ≡ s .«flow_count»
   made-flows = ap (λ (z : Inputs). z .«flow_count») (made-rest s key)
 
-  made-known : key .flow < s .«flow_count» → ((place : ℕ) → place < s .«instance_count» → keyAt s place .flow < s .«flow_count») → (place : ℕ) → place < held (made s key) → keyAt (made s key) place .flow < made s key .«flow_count»
+  made-known : key .flow < s .«flow_count» → ((place : ℕ) → place < s .«instance_count» → keyAt s place .flow < s .«flow_count») → (place : ℕ) → place < keysHeld (made s key) → keyAt (made s key) place .flow < made s key .«flow_count»
   made-known new old place h =
       ⊎-elim
       (λ e. omega (arith, made-flows, new, ap (λ (x : ℕ). keyAt (made s key) x .flow) e, ap (λ (x : Instance). x .flow) made-here))
@@ -133,8 +115,8 @@ module _ (s : Inputs) (key : Instance) (sized : Sized s) (few : s .«instance_co
 
 -- ---- the record stays checked
 module _ (s : Inputs) (l : Lists) (c : Checked s l) (extra : Extra) where
-  held-count : held s ≡ s .«instance_count»
-  unfolding held
+  held-count : keysHeld s ≡ s .«instance_count»
+  unfolding keysHeld
   held-count = omega (arith, c .whole .instances .most)
 
   pub prune-keeps : Checked (pruned s extra) l

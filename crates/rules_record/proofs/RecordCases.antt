@@ -11,16 +11,16 @@ use lib.Dec.{eqb, leb, ltb}
 use lib.ListN.{length, getD, take, drop}
 use borrow.Author.Tests.{leb-true, lt-ltb, le-ltb}
 use Rattle.base.specs.Choice.{pick}
+use Rattle.base.specs.Limits.{samplesLimit, timeLimit}
 use Rattle.base.proofs.All.{both-yes, both-no}
 use Rattle.base.proofs.Choices.{yes-pick, no-pick}
 use Rattle.base.proofs.Points.{both-true}
 use Rattle.base.proofs.Blocks.{block-within}
 use Rattle.policy.specs.declared.DelayPolicy.{DelayPolicy}
 use Rattle.policy.specs.Settings.{reachesAllowed, Sound}
-use Rattle.rules_window.specs.Window.{Window, bucketsOf}
-use Rattle.rules_window.specs.Window.{windowed}
-use Rattle.rules_window.specs.Whole.{wholeWindow}
-use Rattle.rules_window.specs.Parts.{partOf, Held}
+use Rattle.rules_window.specs.Window.{Window, windowed, bucketsOf}
+use Rattle.rules_window.specs.WholeWindow.{wholeWindow}
+use Rattle.rules_window.specs.Parts.{partOf, PartsIn}
 use Rattle.delay_hold.specs.declared.Moment.{Moment}
 use Rattle.delay_hold.specs.declared.Moment.the-variants.{Never, At}
 use Rattle.delay_hold.specs.Next.{held}
@@ -35,16 +35,17 @@ use Rattle.rules_record.specs.declared.State.{State}
 use Rattle.rules_record.specs.declared.Slot.{Slot}
 use Rattle.rules_record.specs.declared.Instance.{Instance}
 use Rattle.rules_record.specs.declared.Inputs.{Inputs}
-use Rattle.rules_record.specs.Slots.{stateNumber, emptySlot}
+use Rattle.rules_record.specs.Slots.{emptySlot}
+use Rattle.rules_record.specs.States.{stateNumber}
 use Rattle.rules_record.specs.Inputs.{slotAt}
 use Rattle.rules_record.proofs.SlotFrame.{slot-in}
 use Rattle.rules_record.specs.Flows.{emptyEntry, entryAt}
 use Rattle.rules_record.specs.Instances.{noKey, keyAt}
 use Rattle.rules_record.specs.declared.Commands.{Commands}
 use Rattle.rules_record.specs.declared.Commands.the-variants.{Absent, Words}
-use Rattle.rules_record.specs.Lent.{Lists, lists, bucketsIn, windowOf, heldOf}
-use Rattle.rules_record.specs.Places.{proposalFits, routeFits, wholeSlot, unusedEntry, entryFits, unusedKey, keyFits, unusedSlot}
-use Rattle.rules_record.specs.Record.{wholeInput, inputFits}
+use Rattle.rules_record.specs.Lent.{Lists, lists, bucketsIn, windowOf, heldOf, bucketsFor}
+use Rattle.rules_record.specs.WholePlaces.{proposalFits, routeFits, wholeSlot, unusedEntry, entryFits, unusedKey, keyFits, unusedSlot}
+use Rattle.rules_record.specs.WholeRecord.{wholeInput, inputFits}
 use Rattle.rules_record.specs.Checks.{inputsAllowed, bucketsAllowed, listsFit, commandsFit, Fitting}
 use Rattle.rules_record.proofs.Shapes.{window-held}
 
@@ -58,7 +59,7 @@ some-proposed proposed maximum e = sym (ap (λ (x : Proposal). proposalFits x ma
 pub no-moment : (moment : Moment) → moment ≡ Never → true ≡ momentTimely moment
 no-moment moment e = sym (ap momentTimely e)
 
-pub some-moment : (moment : Moment) {time : ℕ} → moment ≡ At time → leb time 4000000000000000000 ≡ momentTimely moment
+pub some-moment : (moment : Moment) {time : ℕ} → moment ≡ At time → leb time timeLimit ≡ momentTimely moment
 some-moment moment e = sym (ap momentTimely e)
 
 pub no-commands : (n : ℕ) (commands : Commands) → commands ≡ Absent → true ≡ commandsFit n commands
@@ -91,15 +92,15 @@ module _ (s : Inputs) (place : ℕ) where
   told-key l g = g ∙ ap (λ (x : Instance). pick (ltb place (s .«instance_count»)) (ltb (x .flow) (s .«flow_count»)) (unusedKey x)) (sym (yes-pick _ _ (lt-ltb _ _ l)))
 
 -- ---- checks 2 and 5
-pub reaches-ask : (policy : DelayPolicy) (width : ℕ) → reachesAllowed policy ≡ true → 1 ≤ width → (policy .«read_offset» ≤ 96000) × (policy .«delay_max» ≤ 96000) × (1 ≤ width)
+pub reaches-ask : (policy : DelayPolicy) (width : ℕ) → reachesAllowed policy ≡ true → 1 ≤ width → (policy .«read_offset» ≤ samplesLimit) × (policy .«delay_max» ≤ samplesLimit) × (1 ≤ width)
 unfolding reachesAllowed
 reaches-ask policy width h low = let t = both-true _ _ h in (leb-true _ _ (t .0), leb-true _ _ (t .1), low)
 
-pub buckets-ask : (policy : DelayPolicy) (width : ℕ) → bucketsAllowed policy width ≡ true → (policy .«read_offset» ≤ 96000) × (policy .«delay_max» ≤ 96000) × (1 ≤ width)
+pub buckets-ask : (policy : DelayPolicy) (width : ℕ) → bucketsAllowed policy width ≡ true → (policy .«read_offset» ≤ samplesLimit) × (policy .«delay_max» ≤ samplesLimit) × (1 ≤ width)
 unfolding bucketsAllowed
 buckets-ask policy width h = let t = both-true _ _ h in reaches-ask policy width (t .0) (leb-true _ _ (both-true _ _ (t .1) .0))
 
-pub buckets-few : (policy : DelayPolicy) (width : ℕ) {buckets : ℕ} → bucketsAllowed policy width ≡ true → buckets ≡ bucketsOf (policy .«read_offset») (policy .«delay_max») width → buckets ≤ 4096
+pub buckets-few : (policy : DelayPolicy) (width : ℕ) {buckets : ℕ} → bucketsAllowed policy width ≡ true → buckets ≡ bucketsFor policy width → buckets ≤ 4096
 unfolding bucketsAllowed
 buckets-few policy width h e = rw e (leb-true _ _ (both-true _ _ (both-true _ _ (both-true _ _ h .1) .1) .1))
 
@@ -110,7 +111,7 @@ inputs-few n h = leb-true _ _ (both-true _ _ h .1)
 pub counts-fit : (n buckets : ℕ) → n ≤ 16 → buckets ≤ 4096 → Fits w64 (n * (11 * buckets))
 counts-fit n buckets h k = let rows : 11 * buckets ≤ 45056 = omega arith in omega (arith, mul-le-mul h rows)
 
-pub told-lists : (s : Inputs) (l : Lists) {buckets : ℕ} {r : Bool} → buckets ≡ bucketsOf (s .policy .«read_offset») (s .policy .«delay_max») (s .width) → r ≡ listsFit (s .count) buckets l → r ≡ listsFit (s .count) (bucketsIn s) l
+pub told-lists : (s : Inputs) (l : Lists) {buckets : ℕ} {r : Bool} → buckets ≡ bucketsFor (s .policy) (s .width) → r ≡ listsFit (s .count) buckets l → r ≡ listsFit (s .count) (bucketsIn s) l
 unfolding bucketsIn
 told-lists s l e g = g ∙ ap (λ (b : ℕ). listsFit (s .count) b l) e
 
@@ -123,18 +124,11 @@ module _ (i : ℕ) (starts totals counts times lags : List ℕ) where
   abbrev lentFor : (width : ℕ) → Slot → (buckets : ℕ) → Window
   lentFor width slot buckets = windowed (slot .«lag_seconds») buckets width starts totals counts
 
-  -- what `inputs_window::core::whole` asks
-  pub window-asks : (policy : DelayPolicy) (width : ℕ) (slot : Slot) {buckets : ℕ} → buckets ≡ bucketsOf (policy .«read_offset») (policy .«delay_max») width → Held i (lentFor width slot (bucketsOf (policy .«read_offset») (policy .«delay_max») width)) → Held i (lentFor width slot buckets)
-  window-asks policy width slot e h = rw e h
-
   -- what the calls told of a slot and settings is so of the record that has them
   module _ (s : Inputs) {policy : DelayPolicy} {width : ℕ} {slot : Slot} (p : policy ≡ s .policy) (w : width ≡ s .width) (e : slot ≡ slotAt s i) where
-    pub told-window : {buckets : ℕ} {r : Bool} → buckets ≡ bucketsOf (policy .«read_offset») (policy .«delay_max») width → r ≡ wholeWindow (partOf i (lentFor width slot buckets)) → r ≡ wholeWindow (windowOf s given i)
+    pub told-window : {r : Bool} → r ≡ wholeWindow (partOf i (lentFor width slot (bucketsFor policy width))) → r ≡ wholeWindow (windowOf s given i)
     unfolding bucketsIn
-    told-window b g =
-        g
-        ∙ ap (λ (n : ℕ). wholeWindow (partOf i (lentFor width slot n))) b
-        ∙ (λ t. wholeWindow (partOf i (lentFor (w t) (e t) (bucketsOf (p t .«read_offset») (p t .«delay_max») (w t)))))
+    told-window g = g ∙ (λ t. wholeWindow (partOf i (lentFor (w t) (e t) (bucketsFor (p t) (w t)))))
 
     pub told-hold : {k : ℕ} {r : Bool} → k ≡ 600 → r ≡ wholeHold policy width (held (slot .hold) (take k (drop (i * 600) times)) (take k (drop (i * 600) lags))) → r ≡ wholeHold (s .policy) (s .width) (heldOf s given i)
     told-hold k g = g ∙ (λ t. wholeHold (p t) (w t) (held (e t .hold) (take (k t) (drop (i * 600) times)) (take (k t) (drop (i * 600) lags))))
@@ -144,13 +138,13 @@ module _ (i : ℕ) (starts totals counts times lags : List ℕ) where
 
   module _ (s : Inputs) where
     -- what `whole_input` asks
-    pub input-asks : Fitting s given → i < s .count → Sound (s .policy) × (Held i (lentFor (s .width) (getD (s .slots) i emptySlot) (bucketsOf (s .policy .«read_offset») (s .policy .«delay_max») (s .width))) × ((i * 600 + 600 ≤ length times) × (i * 600 + 600 ≤ length lags)))
+    pub input-asks : Fitting s given → i < s .count → Sound (s .policy) × (PartsIn i (lentFor (s .width) (getD (s .slots) i emptySlot) (bucketsFor (s .policy) (s .width))) × ((i * 600 + 600 ≤ length times) × (i * 600 + 600 ≤ length lags)))
     unfolding bucketsIn
     input-asks f h = (
       f .allowed .sound,
       (
         window-held s given f i (getD (s .slots) i emptySlot) h,
-        (omega (arith, block-within i (s .count) 600 h, f .long .times), omega (arith, block-within i (s .count) 600 h, f .long .lags)),
+        (omega (arith, block-within i (s .count) 600 h, f .long .times), omega (arith, block-within i (s .count) 600 h, f .long .peaks)),
       ),
     )
 

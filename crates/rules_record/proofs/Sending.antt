@@ -8,7 +8,7 @@ use lib.Seq.{sets}
 use Rattle.base.proofs.Words.{sets-append}
 use Rattle.rules_record.specs.declared.Inputs.{Inputs}
 use Rattle.rules_record.specs.declared.Sent.{Sent}
-use Rattle.rules_record.specs.Commands.{Done, Did, quiet, first, changed}
+use Rattle.rules_record.specs.Commands.{Done, Did, quiet, sendFirst, changed}
 
 -- what is done may be said by another name
 pub did-by : {most : ℕ} {done same : Done} {answer : Sent} {before after : List ℕ} {from : ℕ} → done ≡ same → Did most same answer before after from → Did most done answer before after from
@@ -20,14 +20,14 @@ did-quiet {from = from} e = record { inputs = e; used = sym (add-zero from); wor
 
 -- one command is sent
 pub did-sent : (kind input word : ℕ) {most used from : ℕ} {s z : Inputs} {before after : List ℕ} → 3 ≤ most → z ≡ s → used ≡ from + 3 → after ≡ sets before from (kind ∷ input ∷ word ∷ [])
-    → Did most (first (kind ∷ input ∷ word ∷ []) (quiet s)) (record { inputs = z; used = used }) before after from
-unfolding first quiet
+    → Did most (sendFirst (kind ∷ input ∷ word ∷ []) (quiet s)) (record { inputs = z; used = used }) before after from
+unfolding sendFirst quiet
 did-sent kind input word l e u w = record { inputs = e; used = u; words = w; room = l }
 
 -- a command is sent, and then something more
 pub did-first : (kind input word : ℕ) {most used from : ℕ} {done : Done} {answer : Sent} {before between after : List ℕ} → used ≡ from + 3 → between ≡ sets before from (kind ∷ input ∷ word ∷ [])
-    → Did most done answer between after used → Did (most + 3) (first (kind ∷ input ∷ word ∷ []) done) answer before after from
-unfolding first
+    → Did most done answer between after used → Did (most + 3) (sendFirst (kind ∷ input ∷ word ∷ []) done) answer before after from
+unfolding sendFirst
 did-first kind input word {most} {used} {from} {done} {answer} {before} {between} {after} u w h = record {
   inputs = h .inputs;
   used = h .used ∙ omega (arith, u);
@@ -44,7 +44,3 @@ pub did-changed : (f : Inputs → Inputs) {most from : ℕ} {done : Done} {answe
     → Did most (changed f done) (record { inputs = z; used = answer .used }) before after from
 unfolding changed
 did-changed f h e = record { inputs = e ∙ ap f (h .inputs); used = h .used; words = h .words; room = h .room }
-
--- room for more is room
-pub did-within : {few most from : ℕ} {done : Done} {answer : Sent} {before after : List ℕ} → few ≤ most → Did few done answer before after from → Did most done answer before after from
-did-within l h = record { inputs = h .inputs; used = h .used; words = h .words; room = omega (arith, h .room) }

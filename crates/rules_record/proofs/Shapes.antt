@@ -7,21 +7,20 @@ use lib.ListN.{length, replicate, length-replicate}
 use borrow.Author.Tests.{le-leb, lt-ltb}
 use Rattle.base.specs.Choice.{both}
 use Rattle.base.specs.Lists.{part, blankFrom}
+use Rattle.base.specs.Limits.{nanos, windowReach}
 use Rattle.base.proofs.All.{all-none}
 use Rattle.base.proofs.Points.{true-both, blank-intro, zeros-at}
 use Rattle.policy.specs.declared.DelayPolicy.{DelayPolicy}
 use Rattle.rules_window.specs.Window.{bucketsOf, fresh}
 use Rattle.rules_window.specs.Parts as parts
-use Rattle.rules_window.specs.Whole.{summed, wholeWindow, Shaped, Sound}
-use Rattle.delay_hold.specs.declared.Lag.{Lag}
+use Rattle.rules_window.specs.WholeWindow.{summed, wholeWindow, Shaped, Sound}
 use Rattle.delay_hold.specs.Next.{Held, freshHold, clearedHold}
-use Rattle.delay_hold.specs.Checks.{lagUpTo, AskedFor}
-use Rattle.delay_hold.specs.Whole.{peakMost, wholePeaks, wholeTimes, timerFits, wholeHold}
+use Rattle.delay_hold.specs.Whole.{wholePeaks, wholeTimes, timerFits, wholeHold}
 use Rattle.base.specs.Rows as rows
 use Rattle.rules_record.specs.declared.Slot.{Slot}
 use Rattle.rules_record.specs.declared.Inputs.{Inputs}
 use Rattle.rules_record.specs.Inputs.{slotAt}
-use Rattle.rules_record.specs.Lent.{Lists, bucketsIn, windowsOf, windowFor, windowOf, heldOf}
+use Rattle.rules_record.specs.Lent.{Lists, bucketsIn, windowsOf, windowFor, windowOf}
 use Rattle.rules_record.specs.Checks.{Fitting}
 use Rattle.base.proofs.Blocks.{block-within, block-long}
 use Rattle.rules_record.specs.Facts.{Checked}
@@ -48,7 +47,7 @@ module _ (s : Inputs) (l : Lists) (f : Fitting s l) where
   }
 
   -- what the functions of `inputs_window` ask of input i
-  pub window-held : (i : ℕ) (slot : Slot) → i < s .count → parts.Held i (windowsOf s l slot)
+  pub window-held : (i : ℕ) (slot : Slot) → i < s .count → parts.PartsIn i (windowsOf s l slot)
   unfolding bucketsIn
   window-held i slot h = record {
     width-low = f .allowed .width-least;
@@ -63,8 +62,8 @@ module _ (s : Inputs) (l : Lists) (f : Fitting s l) where
   pub held-times : (i : ℕ) → i < s .count → length (part (i * 600) 600 (l .times)) ≡ 600
   held-times i h = block-long (s .count) 600 i (l .times) (f .long .times) h
 
-  pub held-lags : (i : ℕ) → i < s .count → length (part (i * 600) 600 (l .lags)) ≡ 600
-  held-lags i h = block-long (s .count) 600 i (l .lags) (f .long .lags) h
+  pub held-lags : (i : ℕ) → i < s .count → length (part (i * 600) 600 (l .peaks)) ≡ 600
+  held-lags i h = block-long (s .count) 600 i (l .peaks) (f .long .peaks) h
 
   -- a fresh window
   fresh-shaped : Shaped (fresh (bucketsIn s) (s .width))
@@ -84,7 +83,7 @@ unfolding wholeWindow fresh rows.apart summed rows.upTo
 fresh-whole buckets width =
     true-both _ _ (le-leb 0 11 (omega arith))
     (true-both _ _ (all-none _)
-    (true-both _ _ (le-leb 0 10000000000 (omega arith))
+    (true-both _ _ (le-leb 0 windowReach (omega arith))
     (true-both _ _ (all-none _)
     (true-both _ _ (zeros-blank 0 11)
     (true-both _ _ (zeros-blank 0 11) (true-both _ _ (zeros-blank (0 * buckets) (11 * buckets)) (all-none _)))))))
@@ -97,7 +96,7 @@ fresh-times : (policy : DelayPolicy) → wholeTimes policy freshHold ≡ true
 unfolding wholeTimes timerFits both
 fresh-times policy = refl
 
-pub cleared-whole : (policy : DelayPolicy) (width : ℕ) (h : Held) → 1_000_000_000 ≤ policy .window → wholeHold policy width (clearedHold h) ≡ true
+pub cleared-whole : (policy : DelayPolicy) (width : ℕ) (h : Held) → nanos ≤ policy .window → wholeHold policy width (clearedHold h) ≡ true
 unfolding wholeHold wholePeaks rows.apart rows.upTo
 cleared-whole policy width h least =
     true-both _ _
@@ -111,17 +110,3 @@ cleared-whole policy width h least =
 -- ---- of a record that 1 to 6 let through
 pub window-sound : (s : Inputs) (l : Lists) → Checked s l → (i : ℕ) → i < s .count → Sound (windowOf s l i)
 window-sound s l c i h = record { shaped = window-shaped s l (c .fitting) i (slotAt s i) h; whole = c .whole .inputs i h .window }
-
--- what `delay_hold::core::next` asks of input i
-pub hold-asked : (s : Inputs) (l : Lists) → Checked s l → (i : ℕ) → i < s .count → (p999 : Lag) (current : ℕ) → current ≤ s .policy .«delay_max» → lagUpTo p999 (peakMost (s .policy) (s .width)) ≡ true → AskedFor (s .width) (s .policy) (heldOf s l i) p999 current
-hold-asked s l c i h p999 current current-in p999-in = record {
-  sound = c .fitting .allowed .sound;
-  window-least = c .fitting .allowed .window-least;
-  window-most = c .fitting .allowed .window-most;
-  width-most = c .fitting .allowed .width-most;
-  times-long = held-times s l (c .fitting) i h;
-  lags-long = held-lags s l (c .fitting) i h;
-  whole = c .whole .inputs i h .hold;
-  current-in = current-in;
-  p999-in = p999-in;
-}

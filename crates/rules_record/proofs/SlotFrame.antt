@@ -8,7 +8,7 @@ use lib.ListN.{length, getD, set, length-set}
 use lib.Seq.{getD-set-same, getD-set-other, set-set}
 use borrow.Author.Tests.{lt-ltb}
 use Rattle.base.specs.Choice.{pick}
-use Rattle.base.proofs.Choices.{by-bool, pick-all}
+use Rattle.base.proofs.Choices.{by-bool, pick-all, yes-pick}
 use Rattle.rules_record.specs.declared.Slot.{Slot}
 use Rattle.rules_record.specs.declared.Inputs.{Inputs}
 use Rattle.rules_record.specs.Slots.{emptySlot}
@@ -23,6 +23,11 @@ getD-set-rule P a none (x ∷ l) (suc i) new old = getD-set-rule P a none l i ne
 pub slot-in : (s : Inputs) (i : ℕ) → i < 16 → getD (s .slots) i emptySlot ≡ slotAt s i
 unfolding slotAt
 slot-in s i h = rw (lt-ltb i 16 h)
+
+-- a slot that is stored at its place is put
+pub put-stores : (s : Inputs) (i : ℕ) (slot : Slot) → i < 16 → putSlot s i slot ≡ withSlots s (set (s .slots) i slot)
+unfolding putSlot
+put-stores s i slot low = yes-pick _ _ (lt-ltb _ _ low)
 
 module _ (s : Inputs) (i : ℕ) (slot : Slot) where
   -- the slot that was written is read again

@@ -20,14 +20,13 @@ use Rattle.rules_record.specs.declared.FlowEntry.{FlowEntry}
 use Rattle.rules_record.specs.declared.Inputs.{Inputs}
 use Rattle.rules_record.specs.Slots.{isAuto}
 use Rattle.rules_record.specs.Inputs.{slotAt, withFlows}
-use Rattle.rules_record.specs.Flows.{emptyEntry, entryAt, flowAt, known, placeBelow, placeOf, distinctFlows, added, enrolledAt, enrolled, recalled, remembered, rememberedBy, rememberedFor}
+use Rattle.rules_record.specs.Flows.{emptyEntry, entryAt, flowAt, known, placeBelow, flowPlace, distinctFlows, added, enrolledAt, enrolled, recalled, remembered, rememberedBy, rememberedFor}
 use Rattle.rules_record.proofs.FlowTable.{enrolled-within, enrolled-more, enrolled-distinct, enrolled-rest, enrolled-sized, remember-other, remember-rest, remember-flow, remember-distinct, remember-sized}
 use Rattle.rules_record.specs.Instances as keys
 use Rattle.rules_record.specs.Instances.{keyAt, keyBelow, distinctKeys}
 use Rattle.rules_record.specs.Lent.{Lists, bucketsIn}
-use Rattle.rules_record.specs.Places.{routeFits}
-use Rattle.rules_record.specs.Facts.{WholeSlot, WholeInput, WholeFlows, WholeInstances}
-use Rattle.rules_record.specs.Facts.{Checked}
+use Rattle.rules_record.specs.WholePlaces.{routeFits}
+use Rattle.rules_record.specs.Facts.{WholeSlot, WholeInput, WholeFlows, WholeInstances, Checked}
 
 -- ---- more flows known
 route-more : (to : Routed) (state : State) (n m : ℕ) → n ≤ m → routeFits to state n ≡ true → routeFits to state m ≡ true
@@ -68,7 +67,7 @@ module _ (s : Inputs) (l : Lists) (c : Checked s l) where
         record { window = w .window; hold = w .hold; slot = slot-more (s .policy .«delay_max») (s .«flow_count») n (slotAt s i) more (w .slot) }
 
     more-instances : WholeInstances after
-    unfolding keyAt distinctKeys keyBelow keys.held
+    unfolding keyAt distinctKeys keyBelow keys.keysHeld
     more-instances = record {
       most = c .whole .instances .most;
       distinct = c .whole .instances .distinct;
@@ -97,11 +96,11 @@ module _ (s : Inputs) (l : Lists) (c : Checked s l) where
     new-unused : (place : ℕ) → enrolled s flow .«flow_count» ≤ place → entryAt (enrolled s flow) place ≡ emptyEntry
     unfolding enrolled enrolledAt
     new-unused place =
-        lt-rule (placeOf s flow) (s .«flow_count») _ _ (λ z. z .«flow_count» ≤ place → entryAt z place ≡ emptyEntry) (λ k h. c .whole .flows .unused place h)
-        (λ k. lt-rule (placeOf s flow) 64 _ _ (λ z. z .«flow_count» ≤ place → entryAt z place ≡ emptyEntry) (λ m h. beyond k h) (λ m h. c .whole .flows .unused place h))
+        lt-rule (flowPlace s flow) (s .«flow_count») _ _ (λ z. z .«flow_count» ≤ place → entryAt z place ≡ emptyEntry) (λ k h. c .whole .flows .unused place h)
+        (λ k. lt-rule (flowPlace s flow) 64 _ _ (λ z. z .«flow_count» ≤ place → entryAt z place ≡ emptyEntry) (λ m h. beyond k h) (λ m h. c .whole .flows .unused place h))
       where
-        beyond : s .«flow_count» ≤ placeOf s flow → placeOf s flow + 1 ≤ place → entryAt (added (placeOf s flow) s flow) place ≡ emptyEntry
-        beyond k h = entry-other s place (placeOf s flow) _ _ _ (λ e. omega arith) ∙ c .whole .flows .unused place (omega arith)
+        beyond : s .«flow_count» ≤ flowPlace s flow → flowPlace s flow + 1 ≤ place → entryAt (added (flowPlace s flow) s flow) place ≡ emptyEntry
+        beyond k h = entry-other s place (flowPlace s flow) _ _ _ (λ e. omega arith) ∙ c .whole .flows .unused place (omega arith)
 
     pub enrol-keeps : Checked (enrolled s flow) l
     enrol-keeps =

@@ -29,10 +29,11 @@ use Rattle.rules_record.specs.declared.Remembered.{Remembered}
 use Rattle.rules_record.specs.declared.Remembered.the-variants as Remembered
 use Rattle.rules_record.specs.declared.FlowEntry.{FlowEntry}
 use Rattle.rules_record.specs.declared.Instance.{Instance}
-use Rattle.rules_record.specs.Slots.{stateNumber, isAuto, emptySlot}
+use Rattle.rules_record.specs.Slots.{isAuto, emptySlot}
+use Rattle.rules_record.specs.States.{stateNumber}
 use Rattle.rules_record.specs.Flows.{emptyEntry}
 use Rattle.rules_record.specs.Instances.{noKey}
-use Rattle.rules_record.specs.Places.{neverYet, noSeed, noRoute, noInode, noProposal, noDelay, unusedTimer, unusedHold, unusedParts, unusedNumbers, unusedSlot, unusedEntry, unusedKey}
+use Rattle.rules_record.specs.WholePlaces.{neverYet, noSeed, noRoute, noInode, noProposal, noDelay, unusedTimer, unusedHold, unusedParts, unusedNumbers, unusedSlot, unusedEntry, unusedKey}
 
 -- ---- one field
 is-never : (m : Moment) → neverYet m ≡ true → m ≡ Never

@@ -5,15 +5,14 @@ use mathlib.Core.Path.{_≡_}
 use lib.Dec.{leb, ltb, eqb}
 use lib.ListN.{length}
 use Rattle.base.specs.Choice.{both, ask}
-use Rattle.base.specs.Limits.{nanos, spanLimit, timely}
+use Rattle.base.specs.Limits.{nanos, spanLimit, timely, widthLimit}
 use Rattle.policy.specs.declared.DelayPolicy.{DelayPolicy}
 use Rattle.policy.specs.Settings.{reachesAllowed, timesAllowed, marginsAllowed, Sound}
-use Rattle.rules_window.specs.Window.{bucketsOf}
 use Rattle.rules_record.specs.declared.Inputs.{Inputs}
 use Rattle.rules_record.specs.declared.Commands.{Commands}
 use Rattle.rules_record.specs.declared.Commands.the-variants.{Absent, Words}
-use Rattle.rules_record.specs.Lent.{Lists, bucketsIn}
-use Rattle.rules_record.specs.Record.{wholeRecord}
+use Rattle.rules_record.specs.Lent.{Lists, bucketsIn, bucketsFor}
+use Rattle.rules_record.specs.WholeRecord.{wholeRecord}
 
 -- 1: "Are there 1 to 16 inputs?"
 unfoldable pub inputsAllowed : ℕ → Bool
@@ -24,8 +23,8 @@ unfoldable pub bucketsAllowed : (policy : DelayPolicy) (width : ℕ) → Bool
 bucketsAllowed policy width =
     both (reachesAllowed policy)
     (both (leb 1 width)
-    (both (leb width 4800)
-    (leb (bucketsOf (policy .«read_offset») (policy .«delay_max») width) 4096)))
+    (both (leb width widthLimit)
+    (leb (bucketsFor policy width) 4096)))
 
 -- 3: "Are hold and stall at most 600 s, window 1 to 600 s?"
 unfoldable pub pausesAllowed : (policy : DelayPolicy) (stall : ℕ) → Bool
@@ -38,7 +37,7 @@ listsFit n buckets l =
     (both (eqb (length (l .totals)) (n * 11))
     (both (eqb (length (l .counts)) (n * (11 * buckets)))
     (both (eqb (length (l .times)) (n * 600))
-    (eqb (length (l .lags)) (n * 600)))))
+    (eqb (length (l .peaks)) (n * 600)))))
 
 -- a call that sends nothing takes no commands
 abbrev pub commandsFit : (n : ℕ) → Commands → Bool
@@ -76,8 +75,8 @@ pub record Allowed (n : ℕ) (policy : DelayPolicy) (width stall : ℕ) : Type 0
   pub most : n ≤ 16
   pub sound : Sound policy
   pub width-least : 1 ≤ width
-  pub width-most : width ≤ 4800
-  pub buckets-most : bucketsOf (policy .«read_offset») (policy .«delay_max») width ≤ 4096
+  pub width-most : width ≤ widthLimit
+  pub buckets-most : bucketsFor policy width ≤ 4096
   pub hold-most : policy .hold ≤ spanLimit
   pub window-least : nanos ≤ policy .window
   pub window-most : policy .window ≤ spanLimit
@@ -89,7 +88,7 @@ pub record Long (n buckets : ℕ) (l : Lists) : Type 0 where
   pub totals : length (l .totals) ≡ n * 11
   pub counts : length (l .counts) ≡ n * (11 * buckets)
   pub times : length (l .times) ≡ n * 600
-  pub lags : length (l .lags) ≡ n * 600
+  pub peaks : length (l .peaks) ≡ n * 600
 
 -- what 1 to 5 let through of a record and its lists: what `inputs_checks::core::whole` asks
 pub record Fitting (s : Inputs) (l : Lists) : Type 0 where

@@ -27,8 +27,8 @@ unfoldable pub quiet : Inputs → Done
 quiet s = record { inputs = s; words = [] }
 
 -- the words are sent first, then what follows
-unfoldable pub first : (words : List ℕ) (next : Done) → Done
-first words next = record { inputs = next .inputs; words = words ++ next .words }
+unfoldable pub sendFirst : (words : List ℕ) (next : Done) → Done
+sendFirst words next = record { inputs = next .inputs; words = words ++ next .words }
 
 -- the record changes once more, with nothing sent
 unfoldable pub changed : (f : (Inputs → Inputs)) (done : Done) → Done

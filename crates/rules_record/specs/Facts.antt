@@ -2,8 +2,8 @@
 use Prim.Native.Nat.{ℕ, _<_, _≤_}
 use mathlib.Core.Bool.{true}
 use mathlib.Core.Path.{_≡_}
-use Rattle.base.specs.Limits.{timeLimit}
-use Rattle.rules_window.specs.Whole.{wholeWindow}
+use Rattle.base.specs.Limits.{timeLimit, counterLimit}
+use Rattle.rules_window.specs.WholeWindow.{wholeWindow}
 use Rattle.delay_hold.specs.Whole.{momentTimely, wholeHold}
 use Rattle.rules_record.specs.declared.Slot.{Slot}
 use Rattle.rules_record.specs.declared.Inputs.{Inputs}
@@ -13,16 +13,16 @@ use Rattle.rules_record.specs.Sized.{Sized}
 use Rattle.rules_record.specs.Flows.{emptyEntry, entryAt, distinctFlows}
 use Rattle.rules_record.specs.Instances.{noKey, keyAt, distinctKeys}
 use Rattle.rules_record.specs.Lent.{Lists, windowOf, heldOf}
-use Rattle.rules_record.specs.Places.{proposalFits, routeFits}
+use Rattle.rules_record.specs.WholePlaces.{proposalFits, routeFits}
 use Rattle.rules_record.specs.Checks.{Fitting}
 
 pub record WholeSlot (maximum n : ℕ) (slot : Slot) : Type 0 where
   pub delay : slot .delay ≤ maximum
   pub proposed : proposalFits (slot .proposed) maximum ≡ true
   pub route : routeFits (slot .route) (slot .state) n ≡ true
-  pub reopens : slot .reopens < 9_223_372_036_854_775_808
-  pub changes : slot .«delay_changes» < 9_223_372_036_854_775_808
-  pub lates : slot .«late_events» < 9_223_372_036_854_775_808
+  pub reopens : slot .reopens < counterLimit
+  pub changes : slot .«delay_changes» < counterLimit
+  pub lates : slot .«late_events» < counterLimit
   pub head : slot .«head_changed» ≤ timeLimit
   pub set : momentTimely (slot .«last_set») ≡ true
 

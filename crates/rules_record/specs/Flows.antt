@@ -44,8 +44,8 @@ unfoldable pub placeBelow : (n : ℕ) (s : Inputs) (flow : Flow) → ℕ
 placeBelow n s flow = first (holdsFlow s flow) n
 
 -- the flow's place, or the number of places in use
-unfoldable pub placeOf : (s : Inputs) (flow : Flow) → ℕ
-placeOf s flow = placeBelow (known s) s flow
+unfoldable pub flowPlace : (s : Inputs) (flow : Flow) → ℕ
+flowPlace s flow = placeBelow (known s) s flow
 
 -- "keys distinct": no flow stands at an earlier place too
 abbrev pub newAt : (s : Inputs) (place : ℕ) → Bool
@@ -56,7 +56,7 @@ distinctFlows s = all (newAt s) (known s)
 
 -- 9: "Is the flow known, or the flow table short of 64?"
 unfoldable pub admits : (s : Inputs) (flow : Flow) → Bool
-admits s flow = pick (ltb (placeOf s flow) (s .«flow_count»)) true (ltb (s .«flow_count») 64)
+admits s flow = pick (ltb (flowPlace s flow) (s .«flow_count»)) true (ltb (s .«flow_count») 64)
 
 -- the flow takes this place, with nothing remembered
 abbrev pub added : (place : ℕ) (s : Inputs) (flow : Flow) → Inputs
@@ -67,7 +67,7 @@ unfoldable pub enrolledAt : (place : ℕ) (s : Inputs) (flow : Flow) → Inputs
 enrolledAt place s flow = pick (ltb place (s .«flow_count»)) s (pick (ltb place 64) (added place s flow) s)
 
 unfoldable pub enrolled : (s : Inputs) (flow : Flow) → Inputs
-enrolled s flow = enrolledAt (placeOf s flow) s flow
+enrolled s flow = enrolledAt (flowPlace s flow) s flow
 
 -- the delay remembered for the flow at a place
 unfoldable pub recalled : (s : Inputs) (place : ℕ) → Remembered

@@ -2,6 +2,7 @@
 use Prim.Native.Nat.{ℕ, _*_}
 use mathlib.Core.List.{List}
 use Rattle.base.specs.Lists.{part, patched}
+use Rattle.policy.specs.declared.DelayPolicy.{DelayPolicy}
 use Rattle.rules_window.specs.Window.{Window, windowed, bucketsOf}
 use Rattle.rules_window.specs.Parts.{partOf}
 use Rattle.delay_hold.specs.Next.{Held, held}
@@ -16,14 +17,17 @@ pub record Lists : Type 0 where
   pub totals : List ℕ
   pub counts : List ℕ
   pub times : List ℕ
-  pub lags : List ℕ
+  pub peaks : List ℕ
 
-abbrev pub lists : (starts totals counts times lags : List ℕ) → Lists
-lists starts totals counts times lags = record { starts = starts; totals = totals; counts = counts; times = times; lags = lags }
+abbrev pub lists : (starts totals counts times peaks : List ℕ) → Lists
+lists starts totals counts times peaks = record { starts = starts; totals = totals; counts = counts; times = times; peaks = peaks }
 
--- the buckets of every window: "(offset + maximum + 4,800) / W + 2"
+-- the buckets of every window: "(offset + maximum + 4,800) / W + 2", of a policy and W, and of a record's
+abbrev pub bucketsFor : (policy : DelayPolicy) (width : ℕ) → ℕ
+bucketsFor policy width = bucketsOf (policy .«read_offset») (policy .«delay_max») width
+
 unfoldable pub bucketsIn : Inputs → ℕ
-bucketsIn s = bucketsOf (s .policy .«read_offset») (s .policy .«delay_max») (s .width)
+bucketsIn s = bucketsFor (s .policy) (s .width)
 
 -- the lists of all inputs as one window, with the seconds that this slot says; and the window of input i, where this is its slot: its part of them
 abbrev pub windowsOf : (s : Inputs) (l : Lists) (slot : Slot) → Window
@@ -37,7 +41,7 @@ windowOf s l i = windowFor s l i (slotAt s i)
 
 -- the hold of input i, where this is its slot: that of the slot, with the input's part of the lists
 abbrev pub heldFor : (l : Lists) (i : ℕ) (slot : Slot) → Held
-heldFor l i slot = held (slot .hold) (part (i * 600) 600 (l .times)) (part (i * 600) 600 (l .lags))
+heldFor l i slot = held (slot .hold) (part (i * 600) 600 (l .times)) (part (i * 600) 600 (l .peaks))
 
 abbrev pub heldOf : (s : Inputs) (l : Lists) (i : ℕ) → Held
 heldOf s l i = heldFor l i (slotAt s i)
@@ -50,8 +54,8 @@ withWindow buckets i w l =
     (patched (i * 11) 11 (w .totals) (l .totals))
     (patched (i * (11 * buckets)) (11 * buckets) (w .counts) (l .counts))
     (l .times)
-    (l .lags)
+    (l .peaks)
 
 -- the lists with those of hold h for input i; its slot then has the hold itself
 abbrev pub withHeld : (i : ℕ) (h : Held) (l : Lists) → Lists
-withHeld i h l = lists (l .starts) (l .totals) (l .counts) (patched (i * 600) 600 (h .times) (l .times)) (patched (i * 600) 600 (h .lags) (l .lags))
+withHeld i h l = lists (l .starts) (l .totals) (l .counts) (patched (i * 600) 600 (h .times) (l .times)) (patched (i * 600) 600 (h .lags) (l .peaks))

@@ -16,8 +16,8 @@ pub record Reply : Type 0 where
   pub commands : List ℕ
 
 -- an answer with the lists and commands that it leaves
-abbrev pub left : (answer : InputsAnswer) (l : Lists) (commands : List ℕ) → Reply
-left answer l commands = record { number = answer .number; inputs = answer .inputs; lists = l; commands = commands }
+abbrev pub leftInputs : (answer : InputsAnswer) (l : Lists) (commands : List ℕ) → Reply
+leftInputs answer l commands = record { number = answer .number; inputs = answer .inputs; lists = l; commands = commands }
 
 -- an accepted call writes all its commands: "Commands stand in sending order", then zeros
 abbrev pub carriedOut : (number : ℕ) (commands : List ℕ) (effect : Effect) → Reply

@@ -1,4 +1,4 @@
--- One input: its states' numbers, its empty slot, and a slot with one part changed. Assumes nothing.
+-- One input: its empty slot, and a slot with one part changed. Assumes nothing.
 use Prim.Native.Nat.{ℕ}
 use mathlib.Core.Bool.{Bool, true, false}
 use Rattle.delay_hold.specs.declared.DelayHold.{DelayHold}
@@ -9,7 +9,7 @@ use Rattle.rules_record.specs.declared.ExtraDelay.{ExtraDelay}
 use Rattle.rules_record.specs.declared.ExtraDelay.the-variants.{Auto, Ms}
 use Rattle.rules_record.specs.declared.InputConfig.{InputConfig}
 use Rattle.rules_record.specs.declared.State.{State}
-use Rattle.rules_record.specs.declared.State.the-variants.{Unrouted, Waiting, Running, Stalled}
+use Rattle.rules_record.specs.declared.State.the-variants.{Unrouted}
 use Rattle.rules_record.specs.declared.Routed.{Routed}
 use Rattle.rules_record.specs.declared.Routed.the-variants.{Nowhere}
 use Rattle.rules_record.specs.declared.Inode.{Inode}
@@ -17,13 +17,6 @@ use Rattle.rules_record.specs.declared.Inode.the-variants.{Gone}
 use Rattle.rules_record.specs.declared.Proposal.{Proposal}
 use Rattle.rules_record.specs.declared.Proposal.the-variants.{Nothing}
 use Rattle.rules_record.specs.declared.Slot.{Slot}
-
--- "States: 0 Unrouted, 1 Waiting, 2 Running, 3 Stalled."
-abbrev pub stateNumber : State → ℕ
-stateNumber Unrouted = 0
-stateNumber Waiting = 1
-stateNumber Running = 2
-stateNumber Stalled = 3
 
 -- "`ExtraDelay` is Auto with its tag, or Ms with a double"
 abbrev pub isAuto : ExtraDelay → Bool

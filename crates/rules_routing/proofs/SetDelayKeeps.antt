@@ -9,8 +9,7 @@ use Rattle.rules_record.specs.Inputs.{slotAt, putSlot}
 use Rattle.rules_record.proofs.SlotFrame.{put-rest}
 use Rattle.rules_routing.specs.SetDelay.{delayStored}
 use Rattle.rules_record.specs.Lent.{Lists}
-use Rattle.rules_record.specs.Facts.{WholeSlot}
-use Rattle.rules_record.specs.Facts.{Checked}
+use Rattle.rules_record.specs.Facts.{WholeSlot, Checked}
 use Rattle.rules_record.proofs.Keep.{slot-keeps}
 use Rattle.rules_record.proofs.Tables.{remember-for-keeps}
 

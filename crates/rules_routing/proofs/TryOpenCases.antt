@@ -19,13 +19,15 @@ use Rattle.rules_record.specs.declared.Inode.{Inode}
 use Rattle.rules_record.specs.declared.Inode.the-variants.{Gone, Of}
 use Rattle.rules_record.specs.declared.Remembered.{Remembered}
 use Rattle.rules_record.specs.declared.Remembered.the-variants.{Never, Delay}
-use Rattle.rules_record.specs.Slots.{stateNumber, isAuto, withState, withInode, withHead, withReopens, withHold}
+use Rattle.rules_record.specs.Slots.{isAuto, withState, withInode, withHead, withReopens, withHold}
+use Rattle.rules_record.specs.States.{stateNumber}
 use Rattle.rules_record.specs.Inputs.{slotAt, putSlot}
-use Rattle.rules_record.specs.Commands.{setInput, quiet, first}
+use Rattle.rules_record.specs.Commands.{setInput, quiet, sendFirst}
 use Rattle.rules_record.specs.Flows.{recalled}
 use Rattle.rules_record.specs.declared.Extra.{Extra}
 use Rattle.rules_record.specs.declared.Extra.the-variants.{Key}
-use Rattle.rules_record.specs.Instances.{foundKey, made, pruned}
+use Rattle.rules_record.specs.Instances.{foundKey, made}
+use Rattle.rules_record.specs.Prune.{pruned}
 use Rattle.rules_record.proofs.InstanceKeys.{made-rest, pruned-rest}
 use Rattle.rules_routing.specs.declared.Reader.{Reader}
 use Rattle.rules_routing.specs.declared.Reader.the-variants.{Shut, Open}
@@ -106,12 +108,12 @@ module _ (place inode : ℕ) (s : Inputs) (i time : ℕ) (world : World) where
   reader-shut h = ap (λ (x : Reader). openReader x place inode s i time world) h
 
   pub reader-opens : {channels : ℕ} → world .reader ≡ Open channels → {slot after : Slot} {all : Inputs} → slot ≡ slotAt s i → after ≡ openedSlot slot inode (world .head) time → all ≡ putSlot s i after
-      → openReader (world .reader) place inode s i time world ≡ first (setInput i channels) (recallOf slot place all i time)
+      → openReader (world .reader) place inode s i time world ≡ sendFirst (setInput i channels) (recallOf slot place all i time)
   unfolding openReader openWith
   reader-opens {channels} h {slot} e f g =
       ap (λ (x : Reader). openReader x place inode s i time world) h
       ∙ ap (λ (x : Slot). openWith x channels place inode s i time world) (sym e)
-      ∙ ap (λ (z : Inputs). first (setInput i channels) (recallOf slot place z i time)) (sym (g ∙ ap (putSlot s i) f))
+      ∙ ap (λ (z : Inputs). sendFirst (setInput i channels) (recallOf slot place z i time)) (sym (g ∙ ap (putSlot s i) f))
 
 -- ---- the instance
 -- making and pruning leave the slots

@@ -17,12 +17,13 @@ use Rattle.rules_record.specs.Inputs.{slotAt, putSlot, withSlots, withFlows, wi
 use Rattle.rules_record.proofs.SlotFrame.{slot-other, put-rest}
 use Rattle.rules_record.proofs.Sized.{sized-put}
 use Rattle.rules_record.specs.Sized.{Sized}
-use Rattle.rules_record.specs.Commands.{Done, quiet, first, changed}
+use Rattle.rules_record.specs.Commands.{Done, quiet, sendFirst, changed}
 use Rattle.rules_record.specs.Flows.{entryAt, flowAt, recalled}
 use Rattle.rules_record.proofs.FlowTable.{for-flow}
 use Rattle.rules_record.specs.declared.Extra.{Extra}
 use Rattle.rules_record.specs.declared.Extra.the-variants.{Key}
-use Rattle.rules_record.specs.Instances.{keyAt, held, foundKey, made, pruned}
+use Rattle.rules_record.specs.Instances.{keyAt, keysHeld, foundKey, made}
+use Rattle.rules_record.specs.Prune.{pruned}
 use Rattle.rules_record.proofs.InstanceKeys.{Distinct, made-rest, made-sized, made-distinct, pruned-rest, pruned-sized, pruned-distinct}
 use Rattle.rules_record.proofs.FewInstances.{pruned-few}
 use Rattle.rules_routing.specs.SetDelay.{delayStored, setDelayOf}
@@ -87,7 +88,7 @@ module _ (i : ℕ) where
 
   -- the slot of input i is written
   pub frame-put : (s : Inputs) (slot : Slot) → Frame i s (putSlot s i slot)
-  unfolding flowAt entryAt Distinct held keyAt
+  unfolding flowAt entryAt Distinct keysHeld keyAt
   frame-put s slot =
       let e : putSlot s i slot ≡ withSlots s (putSlot s i slot .slots) = put-rest s i slot in
       record {
@@ -106,7 +107,7 @@ module _ (i : ℕ) where
 
   -- a delay is stored
   pub frame-stored : (s : Inputs) (delay time : ℕ) → Frame i s (delayStored s i delay time)
-  unfolding Distinct held keyAt
+  unfolding Distinct keysHeld keyAt
   frame-stored s delay time =
       let after : Inputs = delayStored s i delay time in
       let e : after ≡ withFlows (withSlots s (after .slots)) (after .flows) (s .«flow_count») (after .unsaved) = stored-rest s i delay time in
@@ -164,7 +165,7 @@ module _ (i : ℕ) where
       }
 
   -- ---- `try_open`
-  abbrev Leaves : Inputs → Done → Type 0
+  abbrev pub Leaves : Inputs → Done → Type 0
   Leaves s done = Frame i s (done .inputs)
 
   pub leaves-quiet : (s : Inputs) → Leaves s (quiet s)
@@ -172,7 +173,7 @@ module _ (i : ℕ) where
   leaves-quiet s = frame-none s
 
   start-leaves : (delay : ℕ) (s : Inputs) (time : ℕ) → Leaves s (startAt delay s i time)
-  unfolding startAt seededAt changed setDelayOf first quiet
+  unfolding startAt seededAt changed setDelayOf sendFirst quiet
   start-leaves delay s time = frame-then (frame-stored s delay time) (frame-put (delayStored s i delay time) _)
 
   by-leaves : (remembered : Remembered) (s : Inputs) (time : ℕ) → Leaves s (startBy remembered s i time)
@@ -181,7 +182,7 @@ module _ (i : ℕ) where
   by-leaves (Delay last) s time = start-leaves _ s time
 
   reader-leaves : (reader : Reader) (place inode : ℕ) (s : Inputs) (time : ℕ) (world : World) → Leaves s (openReader reader place inode s i time world)
-  unfolding openReader openWith first recallOf
+  unfolding openReader openWith sendFirst recallOf
   reader-leaves Shut place inode s time world = leaves-quiet s
   reader-leaves (Open channels) place inode s time world =
       let after : Inputs = putSlot s i (openedSlot (slotAt s i) inode (world .head) time) in

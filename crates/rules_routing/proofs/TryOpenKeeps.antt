@@ -3,9 +3,9 @@ use Prim.Native.Nat.{ℕ, _+_, _<_, _≤_, min}
 use mathlib.Core.Bool.{true}
 use mathlib.Core.Path.{_≡_, refl, sym, ap, subst, _∙_}
 use native.Mathlib.Omega.{arith}
-use lib.Dec.{eqb, leb, ltb}
-use borrow.Author.Tests.{leb-true, ltb-true, le-leb, eqb-true, eqb-false}
-use Rattle.base.specs.Limits.{timeLimit}
+use lib.Dec.{ltb}
+use borrow.Author.Tests.{leb-true, ltb-true, eqb-true, eqb-false, le-leb}
+use Rattle.base.specs.Limits.{timeLimit, counterLimit}
 use Rattle.base.proofs.Choices.{pick-all, pick-rule}
 use Rattle.base.proofs.Points.{both-true, true-both}
 use Rattle.delay_hold.specs.Next.{seededHold}
@@ -22,12 +22,14 @@ use Rattle.rules_record.specs.declared.Remembered.the-variants.{Never, Delay}
 use Rattle.rules_record.specs.declared.Slot.{Slot}
 use Rattle.rules_record.specs.declared.Instance.{Instance}
 use Rattle.rules_record.specs.declared.Inputs.{Inputs}
-use Rattle.rules_record.specs.Slots.{stateNumber, withReopens, withHold}
+use Rattle.rules_record.specs.Slots.{withReopens, withHold}
+use Rattle.rules_record.specs.States.{stateNumber, isWaiting, isStalled, isRouted}
 use Rattle.rules_record.specs.Inputs.{slotAt, putSlot, withInstances}
-use Rattle.rules_record.specs.Commands.{Done, quiet, first, changed}
+use Rattle.rules_record.specs.Commands.{Done, quiet, sendFirst, changed}
 use Rattle.rules_record.specs.Flows.{recalled}
 use Rattle.rules_record.specs.declared.Extra.the-variants.{Key}
-use Rattle.rules_record.specs.Instances.{foundKey, made, pruned}
+use Rattle.rules_record.specs.Instances.{foundKey, made}
+use Rattle.rules_record.specs.Prune.{pruned}
 use Rattle.rules_record.proofs.InstanceKeys.{pruned-rest, made-rest}
 use Rattle.rules_routing.specs.SetDelay.{delayStored, setDelayOf}
 use Rattle.rules_routing.specs.declared.Reader.{Reader}
@@ -35,9 +37,8 @@ use Rattle.rules_routing.specs.declared.Reader.the-variants.{Shut, Open}
 use Rattle.rules_routing.specs.declared.World.{World}
 use Rattle.rules_routing.specs.TryOpen.{runningSlot, openedSlot, startsAnew, seededAt, startAt, startOf, startBy, recallOf, openWith, openReader, openAt, openSeen, openRouted, tryOpenOf}
 use Rattle.rules_record.specs.Lent.{Lists, bucketsIn, heldOf}
-use Rattle.rules_record.specs.Places.{routeFits}
-use Rattle.rules_record.specs.Facts.{WholeSlot}
-use Rattle.rules_record.specs.Facts.{Checked}
+use Rattle.rules_record.specs.WholePlaces.{routeFits}
+use Rattle.rules_record.specs.Facts.{WholeSlot, Checked}
 use Rattle.rules_record.proofs.Beside.{beside-same}
 use Rattle.rules_record.proofs.Keep.{input-keeps, slot-keeps}
 use Rattle.rules_record.proofs.Pruned.{prune-keeps, make-keeps}
@@ -46,22 +47,22 @@ use Rattle.rules_routing.proofs.SetDelayKeeps.{stored-keeps}
 
 -- "Was not Waiting: reopens + 1.": where it counts, one more reopen stays below 2^63
 abbrev pub ReopenFits : Slot → Type 0
-ReopenFits slot = (stateNumber (slot .state) ≡ 1 → ⊥) → slot .reopens + 1 < 9_223_372_036_854_775_808
+ReopenFits slot = (stateNumber (slot .state) ≡ 1 → ⊥) → slot .reopens + 1 < counterLimit
 
 -- ---- the slot
 -- a routed input is Waiting, Running or Stalled
 pub routed-state : (route : Route) (state : State) (n : ℕ) → routeFits (To route) state n ≡ true → 1 ≤ stateNumber state
 unfolding routeFits
-routed-state route state n fits = leb-true 1 (stateNumber state) (both-true (ltb (route .flow) n) (leb 1 (stateNumber state)) fits .1)
+routed-state route state n fits = leb-true 1 (stateNumber state) (both-true (ltb (route .flow) n) (isRouted state) fits .1)
 
 -- .. and its route fits each of these states
 pub route-state : (to : Routed) (old new : State) (n : ℕ) → 1 ≤ stateNumber old → 1 ≤ stateNumber new → routeFits to old n ≡ true → routeFits to new n ≡ true
 unfolding routeFits
 route-state Nowhere old new n h k fits = let none : stateNumber old ≡ 0 = eqb-true (stateNumber old) 0 fits in absurd (omega arith)
-route-state (To route) old new n h k fits = true-both (ltb (route .flow) n) (leb 1 (stateNumber new)) (both-true (ltb (route .flow) n) (leb 1 (stateNumber old)) fits .0) (le-leb 1 (stateNumber new) k)
+route-state (To route) old new n h k fits = true-both (ltb (route .flow) n) (isRouted new) (both-true (ltb (route .flow) n) (isRouted old) fits .0) (le-leb 1 (stateNumber new) k)
 
 module _ (maximum n : ℕ) (slot : Slot) (w : WholeSlot maximum n slot) where
-  pub reopens-fit : (reopens : ℕ) → reopens < 9_223_372_036_854_775_808 → WholeSlot maximum n (withReopens slot reopens)
+  pub reopens-fit : (reopens : ℕ) → reopens < counterLimit → WholeSlot maximum n (withReopens slot reopens)
   reopens-fit reopens few =
       record { delay = w .delay; proposed = w .proposed; route = w .route; reopens = few; changes = w .changes; lates = w .lates; head = w .head; set = w .set }
 
@@ -69,7 +70,7 @@ module _ (maximum n : ℕ) (slot : Slot) (w : WholeSlot maximum n slot) where
     running-fits : WholeSlot maximum n (runningSlot slot inode head time)
     unfolding runningSlot
     running-fits =
-        pick-all (WholeSlot maximum n) (eqb (stateNumber (slot .state)) 3)
+        pick-all (WholeSlot maximum n) (isStalled (slot .state))
         (record { delay = w .delay; proposed = w .proposed; route = w .route; reopens = w .reopens; changes = w .changes; lates = w .lates; head = w .head; set = w .set })
         (record {
           delay = w .delay;
@@ -85,7 +86,7 @@ module _ (maximum n : ℕ) (slot : Slot) (w : WholeSlot maximum n slot) where
 opened-fits : (maximum n : ℕ) (slot : Slot) (inode head time : ℕ) → WholeSlot maximum n slot → time ≤ timeLimit → 1 ≤ stateNumber (slot .state) → ReopenFits slot → WholeSlot maximum n (openedSlot slot inode head time)
 unfolding openedSlot
 opened-fits maximum n slot inode head time w soon routed few =
-    pick-rule (WholeSlot maximum n) (eqb (stateNumber (slot .state)) 1) _ _
+    pick-rule (WholeSlot maximum n) (isWaiting (slot .state)) _ _
     (λ e. running-fits maximum n slot w inode head time soon routed)
     (λ e. reopens-fit maximum n (runningSlot slot inode head time) (running-fits maximum n slot w inode head time soon routed) (slot .reopens + 1) (few (eqb-false (stateNumber (slot .state)) 1 e)))
 
@@ -93,16 +94,23 @@ module _ (slot : Slot) (inode head time : ℕ) where
   pub opened-seconds : openedSlot slot inode head time .«lag_seconds» ≡ slot .«lag_seconds»
   unfolding openedSlot runningSlot
   opened-seconds =
-      pick-all (λ (x : Slot). x .«lag_seconds» ≡ slot .«lag_seconds») (eqb (stateNumber (slot .state)) 1)
-      (pick-all (λ (x : Slot). x .«lag_seconds» ≡ slot .«lag_seconds») (eqb (stateNumber (slot .state)) 3) refl refl)
-      (pick-all (λ (x : Slot). x .«lag_seconds» ≡ slot .«lag_seconds») (eqb (stateNumber (slot .state)) 3) refl refl)
+      pick-all (λ (x : Slot). x .«lag_seconds» ≡ slot .«lag_seconds») (isWaiting (slot .state))
+      (pick-all (λ (x : Slot). x .«lag_seconds» ≡ slot .«lag_seconds») (isStalled (slot .state)) refl refl)
+      (pick-all (λ (x : Slot). x .«lag_seconds» ≡ slot .«lag_seconds») (isStalled (slot .state)) refl refl)
 
   pub opened-hold : openedSlot slot inode head time .hold ≡ slot .hold
   unfolding openedSlot runningSlot
   opened-hold =
-      pick-all (λ (x : Slot). x .hold ≡ slot .hold) (eqb (stateNumber (slot .state)) 1)
-      (pick-all (λ (x : Slot). x .hold ≡ slot .hold) (eqb (stateNumber (slot .state)) 3) refl refl)
-      (pick-all (λ (x : Slot). x .hold ≡ slot .hold) (eqb (stateNumber (slot .state)) 3) refl refl)
+      pick-all (λ (x : Slot). x .hold ≡ slot .hold) (isWaiting (slot .state))
+      (pick-all (λ (x : Slot). x .hold ≡ slot .hold) (isStalled (slot .state)) refl refl)
+      (pick-all (λ (x : Slot). x .hold ≡ slot .hold) (isStalled (slot .state)) refl refl)
+
+pub opened-delay : (slot : Slot) (inode head time : ℕ) → openedSlot slot inode head time .delay ≡ slot .delay
+unfolding openedSlot runningSlot
+opened-delay slot inode head time =
+    pick-all (λ (x : Slot). x .delay ≡ slot .delay) (isWaiting (slot .state))
+    (pick-all (λ (x : Slot). x .delay ≡ slot .delay) (isStalled (slot .state)) refl refl)
+    (pick-all (λ (x : Slot). x .delay ≡ slot .delay) (isStalled (slot .state)) refl refl)
 
 -- ---- the record
 -- only the instances changed
@@ -113,7 +121,7 @@ slot-under s z e i = ap (λ (x : Inputs). slotAt x i) e
 module _ (l : Lists) (i time : ℕ) (soon : time ≤ timeLimit) where
   -- a delay is set, and the hold seeded with it
   start-keeps : (delay : ℕ) (s : Inputs) → Checked s l → i < s .count → delay ≤ s .policy .«delay_max» → Checked (startAt delay s i time .inputs) l
-  unfolding startAt seededAt changed setDelayOf first quiet
+  unfolding startAt seededAt changed setDelayOf sendFirst quiet
   start-keeps delay s c h most =
       let z : Inputs = delayStored s i delay time in
       let kept : Checked z l = stored-keeps s l i delay time c h most soon in
@@ -140,7 +148,7 @@ module _ (l : Lists) (i time : ℕ) (soon : time ≤ timeLimit) where
 
   reader-keeps : (reader : Reader) (place inode : ℕ) (s : Inputs) (world : World) → Checked s l → i < s .count → 1 ≤ stateNumber (slotAt s i .state) → ReopenFits (slotAt s i)
       → Checked (openReader reader place inode s i time world .inputs) l
-  unfolding openReader openWith first recallOf quiet
+  unfolding openReader openWith sendFirst recallOf quiet
   reader-keeps Shut place inode s world c h routed few = c
   reader-keeps (Open channels) place inode s world c h routed few =
       let slot : Slot = openedSlot (slotAt s i) inode (world .head) time in
@@ -182,7 +190,7 @@ module _ (l : Lists) (i time : ℕ) (soon : time ≤ timeLimit) where
     unfolding openRouted quiet routeFits
     routed-keeps Nowhere fits few = c
     routed-keeps (To route) fits few =
-        seen-keeps (world .inode) (route .flow) (ltb-true (route .flow) (s .«flow_count») (both-true (ltb (route .flow) (s .«flow_count»)) (leb 1 (stateNumber (slotAt s i .state))) fits .0))
+        seen-keeps (world .inode) (route .flow) (ltb-true (route .flow) (s .«flow_count») (both-true (ltb (route .flow) (s .«flow_count»)) (isRouted (slotAt s i .state)) fits .0))
         (routed-state route (slotAt s i .state) (s .«flow_count») fits) few
 
     pub open-keeps : ReopenFits (slotAt s i) → Checked (tryOpenOf s i time world .inputs) l

@@ -19,10 +19,11 @@ use Rattle.rules_record.specs.Slots.{withDelay, withHold}
 use Rattle.rules_record.specs.Inputs.{slotAt, putSlot}
 use Rattle.rules_record.proofs.SlotFrame.{slot-same}
 use Rattle.rules_record.specs.Sized.{Sized}
-use Rattle.rules_record.specs.Commands.{Done, setInput, setDelay, quiet, first, changed}
+use Rattle.rules_record.specs.Commands.{Done, setInput, setDelay, quiet, sendFirst, changed}
 use Rattle.rules_record.specs.Flows.{recalled}
 use Rattle.rules_record.specs.declared.Extra.the-variants.{Key}
-use Rattle.rules_record.specs.Instances.{foundKey, made, pruned}
+use Rattle.rules_record.specs.Instances.{foundKey, made}
+use Rattle.rules_record.specs.Prune.{pruned}
 use Rattle.rules_routing.specs.SetDelay.{delayStored, setDelayOf}
 use Rattle.rules_routing.proofs.SetDelayStored.{stored-same, stored-sized}
 use Rattle.rules_routing.specs.declared.Reader.{Reader}
@@ -61,7 +62,7 @@ module _ (i : ℕ) (input : i < 16) where
       After done = P (slotAt (done .inputs) i) (setInput i channels ++ done .words)
 
       after-by : (remembered : Remembered) (s : Inputs) → Sized s → slotAt s i ≡ openedSlot slot inode (world .head) time → s .policy .«delay_max» ≡ most → startsAnew slot ≡ true → After (startBy remembered s i time)
-      unfolding startBy startOf startAt changed setDelayOf first quiet
+      unfolding startBy startOf startAt changed setDelayOf sendFirst quiet
       after-by Never s h e p w = subst (λ (x : Slot). P x (setInput i channels)) (sym e) (opens inode channels of open-to)
       after-by (Delay last) s h e p w =
           let delay : ℕ = min last (s .policy .«delay_max») in
@@ -70,7 +71,7 @@ module _ (i : ℕ) (input : i < 16) where
           (starts inode channels delay of open-to w (omega arith))
 
       ends-open : (place : ℕ) (s : Inputs) → Sized s → slotAt s i ≡ slot → s .policy .«delay_max» ≡ most → Ends (openWith slot channels place inode s i time world)
-      unfolding openWith first recallOf quiet
+      unfolding openWith sendFirst recallOf quiet
       ends-open place s h e p =
           let after : Inputs = putSlot s i (openedSlot slot inode (world .head) time) in
           let f : Frame i s after = frame-put i s _ in

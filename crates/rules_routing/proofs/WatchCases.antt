@@ -14,10 +14,11 @@ use Rattle.rules_record.specs.declared.Routed.{Routed}
 use Rattle.rules_record.specs.declared.Routed.the-variants.{Nowhere, To}
 use Rattle.rules_record.specs.declared.Inode.{Inode}
 use Rattle.rules_record.specs.declared.Inode.the-variants.{Gone, Of}
-use Rattle.rules_record.specs.Slots.{stateNumber, withState, withHead, withReopens}
+use Rattle.rules_record.specs.Slots.{withState, withHead, withReopens}
+use Rattle.rules_record.specs.States.{stateNumber}
 use Rattle.rules_record.specs.Inputs.{slotAt, putSlot}
 use Rattle.rules_record.proofs.SlotFrame.{slot-put}
-use Rattle.rules_record.specs.Commands.{clearInput, quiet, first}
+use Rattle.rules_record.specs.Commands.{clearInput, quiet, sendFirst}
 use Rattle.rules_routing.specs.declared.World.{World}
 use Rattle.rules_routing.specs.TryOpen.{tryOpenOf}
 use Rattle.rules_routing.specs.Watch.{lostSlot, movedSlot, stallsNow, watchSame, watchStored, watchSeen, watchRouted, watchSlot, watchOf}
@@ -81,12 +82,12 @@ module _ (s : Inputs) (i time : ℕ) (inode : Inode) (world : World) {slot : Slo
     unfolding watchRouted
     by-seen = by-route ∙ ap (λ (x : Routed). watchRouted x inode slot s i time world) to
 
-    pub watch-gone : inode ≡ Gone → {waits : Slot} {all : Inputs} → waits ≡ lostSlot slot → all ≡ putSlot s i waits → watchOf s i time inode world ≡ first (clearInput i 0) (quiet all)
+    pub watch-gone : inode ≡ Gone → {waits : Slot} {all : Inputs} → waits ≡ lostSlot slot → all ≡ putSlot s i waits → watchOf s i time inode world ≡ sendFirst (clearInput i 0) (quiet all)
     unfolding watchSeen
     watch-gone h f g =
         by-seen
         ∙ ap (λ (x : Inode). watchSeen x slot s i time world) h
-        ∙ ap (λ (z : Inputs). first (clearInput i 0) (quiet z)) (sym (g ∙ ap (putSlot s i) f))
+        ∙ ap (λ (z : Inputs). sendFirst (clearInput i 0) (quiet z)) (sym (g ∙ ap (putSlot s i) f))
 
     module _ {seen : ℕ} (of : inode ≡ Of seen) where
       by-stored : watchOf s i time inode world ≡ watchStored (slot .inode) seen slot s i time world

@@ -20,7 +20,7 @@ use Rattle.rules_record.proofs.SlotFrame.{slot-same}
 use Rattle.rules_record.proofs.Sized.{sized-put}
 use Rattle.rules_record.specs.Sized.{Sized}
 use Rattle.base.proofs.Tests.{not-both}
-use Rattle.rules_record.specs.Commands.{Done, setInput, clearInput, setDelay, quiet, first}
+use Rattle.rules_record.specs.Commands.{Done, setInput, clearInput, setDelay, quiet, sendFirst}
 use Rattle.rules_routing.specs.declared.Reader.the-variants.{Open}
 use Rattle.rules_routing.specs.declared.World.{World}
 use Rattle.rules_routing.specs.TryOpen.{openedSlot, startsAnew, tryOpenOf}
@@ -74,7 +74,7 @@ module _ (i : ℕ) (input : i < 16) (s : Inputs) (h : Sized s) (time : ℕ) (wor
   ends-stored (Of mine) inode = pick-all Ends (eqb mine inode) ends-same ends-open
 
   ends-seen : (seen : Inode) → Ends (watchSeen seen (slotAt s i) s i time world)
-  unfolding watchSeen first quiet
+  unfolding watchSeen sendFirst quiet
   ends-seen Gone = ends-put _ _ loses
   ends-seen (Of inode) = ends-stored (slotAt s i .inode) inode
 

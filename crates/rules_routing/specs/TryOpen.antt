@@ -14,12 +14,14 @@ use Rattle.rules_record.specs.declared.Inode.{Inode}
 use Rattle.rules_record.specs.declared.Inode.the-variants.{Gone, Of}
 use Rattle.rules_record.specs.declared.Remembered.{Remembered}
 use Rattle.rules_record.specs.declared.Remembered.the-variants.{Never, Delay}
-use Rattle.rules_record.specs.Slots.{stateNumber, isAuto, withState, withInode, withHead, withReopens, withHold}
+use Rattle.rules_record.specs.Slots.{isAuto, withState, withInode, withHead, withReopens, withHold}
+use Rattle.rules_record.specs.States.{isWaiting, isStalled}
 use Rattle.rules_record.specs.Inputs.{slotAt, putSlot}
-use Rattle.rules_record.specs.Commands.{Done, setInput, quiet, first, changed}
+use Rattle.rules_record.specs.Commands.{Done, setInput, quiet, sendFirst, changed}
 use Rattle.rules_record.specs.Flows.{recalled}
 use Rattle.rules_record.specs.declared.Extra.the-variants.{Key}
-use Rattle.rules_record.specs.Instances.{foundKey, made, pruned}
+use Rattle.rules_record.specs.Instances.{foundKey, made}
+use Rattle.rules_record.specs.Prune.{pruned}
 use Rattle.rules_routing.specs.SetDelay.{setDelayOf}
 use Rattle.rules_routing.specs.declared.Reader.{Reader}
 use Rattle.rules_routing.specs.declared.Reader.the-variants.{Shut, Open}
@@ -28,20 +30,20 @@ use Rattle.rules_routing.specs.declared.World.{World}
 -- "inode and head stored; a Stalled input remains Stalled, another is Running with head time now"
 unfoldable pub runningSlot : (slot : Slot) (inode head time : ℕ) → Slot
 runningSlot slot inode head time =
-    pick (eqb (stateNumber (slot .state)) 3)
+    pick (isStalled (slot .state))
     (withHead (withInode slot (Of inode)) head (slot .«head_changed»))
     (withHead (withState (withInode slot (Of inode)) Running) head time)
 
 -- "Was not Waiting: reopens + 1."
 unfoldable pub openedSlot : (slot : Slot) (inode head time : ℕ) → Slot
 openedSlot slot inode head time =
-    pick (eqb (stateNumber (slot .state)) 1)
+    pick (isWaiting (slot .state))
     (runningSlot slot inode head time)
     (withReopens (runningSlot slot inode head time) (slot .reopens + 1))
 
 -- "Automatic, was Waiting, delay 0 .."
 unfoldable pub startsAnew : Slot → Bool
-startsAnew slot = both (isAuto (slot .config .«extra_delay»)) (both (eqb (stateNumber (slot .state)) 1) (eqb (slot .delay) 0))
+startsAnew slot = both (isAuto (slot .config .«extra_delay»)) (both (isWaiting (slot .state)) (eqb (slot .delay) 0))
 
 -- the input's hold is seeded
 unfoldable pub seededAt : (i delay time : ℕ) (s : Inputs) → Inputs
@@ -66,7 +68,7 @@ recallOf slot place s i time = pick (startsAnew slot) (startBy (recalled s place
 -- "If opened: SetInput .."
 unfoldable pub openWith : (slot : Slot) (channels place inode : ℕ) (s : Inputs) (i time : ℕ) (world : World) → Done
 openWith slot channels place inode s i time world =
-    first (setInput i channels) (recallOf slot place (putSlot s i (openedSlot slot inode (world .head) time)) i time)
+    sendFirst (setInput i channels) (recallOf slot place (putSlot s i (openedSlot slot inode (world .head) time)) i time)
 
 unfoldable pub openReader : Reader → (place inode : ℕ) (s : Inputs) (i time : ℕ) (world : World) → Done
 openReader Shut place inode s i time world = quiet s

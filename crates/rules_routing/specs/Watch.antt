@@ -10,9 +10,10 @@ use Rattle.rules_record.specs.declared.Routed.{Routed}
 use Rattle.rules_record.specs.declared.Routed.the-variants.{Nowhere, To}
 use Rattle.rules_record.specs.declared.Inode.{Inode}
 use Rattle.rules_record.specs.declared.Inode.the-variants.{Gone, Of}
-use Rattle.rules_record.specs.Slots.{stateNumber, withState, withHead, withReopens}
+use Rattle.rules_record.specs.Slots.{withState, withHead, withReopens}
+use Rattle.rules_record.specs.States.{isRunning, isStalled}
 use Rattle.rules_record.specs.Inputs.{slotAt, putSlot}
-use Rattle.rules_record.specs.Commands.{Done, clearInput, quiet, first}
+use Rattle.rules_record.specs.Commands.{Done, clearInput, quiet, sendFirst}
 use Rattle.rules_routing.specs.declared.World.{World}
 use Rattle.rules_routing.specs.TryOpen.{tryOpenOf}
 
@@ -22,11 +23,11 @@ lostSlot slot = withReopens (withState slot Waiting) (slot .reopens + 1)
 
 -- "New head: stored, Stalled becomes Running."
 unfoldable pub movedSlot : (slot : Slot) (head time : ℕ) → Slot
-movedSlot slot head time = pick (eqb (stateNumber (slot .state)) 3) (withState (withHead slot head time) Running) (withHead slot head time)
+movedSlot slot head time = pick (isStalled (slot .state)) (withState (withHead slot head time) Running) (withHead slot head time)
 
 -- "while Running for at least stall"; a difference is 0 where the clock went back
 unfoldable pub stallsNow : (slot : Slot) (time stall : ℕ) → Bool
-stallsNow slot time stall = both (eqb (stateNumber (slot .state)) 2) (leb stall (time - slot .«head_changed»))
+stallsNow slot time stall = both (isRunning (slot .state)) (leb stall (time - slot .«head_changed»))
 
 -- "New head: .. Same head while Running for at least stall: Stalled, `try_open`."
 unfoldable pub watchSame : (slot : Slot) (s : Inputs) (i time : ℕ) (world : World) → Done
@@ -42,7 +43,7 @@ watchStored (Of mine) inode slot s i time world = pick (eqb mine inode) (watchSa
 
 -- "No inode: ClearInput without forget .." by the inode that is seen
 unfoldable pub watchSeen : Inode → (slot : Slot) (s : Inputs) (i time : ℕ) (world : World) → Done
-watchSeen Gone slot s i time world = first (clearInput i 0) (quiet (putSlot s i (lostSlot slot)))
+watchSeen Gone slot s i time world = sendFirst (clearInput i 0) (quiet (putSlot s i (lostSlot slot)))
 watchSeen (Of inode) slot s i time world = watchStored (slot .inode) inode slot s i time world
 
 -- "An input without a route ends `watch` there."

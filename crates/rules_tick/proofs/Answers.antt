@@ -7,14 +7,14 @@ use Rattle.base.specs.Choice.{both}
 use Rattle.base.proofs.Choices.{yes-pick, no-pick}
 use Rattle.delay_hold.specs.declared.Lag.the-variants.{Of}
 use Rattle.delay_hold.specs.declared.Change.the-variants.{To}
-use Rattle.delay_hold.specs.Peaks.{greatest}
+use Rattle.delay_hold.specs.Step4Peaks.{greatest}
 use Rattle.rules_record.specs.declared.Slot.{Slot}
 use Rattle.rules_record.specs.declared.Inputs.{Inputs}
 use Rattle.rules_record.specs.declared.Proposal.the-variants.{Nothing, Pending}
 use Rattle.rules_record.specs.declared.Extra.the-variants as Extra
 use Rattle.rules_record.specs.Slots.{withProposed}
 use Rattle.rules_record.specs.Inputs.{slotAt}
-use Rattle.rules_record.specs.Commands.{Done, first, quiet}
+use Rattle.rules_record.specs.Commands.{Done, sendFirst, quiet}
 use Rattle.rules_record.specs.Lent.{Lists}
 use Rattle.rules_record.specs.Sized.{Sized}
 use Rattle.rules_record.proofs.SlotFrame.{slot-same}
@@ -23,7 +23,8 @@ use Rattle.rules_record.proofs.InstanceKeys.{pruned-rest}
 use Rattle.rules_routing.specs.SetDelay.{setDelayOf}
 use Rattle.rules_routing.proofs.SetDelayStored.{stored-same}
 use Rattle.rules_tick.specs.declared.Look.{Look}
-use Rattle.rules_tick.specs.Arrival.{windowAfter, lastLag, arrived, largestOf, lateEvents}
+use Rattle.rules_tick.specs.Lags.{windowAfter, lastLag, arrived, largestOf}
+use Rattle.rules_tick.specs.LateEvents.{lateEvents}
 use Rattle.rules_tick.specs.AutoDelay.{currentOf, changing, answered}
 use Rattle.rules_tick.specs.Tick.{tickedAll, ticked}
 
@@ -71,7 +72,7 @@ module _ (i delay time : ℕ) (slot : Slot) (s : Inputs) (low : i < 16) (h : Siz
   carried-out = no-pick _ _ direct
 
   pub change-counts : slotAt (answered (To delay) i time slot s .inputs) i .«delay_changes» ≡ slot .«delay_changes» + 1
-  unfolding setDelayOf first quiet
+  unfolding setDelayOf sendFirst quiet
   change-counts =
       ap (λ (d : Done). slotAt (d .inputs) i .«delay_changes») carried-out
       ∙ ap (λ (x : Slot). x .«delay_changes») (stored-same (changing i slot s) i delay time low (sized-put s i _ h))

@@ -5,6 +5,7 @@ use mathlib.Core.Path.{_≡_, sym, ap, subst, _∙_}
 use mathlib.Core.List.{List}
 use borrow.Author.Tests.{eq-eqb, ne-eqb}
 use Rattle.base.specs.Lists.{part, patched}
+use Rattle.base.specs.Limits.{counterLimit}
 use Rattle.base.proofs.Choices.{yes-pick, no-pick}
 use Rattle.base.proofs.Points.{true-both}
 use Rattle.base.proofs.All.{both-no, both-yes}
@@ -13,13 +14,14 @@ use Rattle.delay_hold.specs.declared.Lag.{Lag}
 use Rattle.delay_hold.specs.declared.Change.{Change}
 use Rattle.delay_hold.specs.declared.Change.the-variants.{Keep, To}
 use Rattle.delay_hold.specs.declared.Next.{Next}
-use Rattle.delay_hold.specs.Decide.{timerOff, withLower}
+use Rattle.delay_hold.specs.Steps5To8.{timerOff, withLower}
 use Rattle.delay_hold.specs.Next.{held, Decided, decided, nextOf, oneMillisecond, alwaysLower}
 use Rattle.rules_record.specs.declared.Proposal.{Proposal}
 use Rattle.rules_record.specs.declared.Proposal.the-variants.{Nothing, Pending}
 use Rattle.rules_record.specs.declared.Slot.{Slot}
 use Rattle.rules_record.specs.declared.Inputs.{Inputs}
-use Rattle.rules_record.specs.Slots.{stateNumber, isAuto, withHold}
+use Rattle.rules_record.specs.Slots.{isAuto, withHold}
+use Rattle.rules_record.specs.States.{stateNumber}
 use Rattle.rules_record.specs.Inputs.{slotAt, putSlot}
 use Rattle.rules_record.specs.Commands.{quiet}
 use Rattle.rules_routing.specs.SetDelay.{setDelayOf}
@@ -122,5 +124,5 @@ module _ (s : Inputs) (i : ℕ) (largest : Lag) (time : ℕ) (l : Lists) {slot :
           decided-is = e ∙ (λ t. withHold (is-slot t) (a .hold t))
 
 -- what the answer asks of the slot with its new hold
-pub answer-asks : (s : Inputs) (i : ℕ) {slot decided : Slot} {hold : DelayHold} → slot ≡ slotAt s i → decided ≡ withHold slot hold → slotAt s i .«delay_changes» < 9_223_372_036_854_775_808 → decided .«delay_changes» < 9_223_372_036_854_775_808
-answer-asks s i is-slot e h = subst (λ (n : ℕ). n < 9_223_372_036_854_775_808) (sym (ap (λ (x : Slot). x .«delay_changes») e ∙ ap (λ (x : Slot). x .«delay_changes») is-slot)) h
+pub answer-asks : (s : Inputs) (i : ℕ) {slot decided : Slot} {hold : DelayHold} → slot ≡ slotAt s i → decided ≡ withHold slot hold → slotAt s i .«delay_changes» < counterLimit → decided .«delay_changes» < counterLimit
+answer-asks s i is-slot e h = subst (λ (n : ℕ). n < counterLimit) (sym (ap (λ (x : Slot). x .«delay_changes») e ∙ ap (λ (x : Slot). x .«delay_changes») is-slot)) h

@@ -4,14 +4,13 @@ use mathlib.Core.Bool.{true, false}
 use mathlib.Core.Path.{_≡_, refl, sym, ap, subst, _∙_}
 use native.Mathlib.Omega.{arith}
 use borrow.Author.Tests.{le-leb, eqb-true}
-use lib.Dec.{eqb}
 use lib.ListN.{length}
-use Rattle.base.specs.Limits.{timeLimit}
+use Rattle.base.specs.Limits.{timeLimit, counterLimit}
 use Rattle.base.proofs.Choices.{pick-rule}
 use Rattle.delay_hold.specs.declared.Lag.{Lag}
 use Rattle.delay_hold.specs.declared.Change.{Change}
 use Rattle.delay_hold.specs.declared.Change.the-variants.{Keep, To}
-use Rattle.delay_hold.specs.Decide.{timerOff, withLower}
+use Rattle.delay_hold.specs.Steps5To8.{timerOff, withLower}
 use Rattle.delay_hold.specs.Next.{held, Decided, oneMillisecond, alwaysLower}
 use Rattle.delay_hold.specs.Whole.{wholeHold}
 use Rattle.delay_hold.specs.Checks.{AskedFor}
@@ -19,17 +18,17 @@ use Rattle.delay_hold.proofs.Keeps.{ChangeFits, next-keeps-whole, next-keeps-le
 use Rattle.rules_record.specs.declared.Proposal.the-variants.{Pending}
 use Rattle.rules_record.specs.declared.Slot.{Slot}
 use Rattle.rules_record.specs.declared.Inputs.{Inputs}
-use Rattle.rules_record.specs.Slots.{stateNumber, withHold, withProposed, withDelayChanges, withDelay}
+use Rattle.rules_record.specs.Slots.{withHold, withProposed, withDelayChanges, withDelay}
+use Rattle.rules_record.specs.States.{stateNumber, isStalled}
 use Rattle.rules_record.specs.Inputs.{slotAt, putSlot}
 use Rattle.rules_record.proofs.SlotFrame.{slot-same, slot-other}
 use Rattle.rules_record.proofs.Sized.{sized-put}
 use Rattle.rules_record.specs.Sized.{Sized}
-use Rattle.rules_record.specs.Commands.{quiet, first}
+use Rattle.rules_record.specs.Commands.{quiet, sendFirst}
 use Rattle.rules_routing.specs.SetDelay.{delayStored, setDelayOf}
 use Rattle.rules_routing.proofs.SetDelayStored.{stored-same, stored-other}
 use Rattle.rules_record.specs.Lent.{Lists, bucketsIn, windowOf, heldOf, withHeld}
-use Rattle.rules_record.specs.Facts.{WholeSlot}
-use Rattle.rules_record.specs.Facts.{Checked}
+use Rattle.rules_record.specs.Facts.{WholeSlot, Checked}
 use Rattle.rules_record.proofs.Beside.{Beside, beside-same, beside-held}
 use Rattle.rules_record.proofs.Keep.{input-keeps, hold-keeps}
 use Rattle.rules_record.proofs.Shapes.{held-times, held-lags}
@@ -96,7 +95,7 @@ module _ (i : ℕ) (largest : Lag) (time : ℕ) (s : Inputs) (l : Lists) where
         P (autoDelayed i largest time s l)
     unfolding autoDelayed decidedFor answered quiet
     auto-rule stalled idle keep propose change =
-        pick-rule P (eqb (stateNumber (slotAt s i .state)) 3) _ _ (λ e. stalled (eqb-true _ _ e))
+        pick-rule P (isStalled (slotAt s i .state)) _ _ (λ e. stalled (eqb-true _ _ e))
         (λ e. pick-rule P (goesOn (slotAt s i)) _ _ (λ on. by on (decision .change) refl) idle)
       where
         by : goesOn (slotAt s i) ≡ true → (answer : Change) → decision .change ≡ answer → P (beside lists (answered answer i time slot s))
@@ -105,7 +104,7 @@ module _ (i : ℕ) (largest : Lag) (time : ℕ) (s : Inputs) (l : Lists) where
 
   -- ---- what stays
   pub auto-other : (j : ℕ) → (j ≡ i → ⊥) → slotAt (autoDelayed i largest time s l .inputs) j ≡ slotAt s j
-  unfolding setDelayOf first quiet
+  unfolding setDelayOf sendFirst quiet
   auto-other j apart =
       auto-rule (λ effect. slotAt (effect .inputs) j ≡ slotAt s j)
       (λ e. slot-other s i _ j apart)
@@ -115,7 +114,7 @@ module _ (i : ℕ) (largest : Lag) (time : ℕ) (s : Inputs) (l : Lists) where
       (λ on delay e h. stored-other (changing i slot s) i delay time j apart ∙ slot-other s i _ j apart)
 
   pub auto-settings : SameSettings s (autoDelayed i largest time s l .inputs)
-  unfolding setDelayOf first quiet
+  unfolding setDelayOf sendFirst quiet
   auto-settings =
       auto-rule (λ effect. SameSettings s (effect .inputs))
       (λ e. settings-put s i _)
@@ -139,7 +138,7 @@ module _ (i : ℕ) (largest : Lag) (time : ℕ) (s : Inputs) (l : Lists) where
 
   -- ---- the counters
   pub auto-raised : i < 16 → Sized s → Raised 0 1 0 (slotAt s i) (slotAt (autoDelayed i largest time s l .inputs) i)
-  unfolding setDelayOf first quiet
+  unfolding setDelayOf sendFirst quiet
   auto-raised low sized =
       auto-rule (λ effect. Raised 0 1 0 (slotAt s i) (slotAt (effect .inputs) i))
       (λ e. kept (withHold (slotAt s i) (withLower (slotAt s i .hold) timerOff)) refl refl refl (slot-same s i _ low (sized .slots)))
@@ -182,11 +181,11 @@ module _ (i : ℕ) (largest : Lag) (time : ℕ) (s : Inputs) (l : Lists) where
     propose-fits delay most =
         record { delay = old .delay; proposed = le-leb _ _ most; route = old .route; reopens = old .reopens; changes = old .changes; lates = old .lates; head = old .head; set = old .set }
 
-    change-fits : slotAt s i .«delay_changes» + 1 < 9_223_372_036_854_775_808 → WholeSlot (s .policy .«delay_max») (s .«flow_count») (withDelayChanges slot (slot .«delay_changes» + 1))
+    change-fits : slotAt s i .«delay_changes» + 1 < counterLimit → WholeSlot (s .policy .«delay_max») (s .«flow_count») (withDelayChanges slot (slot .«delay_changes» + 1))
     change-fits few = record { delay = old .delay; proposed = old .proposed; route = old .route; reopens = old .reopens; changes = few; lates = old .lates; head = old .head; set = old .set }
 
-    pub auto-keeps : slotAt s i .«delay_changes» + 1 < 9_223_372_036_854_775_808 → Checked (autoDelayed i largest time s l .inputs) (autoDelayed i largest time s l .lists)
-    unfolding setDelayOf first quiet
+    pub auto-keeps : slotAt s i .«delay_changes» + 1 < counterLimit → Checked (autoDelayed i largest time s l .inputs) (autoDelayed i largest time s l .lists)
+    unfolding setDelayOf sendFirst quiet
     auto-keeps few =
         auto-rule (λ effect. Checked (effect .inputs) (effect .lists))
         (λ e. interrupted-keeps)

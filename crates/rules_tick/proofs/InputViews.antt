@@ -5,7 +5,6 @@ use mathlib.Core.Path.{_≡_, refl, sym, ap, _∙_}
 use mathlib.Core.List.{List, []}
 use native.Mathlib.Omega.{arith}
 use borrow.Author.Tests.{eqb-true}
-use lib.Dec.{eqb}
 use lib.ListN.{length}
 use Rattle.base.specs.Limits.{timeLimit}
 use Rattle.base.specs.Lists.{part}
@@ -21,23 +20,25 @@ use Rattle.delay_hold.specs.Next.{held, Decided, delayAfter}
 use Rattle.rules_record.specs.declared.Proposal.the-variants.{Pending}
 use Rattle.rules_record.specs.declared.Slot.{Slot}
 use Rattle.rules_record.specs.declared.Inputs.{Inputs}
-use Rattle.rules_record.specs.Slots.{stateNumber, isAuto, withHold, withProposed, withDelayChanges, withDelay}
+use Rattle.rules_record.specs.Slots.{isAuto, withHold, withProposed, withDelayChanges, withDelay}
+use Rattle.rules_record.specs.States.{stateNumber, isRunning}
 use Rattle.rules_record.specs.Inputs.{slotAt, putSlot}
 use Rattle.rules_record.proofs.SlotFrame.{slot-same}
 use Rattle.rules_record.proofs.Sized.{sized-put}
 use Rattle.rules_record.specs.Sized.{Sized}
 use Rattle.base.proofs.Tests.{not-both}
-use Rattle.rules_record.specs.Commands.{quiet, first, setDelay}
+use Rattle.rules_record.specs.Commands.{quiet, sendFirst, setDelay}
 use Rattle.rules_routing.specs.SetDelay.{delayStored, setDelayOf}
 use Rattle.rules_routing.proofs.SetDelayStored.{stored-same}
 use Rattle.rules_record.specs.Lent.{Lists, bucketsIn, windowOf, heldOf, withHeld}
 use Rattle.rules_record.proofs.Beside.{held-same}
-use Rattle.rules_tick.specs.Arrival.{windowAfter, arrived, lateEvent}
+use Rattle.rules_tick.specs.Lags.{windowAfter, arrived}
+use Rattle.rules_tick.specs.LateEvents.{lateEvent}
 use Rattle.rules_tick.specs.AutoDelay.{nextFor, changing, goesOn, autoDelayed}
 use Rattle.rules_tick.specs.InputReady.{Ready}
 use Rattle.rules_routing.proofs.SettingsKept.{SameSettings}
 use Rattle.rules_tick.proofs.Readiness.{ready-low}
-use Rattle.rules_tick.proofs.ArrivalKeeps.{arrived-slot, arrived-settings, arrived-read}
+use Rattle.rules_tick.proofs.LagsKeep.{arrived-slot, arrived-settings, arrived-read}
 use Rattle.rules_tick.proofs.LateKeeps.{late-slot, late-settings}
 use Rattle.rules_tick.proofs.AutoDelayKeeps.{auto-rule, auto-settings, next-long}
 
@@ -63,7 +64,7 @@ module _ (i time : ℕ) (lags : List ℕ) (s : Inputs) (l : Lists) (r : Ready s 
 
   pub arrived-held : heldOf (arrived i time lags s l .inputs) (arrived i time lags s l .lists) i ≡ heldOf s l i
   unfolding arrived
-  arrived-held = ap (λ (x : Slot). held (x .hold) (part (i * 600) 600 (l .times)) (part (i * 600) 600 (l .lags))) (arrived-slot i time lags s l (ready-low s l i r) sized)
+  arrived-held = ap (λ (x : Slot). held (x .hold) (part (i * 600) 600 (l .times)) (part (i * 600) 600 (l .peaks))) (arrived-slot i time lags s l (ready-low s l i r) sized)
 
 -- ---- after a late event
 module _ (i applied : ℕ) (largest : Lag) (s : Inputs) (l : Lists) (low : i < 16) (sized : length (s .slots) ≡ 16) where
@@ -71,7 +72,7 @@ module _ (i applied : ℕ) (largest : Lag) (s : Inputs) (l : Lists) (low : i < 1
   late-window = window-kept s (lateEvent i applied largest s) l i (late-settings i applied largest s) (ap (λ (x : Slot). x .«lag_seconds») (late-slot i applied largest s low sized))
 
   pub late-held : heldOf (lateEvent i applied largest s) l i ≡ heldOf s l i
-  late-held = ap (λ (x : Slot). held (x .hold) (part (i * 600) 600 (l .times)) (part (i * 600) 600 (l .lags))) (late-slot i applied largest s low sized)
+  late-held = ap (λ (x : Slot). held (x .hold) (part (i * 600) 600 (l .times)) (part (i * 600) 600 (l .peaks))) (late-slot i applied largest s low sized)
 
 -- ---- after `auto_delay`
 module _ (i : ℕ) (largest : Lag) (time : ℕ) (s : Inputs) (l : Lists) (r : Ready s l i) (sized : Sized s) where
@@ -92,7 +93,7 @@ module _ (i : ℕ) (largest : Lag) (time : ℕ) (s : Inputs) (l : Lists) (r : Re
       stored-same (changing i slot s) i delay time low (sized-put s i _ sized) ∙ ap (λ (x : Slot). withDelay x delay time) (put (withDelayChanges slot (slot .«delay_changes» + 1)))
 
   seconds-kept : slotAt (autoDelayed i largest time s l .inputs) i .«lag_seconds» ≡ slotAt s i .«lag_seconds»
-  unfolding setDelayOf first quiet
+  unfolding setDelayOf sendFirst quiet
   seconds-kept =
       auto-rule i largest time s l (λ effect. slotAt (effect .inputs) i .«lag_seconds» ≡ slotAt s i .«lag_seconds»)
       (λ e. ap (λ (x : Slot). x .«lag_seconds») (put _))
@@ -109,7 +110,7 @@ module _ (i : ℕ) (largest : Lag) (time : ℕ) (s : Inputs) (l : Lists) (r : Re
 
   -- without confirmation the proposal stays as it is
   pub auto-proposed : s .confirm ≡ false → slotAt (autoDelayed i largest time s l .inputs) i .proposed ≡ slotAt s i .proposed
-  unfolding setDelayOf first quiet
+  unfolding setDelayOf sendFirst quiet
   auto-proposed off =
       auto-rule i largest time s l (λ effect. slotAt (effect .inputs) i .proposed ≡ slotAt s i .proposed)
       (λ e. ap (λ (x : Slot). x .proposed) (put _))
@@ -123,11 +124,11 @@ module _ (i : ℕ) (largest : Lag) (time : ℕ) (s : Inputs) (l : Lists) (r : Re
     not-stalled : stateNumber (slotAt s i .state) ≡ 3 → ⊥
     unfolding goesOn
     not-stalled e =
-        let running : stateNumber (slotAt s i .state) ≡ 2 = eqb-true _ _ (both-true (eqb (stateNumber (slotAt s i .state)) 2) (isAuto (slotAt s i .config .«extra_delay»)) going .0) in
+        let running : stateNumber (slotAt s i .state) ≡ 2 = eqb-true _ _ (both-true (isRunning (slotAt s i .state)) (isAuto (slotAt s i .config .«extra_delay»)) going .0) in
         omega arith
 
     pub auto-held : time ≤ timeLimit → heldOf (autoDelayed i largest time s l .inputs) (autoDelayed i largest time s l .lists) i ≡ decision .held
-    unfolding setDelayOf first quiet
+    unfolding setDelayOf sendFirst quiet
     auto-held soon =
         auto-rule i largest time s l (λ effect. heldOf (effect .inputs) (effect .lists) i ≡ decision .held)
         (λ e. absurd (not-stalled e))
@@ -138,12 +139,12 @@ module _ (i : ℕ) (largest : Lag) (time : ℕ) (s : Inputs) (l : Lists) (r : Re
       where
         with-slot : (z : Inputs) (new : Slot) → slotAt z i ≡ new → new .hold ≡ decision .held .hold → heldOf z (withHeld i (decision .held) l) i ≡ decision .held
         with-slot z new is hold =
-            ap (λ (h : DelayHold). held h (part (i * 600) 600 (withHeld i (decision .held) l .times)) (part (i * 600) 600 (withHeld i (decision .held) l .lags))) (ap (λ (x : Slot). x .hold) is ∙ hold)
+            ap (λ (h : DelayHold). held h (part (i * 600) 600 (withHeld i (decision .held) l .times)) (part (i * 600) 600 (withHeld i (decision .held) l .peaks))) (ap (λ (x : Slot). x .hold) is ∙ hold)
             ∙ held-same (s .count) (bucketsIn s) i l (r .fitting .long) (r .input) (decision .held) (next-long i largest time s l r soon .0) (next-long i largest time s l r soon .1)
 
     -- without confirmation its delay is the answer, which is sent; where there is none, it stays and nothing is sent
     pub auto-delay : s .confirm ≡ false → slotAt (autoDelayed i largest time s l .inputs) i .delay ≡ delayAfter (slotAt s i .delay) (decision .change)
-    unfolding setDelayOf first quiet
+    unfolding setDelayOf sendFirst quiet
     auto-delay off =
         auto-rule i largest time s l (λ effect. slotAt (effect .inputs) i .delay ≡ delayAfter (slotAt s i .delay) (decision .change))
         (λ e. absurd (not-stalled e))
@@ -153,7 +154,7 @@ module _ (i : ℕ) (largest : Lag) (time : ℕ) (s : Inputs) (l : Lists) (r : Re
         (λ on delay e h. ap (λ (x : Slot). x .delay) (changed-slot delay) ∙ sym (ap (delayAfter (slotAt s i .delay)) e))
 
     pub auto-words : s .confirm ≡ false → autoDelayed i largest time s l .words ≡ answerWords i (decision .change)
-    unfolding setDelayOf first quiet
+    unfolding setDelayOf sendFirst quiet
     auto-words off =
         auto-rule i largest time s l (λ effect. effect .words ≡ answerWords i (decision .change))
         (λ e. absurd (not-stalled e))

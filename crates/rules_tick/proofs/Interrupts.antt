@@ -5,7 +5,7 @@ use mathlib.Core.Path.{_≡_, refl}
 use native.Mathlib.Omega.{arith}
 use Rattle.base.specs.Choice.{both}
 use Rattle.policy.specs.declared.DelayPolicy.{DelayPolicy}
-use Rattle.delay_hold.specs.Decide.{timerOff, withLower}
+use Rattle.delay_hold.specs.Steps5To8.{timerOff, withLower}
 use Rattle.delay_hold.specs.Next.{Held, held}
 use Rattle.delay_hold.specs.Whole.{timerFits, wholeHold}
 use Rattle.delay_hold.proofs.Wholes.{whole-of, of-whole}

@@ -11,14 +11,14 @@ use Rattle.base.proofs.All.{both-yes, both-no}
 use Rattle.policy.specs.declared.DelayPolicy.{DelayPolicy}
 use Rattle.delay_hold.specs.declared.Lag.{Lag}
 use Rattle.delay_hold.specs.declared.Lag.the-variants.{None, Of}
-use Rattle.delay_hold.specs.Steps.{lateAt, lateOf}
+use Rattle.delay_hold.specs.Steps1To3.{lateAt, lateOf}
 use Rattle.rules_record.specs.declared.Slot.{Slot}
 use Rattle.rules_record.specs.declared.Inputs.{Inputs}
-use Rattle.rules_record.specs.Slots.{stateNumber, withLate}
+use Rattle.rules_record.specs.Slots.{withLate}
+use Rattle.rules_record.specs.States.{stateNumber}
 use Rattle.rules_record.specs.Inputs.{putSlot, withSlots}
-use Rattle.rules_record.proofs.SlotFrame.{slot-same, put-rest, put-put}
-use Rattle.rules_tick.specs.Arrival.{lateNow, lateEvents, lateSlot, lateEvent}
-use Rattle.rules_tick.proofs.Readiness.{put-stores}
+use Rattle.rules_record.proofs.SlotFrame.{slot-same, put-rest, put-put, put-stores}
+use Rattle.rules_tick.specs.LateEvents.{lateNow, lateEvents, lateSlot, lateEvent}
 
 module _ (policy : DelayPolicy) (slot : Slot) (applied : ℕ) (largest : Lag) where
   pub late-not-running : (stateNumber (slot .state) ≡ 2 → ⊥) → false ≡ lateNow policy slot applied largest

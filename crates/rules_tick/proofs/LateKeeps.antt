@@ -5,6 +5,7 @@ use mathlib.Core.Path.{_≡_, refl}
 use native.Mathlib.Omega.{arith}
 use lib.ListN.{length}
 use Rattle.base.specs.Choice.{both}
+use Rattle.base.specs.Limits.{counterLimit}
 use Rattle.base.proofs.Choices.{pick-all}
 use Rattle.delay_hold.specs.declared.Lag.{Lag}
 use Rattle.rules_record.specs.declared.Slot.{Slot}
@@ -12,10 +13,9 @@ use Rattle.rules_record.specs.declared.Inputs.{Inputs}
 use Rattle.rules_record.specs.Inputs.{slotAt}
 use Rattle.rules_record.proofs.SlotFrame.{slot-same, slot-other}
 use Rattle.rules_record.specs.Lent.{Lists}
-use Rattle.rules_record.specs.Facts.{WholeSlot}
-use Rattle.rules_record.specs.Facts.{Checked}
+use Rattle.rules_record.specs.Facts.{WholeSlot, Checked}
 use Rattle.rules_record.proofs.Keep.{slot-keeps}
-use Rattle.rules_tick.specs.Arrival.{lateNow, lateEvents, lateSlot, lateEvent}
+use Rattle.rules_tick.specs.LateEvents.{lateNow, lateEvents, lateSlot, lateEvent}
 use Rattle.rules_tick.specs.InputReady.{Ready}
 use Rattle.rules_routing.proofs.SettingsKept.{SameSettings, settings-put}
 use Rattle.rules_tick.proofs.Readiness.{put-ready}
@@ -55,7 +55,7 @@ module _ (i applied : ℕ) (largest : Lag) (s : Inputs) where
   late-ready l r sized = put-ready s l l i slot r sized (r .fitting .long) (r .window) (r .hold) (r .delay) (r .proposed)
 
   -- a checked record stays checked, where one more late event is below 2^63
-  pub late-keeps : (l : Lists) → Checked s l → i < s .count → slotAt s i .«late_events» + 1 < 9_223_372_036_854_775_808 → Checked after l
+  pub late-keeps : (l : Lists) → Checked s l → i < s .count → slotAt s i .«late_events» + 1 < counterLimit → Checked after l
   unfolding lateEvent
   late-keeps l c h few = slot-keeps s l i slot c h fits refl refl
     where

@@ -1,6 +1,6 @@
 -- Laws of a tick.
 pub mod Answers
-pub mod ArrivalKeeps
+pub mod LagsKeep
 pub mod Ready
 pub mod AutoDelayKeeps
 pub mod AutoDelayCases
@@ -22,6 +22,7 @@ pub mod TickKeeps
 pub mod Looked
 pub mod Looking
 pub mod TickProposals
+pub mod TickSteps
 pub mod TickSame
 pub mod TickTurns
 pub mod TickWholly

@@ -4,13 +4,13 @@ use mathlib.Core.Bool.{true}
 use mathlib.Core.Path.{_≡_, refl}
 use mathlib.Core.List.{List, [], _++_}
 use native.Mathlib.Omega.{arith}
-use lib.Dec.{eqb, leb}
 use Rattle.base.proofs.Choices.{pick-all}
 use Rattle.rules_record.specs.declared.Slot.{Slot}
 use Rattle.rules_record.specs.declared.Inputs.{Inputs}
 use Rattle.rules_record.specs.declared.State.the-variants.{Stalled}
 use Rattle.rules_record.specs.declared.Inode.the-variants.{Of}
-use Rattle.rules_record.specs.Slots.{stateNumber, withState, withReopens}
+use Rattle.rules_record.specs.Slots.{withState, withReopens}
+use Rattle.rules_record.specs.States.{isWaiting, isStalled, isOpen}
 use Rattle.rules_record.specs.Inputs.{slotAt}
 use Rattle.rules_record.specs.Sized.{Sized}
 use Rattle.rules_record.specs.Commands.{Done, setInput, clearInput, setDelay, quiet}
@@ -44,9 +44,9 @@ module _ (i : ℕ) (look : Look) (time : ℕ) (s : Inputs) where
       → P (slotAt (looked i look time s .inputs) i) (looked i look time s .words)
   unfolding looked quiet
   looked-outcomes low sized P stays loses moves opens starts stalls reopens =
-      pick-all (λ (done : Done). P (slotAt (done .inputs) i) (done .words)) (eqb (stateNumber (slotAt s i .state)) 1)
+      pick-all (λ (done : Done). P (slotAt (done .inputs) i) (done .words)) (isWaiting (slotAt s i .state))
       (open-outcomes i low s time (look .world) sized P stays opens starts)
-      (pick-all (λ (done : Done). P (slotAt (done .inputs) i) (done .words)) (leb 2 (stateNumber (slotAt s i .state)))
+      (pick-all (λ (done : Done). P (slotAt (done .inputs) i) (done .words)) (isOpen (slotAt s i .state))
       (watch-outcomes i low s sized time (look .world) P stays loses moves opens starts stalls reopens (look .seen)) stays)
 
 -- ---- the input's slot
@@ -74,7 +74,7 @@ module _ (slot : Slot) where
     looked-moved : Looked slot (movedSlot slot head time)
     unfolding movedSlot
     looked-moved =
-        pick-all (Looked slot) (eqb (stateNumber (slot .state)) 3)
+        pick-all (Looked slot) (isStalled (slot .state))
         (record { config = refl; route = refl; seconds = refl; last = refl; proposed = refl; changes = refl; lates = refl; late = refl; reopens = omega arith })
         (record { config = refl; route = refl; seconds = refl; last = refl; proposed = refl; changes = refl; lates = refl; late = refl; reopens = omega arith })
 
@@ -82,18 +82,18 @@ module _ (slot : Slot) where
       running-with : (reopens : ℕ) → reopens ≤ slot .reopens + 1 → Looked slot (withReopens (runningSlot slot inode head time) reopens)
       unfolding runningSlot
       running-with reopens most =
-          pick-all (λ (x : Slot). Looked slot (withReopens x reopens)) (eqb (stateNumber (slot .state)) 3)
+          pick-all (λ (x : Slot). Looked slot (withReopens x reopens)) (isStalled (slot .state))
           (record { config = refl; route = refl; seconds = refl; last = refl; proposed = refl; changes = refl; lates = refl; late = refl; reopens = most })
           (record { config = refl; route = refl; seconds = refl; last = refl; proposed = refl; changes = refl; lates = refl; late = refl; reopens = most })
 
       running-reopens : runningSlot slot inode head time .reopens ≡ slot .reopens
       unfolding runningSlot
-      running-reopens = pick-all (λ (x : Slot). x .reopens ≡ slot .reopens) (eqb (stateNumber (slot .state)) 3) refl refl
+      running-reopens = pick-all (λ (x : Slot). x .reopens ≡ slot .reopens) (isStalled (slot .state)) refl refl
 
       pub looked-opened : Looked slot (openedSlot slot inode head time)
       unfolding openedSlot
       looked-opened =
-          pick-all (Looked slot) (eqb (stateNumber (slot .state)) 1)
+          pick-all (Looked slot) (isWaiting (slot .state))
           (running-with (runningSlot slot inode head time .reopens) (omega (arith, running-reopens)))
           (running-with (slot .reopens + 1) (omega arith))
 

@@ -4,24 +4,23 @@ use mathlib.Core.Bool.{true}
 use mathlib.Core.Path.{_≡_, refl, sym, ap, subst, _∙_}
 use native.Mathlib.Omega.{arith}
 use borrow.Author.Tests.{eq-eqb, ne-eqb, le-leb, lt-leb}
-use lib.Dec.{leb, eqb}
 use Rattle.base.specs.Limits.{timeLimit}
 use Rattle.base.specs.Lists.{part}
 use Rattle.base.proofs.Choices.{yes-pick, no-pick, pick-all}
-use Rattle.rules_window.specs.Whole.{wholeWindow}
+use Rattle.rules_window.specs.WholeWindow.{wholeWindow}
 use Rattle.delay_hold.specs.Next.{held}
 use Rattle.delay_hold.specs.Whole.{wholeHold}
 use Rattle.delay_hold.proofs.Marks.{seeded-whole}
 use Rattle.rules_record.specs.declared.State.the-variants.{Stalled}
 use Rattle.rules_record.specs.declared.Inode.{Inode}
-use Rattle.rules_record.specs.declared.Inode.the-variants.{Gone, Of}
-use Rattle.rules_record.specs.declared.Route.{Route}
+use Rattle.rules_record.specs.declared.Inode.the-variants.{Gone}
 use Rattle.rules_record.specs.declared.Routed.{Routed}
 use Rattle.rules_record.specs.declared.Routed.the-variants.{Nowhere, To}
 use Rattle.rules_record.specs.declared.Slot.{Slot}
 use Rattle.rules_record.specs.declared.Inputs.{Inputs}
-use Rattle.rules_record.specs.Slots.{stateNumber, withState}
+use Rattle.rules_record.specs.Slots.{withState}
 use Rattle.rules_record.specs.Inputs.{slotAt, putSlot}
+use Rattle.rules_record.specs.States.{stateNumber, isWaiting, isStalled, isOpen}
 use Rattle.rules_record.specs.Sized.{Sized}
 use Rattle.rules_record.specs.Commands.{Done, quiet}
 use Rattle.rules_routing.specs.declared.World.{World}
@@ -29,11 +28,10 @@ use Rattle.rules_routing.specs.TryOpen.{runningSlot, openedSlot, openSeen, open
 use Rattle.rules_routing.proofs.TryOpenFrame.{Frame, leaves-quiet, open-leaves}
 use Rattle.rules_routing.proofs.TryOpenOutcomes.{startedSlot, open-outcomes}
 use Rattle.rules_routing.specs.Watch.{lostSlot, movedSlot, watchOf}
-use Rattle.rules_routing.proofs.WatchCases.{watch-same, head-moved}
 use Rattle.rules_routing.proofs.WatchFrame.{watch-leaves}
 use Rattle.rules_routing.proofs.WatchOutcomes.{watch-outcomes}
 use Rattle.rules_record.specs.Lent.{Lists, bucketsIn, heldFor}
-use Rattle.rules_record.specs.Places.{proposalFits}
+use Rattle.rules_record.specs.WholePlaces.{proposalFits}
 use Rattle.rules_routing.proofs.SettingsKept.{SameSettings, settings-frame}
 use Rattle.rules_tick.specs.InputReady.{Ready}
 use Rattle.rules_tick.proofs.Readiness.{ready-low}
@@ -73,20 +71,13 @@ module _ (look : Look) (slot : Slot) {code : ℕ} (is-code : code ≡ stateNumbe
   still-waiting waits gone =
       (omega (arith, is-code), λ s i time e. looked-opens i look time s (sym e) is-code waits ∙ open-none s i time (look .world) (slotAt s i .route) gone)
 
-  pub only-moves : 2 ≤ code → {route : Route} → slot .route ≡ To route → {seen mine : ℕ} → look .seen ≡ Of seen → slot .inode ≡ Of mine → mine ≡ seen → (look .world .head ≡ slot .«last_head» → ⊥)
-      → (s : Inputs) (i time : ℕ) → slotAt s i ≡ slot → looked i look time s ≡ quiet (putSlot s i (movedSlot slot (look .world .head) time))
-  only-moves high to of stored same moved s i time e =
-      looked-watches i look time s (sym e) is-code (λ waits. omega arith) high
-      ∙ watch-same s i time (look .seen) (look .world) (sym e) to of stored same
-      ∙ head-moved slot s i time (look .world) moved refl refl
-
 -- ---- what stays
 pub looked-leaves : (i : ℕ) (look : Look) (time : ℕ) (s : Inputs) → Frame i s (looked i look time s .inputs)
 unfolding looked
 looked-leaves i look time s =
-    pick-all (λ (done : Done). Frame i s (done .inputs)) (eqb (stateNumber (slotAt s i .state)) 1)
+    pick-all (λ (done : Done). Frame i s (done .inputs)) (isWaiting (slotAt s i .state))
     (open-leaves i s time (look .world))
-    (pick-all (λ (done : Done). Frame i s (done .inputs)) (leb 2 (stateNumber (slotAt s i .state))) (watch-leaves i s time (look .seen) (look .world)) (leaves-quiet i s))
+    (pick-all (λ (done : Done). Frame i s (done .inputs)) (isOpen (slotAt s i .state)) (watch-leaves i s time (look .seen) (look .world)) (leaves-quiet i s))
 
 -- ---- what of a slot a tick's last step reads
 pub record SameParts (old new : Slot) : Type 0 where
@@ -104,7 +95,7 @@ module _ (slot : Slot) where
     running-parts : SameParts slot (runningSlot slot inode head time)
     unfolding runningSlot
     running-parts =
-        pick-all (SameParts slot) (eqb (stateNumber (slot .state)) 3)
+        pick-all (SameParts slot) (isStalled (slot .state))
         (record { seconds = refl; hold = refl; delay = refl; proposed = refl; changes = refl })
         (record { seconds = refl; hold = refl; delay = refl; proposed = refl; changes = refl })
 
@@ -112,7 +103,7 @@ module _ (slot : Slot) where
     unfolding openedSlot
     opened-parts =
         let r = running-parts in
-        pick-all (SameParts slot) (eqb (stateNumber (slot .state)) 1) r
+        pick-all (SameParts slot) (isWaiting (slot .state)) r
         (record { seconds = r .seconds; hold = r .hold; delay = r .delay; proposed = r .proposed; changes = r .changes })
 
   lost-parts : SameParts slot (lostSlot slot)
@@ -122,7 +113,7 @@ module _ (slot : Slot) where
   moved-parts : (head time : ℕ) → SameParts slot (movedSlot slot head time)
   unfolding movedSlot
   moved-parts head time =
-      pick-all (SameParts slot) (eqb (stateNumber (slot .state)) 3)
+      pick-all (SameParts slot) (isStalled (slot .state))
       (record { seconds = refl; hold = refl; delay = refl; proposed = refl; changes = refl })
       (record { seconds = refl; hold = refl; delay = refl; proposed = refl; changes = refl })
 
@@ -189,8 +180,8 @@ module _ (s : Inputs) (l : Lists) (i : ℕ) (r : Ready s l i) where
     pub looked-fits : Fits s l i (slotAt (looked i look time s .inputs) i)
     unfolding looked quiet
     looked-fits =
-        pick-all (λ (done : Done). Fits s l i (slotAt (done .inputs) i)) (eqb (stateNumber (slot .state)) 1) open-fits
-        (pick-all (λ (done : Done). Fits s l i (slotAt (done .inputs) i)) (leb 2 (stateNumber (slot .state))) watch-fits (fits-same slot (parts-same slot)))
+        pick-all (λ (done : Done). Fits s l i (slotAt (done .inputs) i)) (isWaiting (slot .state)) open-fits
+        (pick-all (λ (done : Done). Fits s l i (slotAt (done .inputs) i)) (isOpen (slot .state)) watch-fits (fits-same slot (parts-same slot)))
 
     pub looked-changes : slotAt (looked i look time s .inputs) i .«delay_changes» ≡ slot .«delay_changes»
     looked-changes = looked-fits .changes

@@ -1,57 +1,30 @@
 -- The 0.999 quantile of an input, case by case, and that it is never more than a bucket above offset + maximum. Assumes nothing.
 use Prim.Native.Nat.{_<_, _≤_}
-use mathlib.Core.Bool.{true, false}
+use mathlib.Core.Bool.{true}
 use mathlib.Core.Path.{_≡_, refl, sym, ap, _∙_}
 use mathlib.Core.List.{[], _∷_}
 use mathlib.Core.Logic.{⊎-elim}
 use native.Mathlib.Nat.{add-mul}
 use native.Mathlib.Omega.{arith}
 use borrow.Author.Tests.{le-leb}
-use denote.Floats.{is-true}
 use denote.Enum.Declared.{tagOf}
 use types.Run.{OneOf}
 use lib.Dec.{leb}
-use lib.IntN.{pos}
-use lib.Ieee.{fin, binary64, round, ofBits}
-use lib.Ieee.Order.{round-mono}
 use Rattle.base.specs.Limits.{nanos}
 use Rattle.base.proofs.Choices.{le-yes, le-no, pick-rule}
-use Rattle.base.proofs.Points.{true-both}
 use Rattle.policy.specs.declared.DelayPolicy.{DelayPolicy}
 use Rattle.rules_window.specs.declared.Quantile.{Quantile}
 use Rattle.rules_window.specs.declared.Quantile.the-variants as Quantile
 use Rattle.rules_window.proofs.Quantile.{the-type}
 use Rattle.base.specs.Rows.{spanOf}
 use Rattle.rules_window.specs.Window.{Window}
-use Rattle.rules_window.specs.Quantile.{quantileUpto}
-use Rattle.rules_window.specs.Checks.{fromZeroToOne}
+use Rattle.rules_window.specs.Quantile.{quantileUpto, thousandths}
 use Rattle.rules_window.proofs.Laws.{quantile-bucket}
 use Rattle.delay_hold.specs.declared.Lag.{Lag}
 use Rattle.delay_hold.specs.declared.Lag.the-variants.{None}
 use Rattle.delay_hold.specs.Whole.{peakMost}
 use Rattle.delay_hold.specs.Checks.{lagUpTo}
-use Rattle.rules_tick.specs.AutoDelay.{permille999, reachOf, quantileLag, p999Of}
-
--- 0.999 is from 0 to 1
-zero-is : round binary64 false 0 1 ≡ fin false 0 (pos 0)
-unfolding round
-zero-is = refl
-
-one-is : round binary64 false 1 1 ≡ fin false 1 (pos 0)
-unfolding round
-one-is = refl
-
-pub permille-in : fromZeroToOne permille999 ≡ true
-unfolding fromZeroToOne permille999
-permille-in =
-    true-both _ _
-    (is-true _ (rw zero-is at (round-mono binary64 0 1 999 1000 (omega arith) (omega arith) (omega arith))))
-    (is-true _ (rw one-is at (round-mono binary64 999 1000 1 1 (omega arith) (omega arith) (omega arith))))
-
--- the code's literal
-pub literal-is : ofBits binary64 4607173411600762667 ≡ permille999
-unfolding ofBits round permille999
-literal-is = refl
+use Rattle.rules_tick.specs.AutoDelay.{reachOf, quantileLag, p999Of}
 
 -- the other arm of `let .. else`: a quantile whose tag is not that of an end
 pub none-told : (q : Quantile) → OneOf (1 ∷ 2 ∷ []) (tagOf the-type q) → None ≡ quantileLag q
@@ -64,14 +37,14 @@ module _ (policy : DelayPolicy) (w : Window) where
   unfolding p999Of
   p999-short h = sym (le-no nanos (spanOf (w .seconds) (w .starts)) _ None h)
 
-  pub p999-long : nanos ≤ spanOf (w .seconds) (w .starts) → {q : Quantile} → q ≡ quantileUpto permille999 (reachOf policy) w → quantileLag q ≡ p999Of policy w
+  pub p999-long : nanos ≤ spanOf (w .seconds) (w .starts) → {q : Quantile} → q ≡ quantileUpto (thousandths 999) (reachOf policy) w → quantileLag q ≡ p999Of policy w
   unfolding p999Of
   p999-long h e = ap quantileLag e ∙ sym (le-yes nanos (spanOf (w .seconds) (w .starts)) _ None h)
 
   -- what check 15 asks of it: a bucket that counts starts at most at the limit
-  quantile-most : (q : Quantile) → q ≡ quantileUpto permille999 (reachOf policy) w → lagUpTo (quantileLag q) (peakMost policy (w .width)) ≡ true
+  quantile-most : (q : Quantile) → q ≡ quantileUpto (thousandths 999) (reachOf policy) w → lagUpTo (quantileLag q) (peakMost policy (w .width)) ≡ true
   quantile-most (Quantile.End end) is =
-      let found = quantile-bucket permille999 (reachOf policy) w end (sym is) in
+      let found = quantile-bucket (thousandths 999) (reachOf policy) w end (sym is) in
       le-leb end (peakMost policy (w .width)) (omega (arith, found .1 .0 .shown, found .1 .1, add-mul (found .0) 1 (w .width)))
   quantile-most Quantile.None is = refl
   quantile-most (Quantile.Refused number) is = refl

@@ -7,7 +7,7 @@ use native.Mathlib.Omega.{arith}
 use borrow.Author.Tests.{leb-true}
 use lib.ListN.{length}
 use Rattle.base.specs.Lists.{part}
-use Rattle.rules_window.specs.Whole.{Sound}
+use Rattle.rules_window.specs.WholeWindow.{Sound}
 use Rattle.rules_window.specs.Parts as parts
 use Rattle.rules_window.proofs.Parting.{held-sound}
 use Rattle.delay_hold.specs.declared.Lag.{Lag}
@@ -20,7 +20,7 @@ use Rattle.rules_record.specs.declared.Slot.{Slot}
 use Rattle.rules_record.specs.declared.Inputs.{Inputs}
 use Rattle.rules_record.specs.Inputs.{slotAt}
 use Rattle.rules_record.specs.Lent.{Lists, lists, bucketsIn, windowsOf, windowFor}
-use Rattle.rules_record.specs.Places.{proposalFits}
+use Rattle.rules_record.specs.WholePlaces.{proposalFits}
 use Rattle.base.proofs.Blocks.{block-within}
 use Rattle.rules_record.proofs.Shapes.{buckets-least, held-times, held-lags}
 use Rattle.rules_tick.specs.AutoDelay.{p999Of, proposedOr, currentOf}

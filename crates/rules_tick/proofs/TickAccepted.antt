@@ -11,7 +11,7 @@ use lib.ListN.{length, drop, length-drop}
 use lib.Seq.{length-take-le}
 use Rattle.base.specs.Limits.{timeLimit}
 use Rattle.base.specs.Lists.{sum}
-use Rattle.base.proofs.Choices.{asked}
+use Rattle.base.proofs.Choices.{asked, by-zero}
 use Rattle.base.proofs.Points.{both-true, all-at}
 use Rattle.rules_window.specs.Checks.{roomFor}
 use Rattle.rules_record.specs.declared.Inputs.{Inputs}
@@ -22,7 +22,6 @@ use Rattle.rules_record.specs.Lent.{Lists, windowOf}
 use Rattle.rules_record.specs.Checks.{recordNumber}
 use Rattle.rules_record.proofs.Checked.{checked, number-passed, number-refused}
 use Rattle.rules_record.specs.Facts.{Checked}
-use Rattle.base.proofs.Choices.{by-zero}
 use Rattle.rules_tick.specs.declared.Look.{Look}
 use Rattle.rules_tick.specs.Looks.{lookAt, lagsBefore, lagsOf}
 use Rattle.rules_tick.specs.TickChecks.{lookFits, looksFit, lagsFit, roomsFit, tickNumber}

@@ -4,13 +4,13 @@ use mathlib.Core.Path.{_≡_, refl, sym, ap, subst, _∙_}
 use mathlib.Core.List.{List, []}
 use native.Mathlib.Omega.{arith}
 use lib.ListN.{length, set}
-use Rattle.base.specs.Limits.{timeLimit}
+use Rattle.base.specs.Limits.{timeLimit, counterLimit}
 use Rattle.delay_hold.specs.declared.Lag.{Lag}
 use Rattle.rules_record.specs.declared.Inputs.{Inputs}
 use Rattle.rules_record.specs.declared.Slot.{Slot}
-use Rattle.rules_record.specs.Slots.{stateNumber}
+use Rattle.rules_record.specs.States.{stateNumber}
 use Rattle.rules_record.specs.Inputs.{slotAt, putSlot, withSlots}
-use Rattle.rules_record.proofs.SlotFrame.{slot-same}
+use Rattle.rules_record.proofs.SlotFrame.{slot-same, put-stores}
 use Rattle.rules_record.proofs.Sized.{sized-put}
 use Rattle.rules_record.specs.Sized.{Sized}
 use Rattle.rules_record.specs.declared.Sent.{Sent}
@@ -20,15 +20,16 @@ use Rattle.rules_routing.specs.Watch.{movedSlot}
 use Rattle.rules_record.specs.Lent.{Lists, lists}
 use Rattle.rules_record.specs.Effects.{Effect, silent, beside, Effected}
 use Rattle.rules_record.proofs.Effects.{effected-by, effected-silent, effected-done}
-use Rattle.rules_tick.specs.Arrival.{arrived, largestOf, lateSlot, lateEvent}
+use Rattle.rules_tick.specs.Lags.{arrived, largestOf}
+use Rattle.rules_tick.specs.LateEvents.{lateSlot, lateEvent}
 use Rattle.rules_tick.specs.AutoDelay.{autoDelayed}
 use Rattle.rules_tick.specs.InputReady.{ArriveAsked, LateAsked, Ready, AutoAsked}
 use Rattle.rules_tick.proofs.Ready.{ready-window}
-use Rattle.rules_tick.proofs.ArrivalKeeps.{arrived-ready, arrived-raised}
+use Rattle.rules_tick.proofs.LagsKeep.{arrived-ready, arrived-raised}
 use Rattle.rules_tick.proofs.LateCases.{late-stored}
 use Rattle.rules_tick.proofs.LateKeeps.{late-ready, late-raised}
 use Rattle.rules_tick.proofs.AutoDelayCases.{auto-idle}
-use Rattle.rules_tick.proofs.Readiness.{ready-low, put-stores}
+use Rattle.rules_tick.proofs.Readiness.{ready-low}
 use Rattle.rules_tick.specs.declared.Look.{Look}
 use Rattle.rules_tick.specs.Tick.{heard, looked, tickedInput}
 use Rattle.rules_tick.specs.TickAsked.{InputAsked}
@@ -60,7 +61,7 @@ module _ (s : Inputs) (l : Lists) (i : ℕ) (look : Look) (lags : List ℕ) (tim
     sound = asked .ready .fitting .allowed .sound;
     applied-in = asked .applied;
     events =
-        subst (λ (x : Slot). x .«late_events» < 9_223_372_036_854_775_808) (ap (λ (z : Inputs). slotAt z i) (sym e) ∙ slot-same s i slot low (sized .slots))
+        subst (λ (x : Slot). x .«late_events» < counterLimit) (ap (λ (z : Inputs). slotAt z i) (sym e) ∙ slot-same s i slot low (sized .slots))
         (omega (arith, arrived-raised i time lags s l low (sized .slots) .lates, asked .lates));
   }
 
@@ -75,10 +76,10 @@ module _ (s : Inputs) (l : Lists) (i : ℕ) (look : Look) (lags : List ℕ) (tim
     second-ready : Ready second left i
     second-ready = late-ready i (look .applied) largest first left (arrived-ready i time lags s l (asked .ready) soon (asked .room) (sized .slots)) (first-sized .slots)
 
-    reopens-fit : slotAt second i .reopens < 9_223_372_036_854_775_808
+    reopens-fit : slotAt second i .reopens < counterLimit
     reopens-fit = omega (arith, late-raised i (look .applied) largest first low (first-sized .slots) .reopens, arrived-raised i time lags s l low (sized .slots) .reopens, asked .reopens)
 
-    changes-fit : slotAt second i .«delay_changes» < 9_223_372_036_854_775_808
+    changes-fit : slotAt second i .«delay_changes» < counterLimit
     changes-fit = omega (arith, late-raised i (look .applied) largest first low (first-sized .slots) .changes, arrived-raised i time lags s l low (sized .slots) .changes, asked .changes)
 
     module _ (slot : Slot) {heard : Slot} (is-first : putSlot s i slot ≡ first) (is-heard : heard ≡ lateSlot (s .policy) slot (look .applied) largest) where
@@ -88,14 +89,14 @@ module _ (s : Inputs) (l : Lists) (i : ℕ) (look : Look) (lags : List ℕ) (tim
       second-is : stored ≡ second
       second-is = late-stored s i (look .applied) largest slot low (sized .slots) is-heard ∙ ap (lateEvent i (look .applied) largest) is-first
 
-      pub look-asks : (i < 16) × (slotAt stored i .reopens < 9_223_372_036_854_775_808)
-      look-asks = (low, subst (λ (x : Inputs). slotAt x i .reopens < 9_223_372_036_854_775_808) (sym second-is) reopens-fit)
+      pub look-asks : (i < 16) × (slotAt stored i .reopens < counterLimit)
+      look-asks = (low, subst (λ (x : Inputs). slotAt x i .reopens < counterLimit) (sym second-is) reopens-fit)
 
-      pub auto-asks : {seen : Sent} {before after a b c : List ℕ} {used : ℕ} → Did 6 (looked i look time stored) seen before after used → lists a b c (l .times) (l .lags) ≡ left → AutoAsked (seen .inputs) i a c (l .times) (l .lags)
+      pub auto-asks : {seen : Sent} {before after a b c : List ℕ} {used : ℕ} → Did 6 (looked i look time stored) seen before after used → lists a b c (l .times) (l .peaks) ≡ left → AutoAsked (seen .inputs) i a c (l .times) (l .peaks)
       auto-asks {seen} {a = a} {b = b} {c = c} h e = record {
         totals = b;
-        ready = subst (λ (x : Inputs). Ready x (lists a b c (l .times) (l .lags)) i) (sym third-is) (subst (λ (m : Lists). Ready third m i) (sym e) (looked-ready second left i second-ready time soon second-sized look));
-        changes = subst (λ (x : Inputs). slotAt x i .«delay_changes» < 9_223_372_036_854_775_808) (sym third-is) third-changes;
+        ready = subst (λ (x : Inputs). Ready x (lists a b c (l .times) (l .peaks)) i) (sym third-is) (subst (λ (m : Lists). Ready third m i) (sym e) (looked-ready second left i second-ready time soon second-sized look));
+        changes = subst (λ (x : Inputs). slotAt x i .«delay_changes» < counterLimit) (sym third-is) third-changes;
       }
         where
           third : Inputs
@@ -104,8 +105,8 @@ module _ (s : Inputs) (l : Lists) (i : ℕ) (look : Look) (lags : List ℕ) (tim
           third-is : seen .inputs ≡ third
           third-is = h .inputs ∙ ap (λ (x : Inputs). looked i look time x .inputs) second-is
 
-          third-changes : slotAt third i .«delay_changes» < 9_223_372_036_854_775_808
-          third-changes = subst (λ (n : ℕ). n < 9_223_372_036_854_775_808) (sym (looked-changes second left i second-ready time soon second-sized look)) changes-fit
+          third-changes : slotAt third i .«delay_changes» < counterLimit
+          third-changes = subst (λ (n : ℕ). n < counterLimit) (sym (looked-changes second left i second-ready time soon second-sized look)) changes-fit
 
 -- ---- the steps in a row
 module _ (i : ℕ) (look : Look) (lags : List ℕ) (time : ℕ) (s : Inputs) (l : Lists) (slot : Slot) {heard-slot : Slot} {largest : Lag} {seen answer : Sent} {a b c times peaks before middle after : List ℕ} {used : ℕ}
@@ -114,30 +115,30 @@ module _ (i : ℕ) (look : Look) (lags : List ℕ) (time : ℕ) (s : Inputs) (l 
     (is-largest : largest ≡ largestOf lags)
     (is-late : heard-slot ≡ lateSlot (s .policy) slot (look .applied) largest)
     (is-seen : Did 6 (looked i look time (withSlots s (set (s .slots) i heard-slot))) seen before middle used)
-    (is-answer : (totals : List ℕ) → Effected 3 (autoDelayed i largest time (seen .inputs) (lists a totals c (l .times) (l .lags))) answer (lists a totals c times peaks) middle after (seen .used)) where
+    (is-answer : (totals : List ℕ) → Effected 3 (autoDelayed i largest time (seen .inputs) (lists a totals c (l .times) (l .peaks))) answer (lists a totals c times peaks) middle after (seen .used)) where
   abbrev all : Inputs
   all = putSlot s i slot
 
   abbrev after-late : Inputs
   after-late = withSlots s (set (s .slots) i heard-slot)
 
-  first-is : silent all (lists a b c (l .times) (l .lags)) ≡ arrived i time lags s l
-  first-is = is-arrived (l .times) (l .lags)
+  first-is : silent all (lists a b c (l .times) (l .peaks)) ≡ arrived i time lags s l
+  first-is = is-arrived (l .times) (l .peaks)
 
   pub first-inputs : all ≡ arrived i time lags s l .inputs
   first-inputs = ap (λ (x : Effect). x .inputs) first-is
 
-  pub first-lists : lists a b c (l .times) (l .lags) ≡ arrived i time lags s l .lists
+  pub first-lists : lists a b c (l .times) (l .peaks) ≡ arrived i time lags s l .lists
   first-lists = ap (λ (x : Effect). x .lists) first-is
 
-  heard-by : Effected 0 (heard i look lags time s l) (record { inputs = after-late; used = used }) (lists a b c (l .times) (l .lags)) before before used
+  heard-by : Effected 0 (heard i look lags time s l) (record { inputs = after-late; used = used }) (lists a b c (l .times) (l .peaks)) before before used
   unfolding heard
   heard-by =
       effected-then 0 0 (arrived i time lags s l) (λ z m. silent (lateEvent i (look .applied) (largestOf lags) z) m)
-      (subst (λ (x : Effect). Effected 0 x (record { inputs = all; used = used }) (lists a b c (l .times) (l .lags)) before before used) first-is (effected-silent refl refl))
+      (subst (λ (x : Effect). Effected 0 x (record { inputs = all; used = used }) (lists a b c (l .times) (l .peaks)) before before used) first-is (effected-silent refl refl))
       (effected-silent (late-stored s i (look .applied) largest slot low sized is-late ∙ ap (λ (x : Lag). lateEvent i (look .applied) x all) is-largest) refl)
 
-  seen-by : Effected 6 (beside (lists a b c (l .times) (l .lags)) (looked i look time after-late)) seen (lists a b c (l .times) (l .lags)) before middle used
+  seen-by : Effected 6 (beside (lists a b c (l .times) (l .peaks)) (looked i look time after-late)) seen (lists a b c (l .times) (l .peaks)) before middle used
   seen-by = effected-done is-seen refl
 
   pub ticked-by : Effected 9 (tickedInput i look lags time s l) answer (lists a b c times peaks) before after used
@@ -145,7 +146,7 @@ module _ (i : ℕ) (look : Look) (lags : List ℕ) (time : ℕ) (s : Inputs) (l 
   ticked-by =
       effected-then 6 3 _ (autoDelayed i (largestOf lags) time)
       (effected-then 0 6 (heard i look lags time s l) (λ z m. beside m (looked i look time z)) heard-by seen-by)
-      (subst (λ (x : Lag). Effected 3 (autoDelayed i x time (seen .inputs) (lists a b c (l .times) (l .lags))) answer (lists a b c times peaks) middle after (seen .used)) is-largest (is-answer b))
+      (subst (λ (x : Lag). Effected 3 (autoDelayed i x time (seen .inputs) (lists a b c (l .times) (l .peaks))) answer (lists a b c times peaks) middle after (seen .used)) is-largest (is-answer b))
 
 -- ---- the ways of an input that goes through no other function
 stored-slot : (s : Inputs) (i : ℕ) (slot : Slot) → i < 16 → length (s .slots) ≡ 16 → slotAt (withSlots s (set (s .slots) i slot)) i ≡ slot
@@ -157,7 +158,7 @@ pub rested-by : (i : ℕ) (look : Look) (lags : List ℕ) (time : ℕ) (s : Inpu
     → largest ≡ largestOf lags
     → heard-slot ≡ lateSlot (s .policy) slot (look .applied) largest
     → (stateNumber (heard-slot .state) < 2) × ((z : Inputs) (j at : ℕ) → slotAt z j ≡ heard-slot → looked j look at z ≡ quiet z)
-    → Effected 9 (tickedInput i look lags time s l) (record { inputs = withSlots s (set (s .slots) i heard-slot); used = used }) (lists a b c (l .times) (l .lags)) words words used
+    → Effected 9 (tickedInput i look lags time s l) (record { inputs = withSlots s (set (s .slots) i heard-slot); used = used }) (lists a b c (l .times) (l .peaks)) words words used
 rested-by i look lags time s l slot heard-slot {largest} low sized is-arrived is-largest is-late rests =
     ticked-by i look lags time s l slot low sized is-arrived is-largest is-late
     (did-by (rests .1 stored i time here) (did-quiet refl))

@@ -12,49 +12,39 @@ use Rattle.rules_record.specs.Sized.{Sized}
 use Rattle.rules_record.specs.Lent.{Lists}
 use Rattle.rules_record.specs.Effects.{followedBy}
 use Rattle.rules_record.specs.Reply.{Reply}
-use Rattle.rules_tick.specs.Arrival.{arrived, largestOf, lateEvent}
+use Rattle.rules_tick.specs.Lags.{largestOf}
+use Rattle.rules_tick.specs.LateEvents.{lateEvent}
 use Rattle.rules_tick.specs.AutoDelay.{autoDelayed}
 use Rattle.rules_tick.proofs.Raised.{Raised, raised-by, raised-then}
-use Rattle.rules_tick.proofs.ArrivalKeeps.{arrived-raised}
+use Rattle.rules_tick.proofs.LagsKeep.{arrived-raised}
 use Rattle.rules_tick.proofs.LateKeeps.{late-raised}
 use Rattle.rules_tick.proofs.AutoDelayKeeps.{auto-raised}
 use Rattle.rules_tick.specs.declared.Look.{Look}
 use Rattle.rules_tick.specs.Looks.{lookAt, lagsOf}
 use Rattle.rules_tick.specs.TickChecks.{tickNumber}
-use Rattle.rules_tick.specs.Tick.{heard, looked, tickedInput, ticked}
+use Rattle.rules_tick.specs.Tick.{heard, tickedInput, ticked}
 use Rattle.rules_tick.specs.TickReply.{tickReply}
 use Rattle.rules_tick.proofs.TickAccepted.{tick-checked}
 use Rattle.rules_tick.proofs.Looked.{looked-raised}
 use Rattle.rules_tick.proofs.TickFrames.{arrived-sized, heard-sized, between-sized, turn, below-sized, below-slots, ticked-past, ticked-slot}
+use Rattle.rules_tick.proofs.TickSteps.{laggedInputs, heardInputs, heardLists, lookedInputs}
 
 -- ---- one input
 module _ (i : ℕ) (look : Look) (lags : List ℕ) (time : ℕ) (s : Inputs) (l : Lists) (low : i < 16) (sized : Sized s) where
-  abbrev lagged : Inputs
-  lagged = arrived i time lags s l .inputs
-
-  abbrev before : Inputs
-  before = heard i look lags time s l .inputs
-
-  abbrev left : Lists
-  left = heard i look lags time s l .lists
-
-  abbrev between : Inputs
-  between = looked i look time before .inputs
-
-  pub heard-raised : Raised 0 0 1 (slotAt s i) (slotAt before i)
+  pub heard-raised : Raised 0 0 1 (slotAt s i) (slotAt (heardInputs i look lags time s l) i)
   unfolding heard followedBy
   heard-raised =
-      raised-then 0 0 0 0 0 1 (slotAt s i) (slotAt lagged i) (slotAt (lateEvent i (look .applied) (largestOf lags) lagged) i) (arrived-raised i time lags s l low (sized .slots))
-      (late-raised i (look .applied) (largestOf lags) lagged low (arrived-sized i look lags time s l sized .slots))
+      raised-then 0 0 0 0 0 1 (slotAt s i) (slotAt (laggedInputs i look lags time s l) i) (slotAt (lateEvent i (look .applied) (largestOf lags) (laggedInputs i look lags time s l)) i) (arrived-raised i time lags s l low (sized .slots))
+      (late-raised i (look .applied) (largestOf lags) (laggedInputs i look lags time s l) low (arrived-sized i look lags time s l sized .slots))
 
-  pub between-raised : Raised 1 0 1 (slotAt s i) (slotAt between i)
-  between-raised = raised-then 0 0 1 1 0 0 (slotAt s i) (slotAt before i) (slotAt between i) heard-raised (looked-raised i look time before low (heard-sized i look lags time s l sized))
+  pub between-raised : Raised 1 0 1 (slotAt s i) (slotAt (lookedInputs i look lags time s l) i)
+  between-raised = raised-then 0 0 1 1 0 0 (slotAt s i) (slotAt (heardInputs i look lags time s l) i) (slotAt (lookedInputs i look lags time s l) i) heard-raised (looked-raised i look time (heardInputs i look lags time s l) low (heard-sized i look lags time s l sized))
 
   pub input-raised : Raised 1 1 1 (slotAt s i) (slotAt (tickedInput i look lags time s l .inputs) i)
   unfolding tickedInput followedBy
   input-raised =
-      raised-then 1 0 1 0 1 0 (slotAt s i) (slotAt between i) (slotAt (autoDelayed i (largestOf lags) time between left .inputs) i) between-raised
-      (auto-raised i (largestOf lags) time between left low (between-sized i look lags time s l sized))
+      raised-then 1 0 1 0 1 0 (slotAt s i) (slotAt (lookedInputs i look lags time s l) i) (slotAt (autoDelayed i (largestOf lags) time (lookedInputs i look lags time s l) (heardLists i look lags time s l) .inputs) i) between-raised
+      (auto-raised i (largestOf lags) time (lookedInputs i look lags time s l) (heardLists i look lags time s l) low (between-sized i look lags time s l sized))
 
 -- ---- the whole tick
 module _ (looks : List Look) (lags : List ℕ) (time : ℕ) (s : Inputs) (l : Lists) (most : s .count ≤ 16) (sized : Sized s) where

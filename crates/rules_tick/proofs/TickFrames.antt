@@ -16,9 +16,9 @@ use Rattle.rules_record.specs.declared.Inputs.{Inputs}
 use Rattle.rules_record.specs.Inputs.{slotAt, withFlows, withInstances}
 use Rattle.rules_record.proofs.Sized.{sized-put}
 use Rattle.rules_record.specs.Sized.{Sized}
-use Rattle.rules_record.specs.Commands.{quiet, first}
+use Rattle.rules_record.specs.Commands.{quiet, sendFirst}
 use Rattle.rules_record.specs.declared.Extra.the-variants.{Nothing}
-use Rattle.rules_record.specs.Instances.{pruned}
+use Rattle.rules_record.specs.Prune.{pruned}
 use Rattle.rules_record.proofs.InstanceKeys.{pruned-rest, pruned-sized}
 use Rattle.rules_routing.specs.SetDelay.{setDelayOf}
 use Rattle.rules_routing.proofs.SetDelayStored.{stored-sized}
@@ -28,24 +28,26 @@ use Rattle.rules_record.specs.Reply.{Reply}
 use Rattle.rules_record.specs.Effects.{Effect, silent, followedBy}
 use Rattle.rules_record.proofs.Beside.{Beside, beside-then}
 use Rattle.rules_routing.proofs.SettingsKept.{SameSettings, settings-then}
-use Rattle.rules_tick.specs.Arrival.{arrived, largestOf, lateEvent}
+use Rattle.rules_tick.specs.Lags.{arrived, largestOf}
+use Rattle.rules_tick.specs.LateEvents.{lateEvent}
 use Rattle.rules_tick.specs.AutoDelay.{autoDelayed}
 use Rattle.rules_tick.specs.InputReady.{Ready}
-use Rattle.rules_tick.proofs.ArrivalKeeps.{arrived-settings, arrived-other, arrived-beside, arrived-ready}
+use Rattle.rules_tick.proofs.LagsKeep.{arrived-settings, arrived-other, arrived-beside, arrived-ready}
 use Rattle.rules_tick.proofs.LateKeeps.{late-settings, late-other, late-ready}
 use Rattle.rules_tick.proofs.AutoDelayKeeps.{auto-rule, auto-settings, auto-other, auto-beside}
 use Rattle.rules_tick.specs.declared.Look.{Look}
 use Rattle.rules_tick.specs.Looks.{lookAt, lagsOf}
 use Rattle.rules_tick.specs.TickChecks.{tickNumber}
-use Rattle.rules_tick.specs.Tick.{heard, looked, tickedInput, tickedBelow, tickedAll, lastly, ticked}
+use Rattle.rules_tick.specs.Tick.{heard, tickedInput, tickedBelow, tickedAll, lastly, ticked}
 use Rattle.rules_tick.specs.TickReply.{tickReply}
 use Rattle.rules_tick.proofs.TickSame.{SameInput, same-none, same-then, beside-under, beside-over, same-beside, ready-same}
 use Rattle.rules_tick.proofs.Looking.{looked-leaves, looked-ready}
 use Rattle.rules_tick.proofs.Looked.{looked-settings}
+use Rattle.rules_tick.proofs.TickSteps.{laggedInputs, heardInputs, heardLists, lookedInputs}
 
 -- ---- the steps of one input
 auto-sized : (i : ℕ) (largest : Lag) (time : ℕ) (s : Inputs) (l : Lists) → Sized s → Sized (autoDelayed i largest time s l .inputs)
-unfolding setDelayOf first quiet
+unfolding setDelayOf sendFirst quiet
 auto-sized i largest time s l h =
     auto-rule i largest time s l (λ effect. Sized (effect .inputs))
     (λ e. sized-put s i _ h)
@@ -55,74 +57,61 @@ auto-sized i largest time s l h =
     (λ on delay e g. stored-sized _ i delay time (sized-put s i _ h))
 
 module _ (i : ℕ) (look : Look) (lags : List ℕ) (time : ℕ) (s : Inputs) (l : Lists) where
-  abbrev lagged : Inputs
-  lagged = arrived i time lags s l .inputs
-
   pub heard-settings : SameSettings s (heard i look lags time s l .inputs)
   unfolding heard followedBy
   heard-settings =
-      settings-then s lagged (lateEvent i (look .applied) (largestOf lags) lagged) (arrived-settings i time lags s l) (late-settings i (look .applied) (largestOf lags) lagged)
+      settings-then s (laggedInputs i look lags time s l) (lateEvent i (look .applied) (largestOf lags) (laggedInputs i look lags time s l)) (arrived-settings i time lags s l) (late-settings i (look .applied) (largestOf lags) (laggedInputs i look lags time s l))
 
   pub heard-other : (j : ℕ) → (j ≡ i → ⊥) → slotAt (heard i look lags time s l .inputs) j ≡ slotAt s j
   unfolding heard followedBy
-  heard-other j apart = late-other i (look .applied) (largestOf lags) lagged j apart ∙ arrived-other i time lags s l j apart
+  heard-other j apart = late-other i (look .applied) (largestOf lags) (laggedInputs i look lags time s l) j apart ∙ arrived-other i time lags s l j apart
 
-  pub arrived-sized : Sized s → Sized lagged
+  pub arrived-sized : Sized s → Sized (laggedInputs i look lags time s l)
   unfolding arrived
   arrived-sized h = sized-put s i _ h
 
   pub heard-sized : Sized s → Sized (heard i look lags time s l .inputs)
   unfolding heard followedBy lateEvent
-  heard-sized h = sized-put lagged i _ (arrived-sized h)
+  heard-sized h = sized-put (laggedInputs i look lags time s l) i _ (arrived-sized h)
 
-  -- the record and the lists between the steps
-  abbrev before : Inputs
-  before = heard i look lags time s l .inputs
+  pub between-settings : SameSettings s (lookedInputs i look lags time s l)
+  between-settings = settings-then s (heardInputs i look lags time s l) (lookedInputs i look lags time s l) heard-settings (looked-settings i look time (heardInputs i look lags time s l))
 
-  abbrev left : Lists
-  left = heard i look lags time s l .lists
-
-  abbrev between : Inputs
-  between = looked i look time before .inputs
-
-  pub between-settings : SameSettings s between
-  between-settings = settings-then s before between heard-settings (looked-settings i look time before)
-
-  pub between-sized : Sized s → Sized between
-  between-sized h = looked-leaves i look time before .sized (heard-sized h)
+  pub between-sized : Sized s → Sized (lookedInputs i look lags time s l)
+  between-sized h = looked-leaves i look time (heardInputs i look lags time s l) .sized (heard-sized h)
 
   -- ---- one input
   pub input-settings : SameSettings s (tickedInput i look lags time s l .inputs)
   unfolding tickedInput followedBy
-  input-settings = settings-then s between (autoDelayed i (largestOf lags) time between left .inputs) between-settings (auto-settings i (largestOf lags) time between left)
+  input-settings = settings-then s (lookedInputs i look lags time s l) (autoDelayed i (largestOf lags) time (lookedInputs i look lags time s l) (heardLists i look lags time s l) .inputs) between-settings (auto-settings i (largestOf lags) time (lookedInputs i look lags time s l) (heardLists i look lags time s l))
 
   pub input-other : (j : ℕ) → (j ≡ i → ⊥) → slotAt (tickedInput i look lags time s l .inputs) j ≡ slotAt s j
   unfolding tickedInput followedBy
-  input-other j apart = auto-other i (largestOf lags) time between left j apart ∙ looked-leaves i look time before .others j apart ∙ heard-other j apart
+  input-other j apart = auto-other i (largestOf lags) time (lookedInputs i look lags time s l) (heardLists i look lags time s l) j apart ∙ looked-leaves i look time (heardInputs i look lags time s l) .others j apart ∙ heard-other j apart
 
   pub input-sized : Sized s → Sized (tickedInput i look lags time s l .inputs)
   unfolding tickedInput followedBy
-  input-sized h = auto-sized i (largestOf lags) time between left (between-sized h)
+  input-sized h = auto-sized i (largestOf lags) time (lookedInputs i look lags time s l) (heardLists i look lags time s l) (between-sized h)
 
   module _ (r : Ready s l i) (sized : Sized s) (soon : time ≤ timeLimit) (room : roomFor time (length lags) (windowOf s l i) ≡ true) where
     -- the input stays ready up to `auto_delay`, even where a counter was raised to 2^63
-    pub heard-ready : Ready before left i
+    pub heard-ready : Ready (heardInputs i look lags time s l) (heardLists i look lags time s l) i
     unfolding heard followedBy
     heard-ready =
-        late-ready i (look .applied) (largestOf lags) lagged (arrived i time lags s l .lists) (arrived-ready i time lags s l r soon room (sized .slots)) (arrived-sized sized .slots)
+        late-ready i (look .applied) (largestOf lags) (laggedInputs i look lags time s l) (arrived i time lags s l .lists) (arrived-ready i time lags s l r soon room (sized .slots)) (arrived-sized sized .slots)
 
-    pub between-ready : Ready between left i
-    between-ready = looked-ready before left i heard-ready time soon (heard-sized sized) look
+    pub between-ready : Ready (lookedInputs i look lags time s l) (heardLists i look lags time s l) i
+    between-ready = looked-ready (heardInputs i look lags time s l) (heardLists i look lags time s l) i heard-ready time soon (heard-sized sized) look
 
-    pub heard-beside : Beside (s .count) (bucketsIn s) i l left
+    pub heard-beside : Beside (s .count) (bucketsIn s) i l (heardLists i look lags time s l)
     unfolding heard followedBy
     heard-beside = arrived-beside i time lags s l r soon room
 
     pub input-beside : Beside (s .count) (bucketsIn s) i l (tickedInput i look lags time s l .lists)
     unfolding tickedInput followedBy
     input-beside =
-        beside-then (s .count) (bucketsIn s) i l left (autoDelayed i (largestOf lags) time between left .lists) heard-beside
-        (beside-under s between between-settings i left (autoDelayed i (largestOf lags) time between left .lists) (auto-beside i (largestOf lags) time between left between-ready soon))
+        beside-then (s .count) (bucketsIn s) i l (heardLists i look lags time s l) (autoDelayed i (largestOf lags) time (lookedInputs i look lags time s l) (heardLists i look lags time s l) .lists) heard-beside
+        (beside-under s (lookedInputs i look lags time s l) between-settings i (heardLists i look lags time s l) (autoDelayed i (largestOf lags) time (lookedInputs i look lags time s l) (heardLists i look lags time s l) .lists) (auto-beside i (largestOf lags) time (lookedInputs i look lags time s l) (heardLists i look lags time s l) between-ready soon))
 
     pub input-same : (j : ℕ) → j < s .count → (j ≡ i → ⊥) → SameInput s l (tickedInput i look lags time s l .inputs) (tickedInput i look lags time s l .lists) j
     input-same j h apart = same-beside s (tickedInput i look lags time s l .inputs) input-settings l (tickedInput i look lags time s l .lists) i j input-beside h apart (input-other j apart)
@@ -281,10 +270,6 @@ module _ (looks : List Look) (lags : List ℕ) (time : ℕ) (s : Inputs) (l : Li
   -- .. and so are its window and its hold
   module _ (f : Fitting s l) (sized : Sized s) (soon : time ≤ timeLimit) (ready : (j : ℕ) → j < s .count → Ready s l j)
       (room : (j : ℕ) → j < s .count → roomFor time (length (lagsOf looks lags j)) (windowOf s l j) ≡ true) where
-    pub ticked-long : Long (s .count) (bucketsIn s) (ticked looks lags time s l .lists)
-    unfolding ticked tickedAll
-    ticked-long = turns looks lags time s l f sized soon ready room (s .count) (omega arith) .long
-
     pub ticked-input : (j : ℕ) → j < s .count
         → SameInput (turn looks lags time s l (suc j) .inputs) (turn looks lags time s l (suc j) .lists) after (ticked looks lags time s l .lists) j
     unfolding ticked tickedAll

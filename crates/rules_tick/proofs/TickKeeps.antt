@@ -5,19 +5,17 @@ use mathlib.Core.Path.{_≡_, sym, subst}
 use mathlib.Core.List.{List}
 use native.Mathlib.Omega.{arith}
 use borrow.Author.Tests.{eqb-true}
-use lib.Dec.{eqb, leb}
 use lib.ListN.{length}
-use Rattle.base.specs.Limits.{timeLimit}
+use Rattle.base.specs.Limits.{timeLimit, counterLimit}
 use Rattle.base.proofs.Choices.{pick-all, pick-rule, accepted-all}
 use Rattle.rules_window.specs.Checks.{roomFor}
 use Rattle.rules_record.specs.declared.Slot.{Slot}
 use Rattle.rules_record.specs.declared.Inputs.{Inputs}
-use Rattle.rules_record.specs.Slots.{stateNumber}
+use Rattle.rules_record.specs.States.{stateNumber, isWaiting, isOpen}
 use Rattle.rules_record.specs.Inputs.{slotAt}
-use Rattle.rules_record.specs.Sized.{Sized}
 use Rattle.rules_record.specs.Commands.{Done, quiet}
 use Rattle.rules_record.specs.declared.Extra.the-variants.{Nothing}
-use Rattle.rules_record.specs.Instances.{pruned}
+use Rattle.rules_record.specs.Prune.{pruned}
 use Rattle.rules_record.specs.Lent.{Lists, windowOf}
 use Rattle.rules_record.specs.Effects.{followedBy}
 use Rattle.rules_record.specs.Reply.{Reply}
@@ -26,8 +24,8 @@ use Rattle.rules_record.proofs.Tables.{mark-keeps}
 use Rattle.rules_record.proofs.Pruned.{prune-keeps}
 use Rattle.rules_routing.proofs.TryOpenKeeps.{waiting-keeps}
 use Rattle.rules_routing.proofs.WatchKeeps.{watch-keeps}
-use Rattle.rules_tick.specs.Arrival.{arrived, largestOf}
-use Rattle.rules_tick.proofs.ArrivalKeeps.{arrived-keeps, arrived-raised, arrived-settings}
+use Rattle.rules_tick.specs.Lags.{arrived, largestOf}
+use Rattle.rules_tick.proofs.LagsKeep.{arrived-keeps, arrived-raised, arrived-settings}
 use Rattle.rules_tick.proofs.LateKeeps.{late-keeps}
 use Rattle.rules_tick.proofs.AutoDelayKeeps.{auto-keeps}
 use Rattle.rules_tick.proofs.Readiness.{ready-of}
@@ -38,56 +36,45 @@ use Rattle.rules_tick.specs.Tick.{heard, looked, tickedInput, tickedAll,
 use Rattle.rules_tick.specs.TickReply.{tickReply}
 use Rattle.rules_tick.proofs.TickFrames.{heard-settings, between-settings, turn, below-settings, below-slots, turn-room, turns}
 use Rattle.rules_tick.proofs.TickCounters.{heard-raised, between-raised}
-use Rattle.rules_tick.proofs.TickAccepted.{Accepted, tick-checked, tick-accepted, accepted-room}
+use Rattle.rules_tick.proofs.TickAccepted.{Accepted, tick-accepted, accepted-room}
+use Rattle.rules_tick.proofs.TickSteps.{laggedInputs, heardInputs, heardLists, lookedInputs}
 
 -- one more of each counter is below 2^63: then a tick, which raises each by at most one, keeps "counters below 2^63"
 pub record MayCount (slot : Slot) : Type 0 where
-  pub reopens : slot .reopens + 1 < 9_223_372_036_854_775_808
-  pub changes : slot .«delay_changes» + 1 < 9_223_372_036_854_775_808
-  pub lates : slot .«late_events» + 1 < 9_223_372_036_854_775_808
+  pub reopens : slot .reopens + 1 < counterLimit
+  pub changes : slot .«delay_changes» + 1 < counterLimit
+  pub lates : slot .«late_events» + 1 < counterLimit
 
 -- ---- one input
-pub looked-keeps : (i : ℕ) (look : Look) (time : ℕ) (s : Inputs) (l : Lists) → Checked s l → i < s .count → time ≤ timeLimit → slotAt s i .reopens + 1 < 9_223_372_036_854_775_808
+pub looked-keeps : (i : ℕ) (look : Look) (time : ℕ) (s : Inputs) (l : Lists) → Checked s l → i < s .count → time ≤ timeLimit → slotAt s i .reopens + 1 < counterLimit
     → Checked (looked i look time s .inputs) l
 unfolding looked quiet
 looked-keeps i look time s l c h soon few =
-    pick-rule (λ (done : Done). Checked (done .inputs) l) (eqb (stateNumber (slotAt s i .state)) 1) _ _
+    pick-rule (λ (done : Done). Checked (done .inputs) l) (isWaiting (slotAt s i .state)) _ _
     (λ waits. waiting-keeps l i time soon s (look .world) c h (eqb-true (stateNumber (slotAt s i .state)) 1 waits))
-    (λ other. pick-all (λ (done : Done). Checked (done .inputs) l) (leb 2 (stateNumber (slotAt s i .state))) (watch-keeps s l i time (look .world) c h soon few (look .seen)) c)
+    (λ other. pick-all (λ (done : Done). Checked (done .inputs) l) (isOpen (slotAt s i .state)) (watch-keeps s l i time (look .world) c h soon few (look .seen)) c)
 
 module _ (i : ℕ) (look : Look) (lags : List ℕ) (time : ℕ) (s : Inputs) (l : Lists) (c : Checked s l) (h : i < s .count) (soon : time ≤ timeLimit)
     (room : roomFor time (length lags) (windowOf s l i) ≡ true) (few : MayCount (slotAt s i)) where
   low : i < 16
   low = omega (arith, c .fitting .allowed .most)
 
-  abbrev lagged : Inputs
-  lagged = arrived i time lags s l .inputs
-
-  abbrev before : Inputs
-  before = heard i look lags time s l .inputs
-
-  abbrev left : Lists
-  left = heard i look lags time s l .lists
-
-  abbrev between : Inputs
-  between = looked i look time before .inputs
-
-  pub heard-keeps : Checked before left
+  pub heard-keeps : Checked (heardInputs i look lags time s l) (heardLists i look lags time s l)
   unfolding heard followedBy
   heard-keeps =
-      late-keeps i (look .applied) (largestOf lags) lagged (arrived i time lags s l .lists) (arrived-keeps i time lags s l c h soon room)
+      late-keeps i (look .applied) (largestOf lags) (laggedInputs i look lags time s l) (arrived i time lags s l .lists) (arrived-keeps i time lags s l c h soon room)
       (subst (λ (x : Inputs). i < x .count) (sym (arrived-settings i time lags s l)) h)
       (omega (arith, arrived-raised i time lags s l low (c .sized .slots) .lates, few .lates))
 
-  between-keeps : Checked between left
+  between-keeps : Checked (lookedInputs i look lags time s l) (heardLists i look lags time s l)
   between-keeps =
-      looked-keeps i look time before left heard-keeps (subst (λ (x : Inputs). i < x .count) (sym (heard-settings i look lags time s l)) h) soon
+      looked-keeps i look time (heardInputs i look lags time s l) (heardLists i look lags time s l) heard-keeps (subst (λ (x : Inputs). i < x .count) (sym (heard-settings i look lags time s l)) h) soon
       (omega (arith, heard-raised i look lags time s l low (c .sized) .reopens, few .reopens))
 
   pub input-keeps : Checked (tickedInput i look lags time s l .inputs) (tickedInput i look lags time s l .lists)
   unfolding tickedInput followedBy
   input-keeps =
-      auto-keeps i (largestOf lags) time between left between-keeps (subst (λ (x : Inputs). i < x .count) (sym (between-settings i look lags time s l)) h) soon
+      auto-keeps i (largestOf lags) time (lookedInputs i look lags time s l) (heardLists i look lags time s l) between-keeps (subst (λ (x : Inputs). i < x .count) (sym (between-settings i look lags time s l)) h) soon
       (omega (arith, between-raised i look lags time s l low (c .sized) .changes, few .changes))
 
 -- ---- "Last, prune; the unsaved mark is .. cleared"
@@ -124,10 +111,6 @@ module _ (looks : List Look) (lags : List ℕ) (time : ℕ) (s : Inputs) (l : Li
   ticked-keeps = lastly-keeps (at (s .count)) (lists (s .count)) (turn-keeps (s .count) (omega arith))
 
 -- ---- the call, accepted or refused
-pub accepted-keeps : (s : Inputs) (l : Lists) (words : ℕ) (looks : List Look) (lags : List ℕ) (time : ℕ) → tickNumber s l words looks lags time ≡ 0 → Sized s → ((j : ℕ) → j < s .count → MayCount (slotAt s j))
-    → Checked (ticked looks lags time s l .inputs) (ticked looks lags time s l .lists)
-accepted-keeps s l words looks lags time passed sized few =
-    ticked-keeps looks lags time s l (tick-checked s l words looks lags time passed sized) (tick-accepted s l words looks lags time passed) few
 
 pub tick-keeps : (s : Inputs) (l : Lists) (commands : List ℕ) (looks : List Look) (lags : List ℕ) (time : ℕ) → Checked s l → ((j : ℕ) → j < s .count → MayCount (slotAt s j))
     → Checked (tickReply s l commands looks lags time .inputs) (tickReply s l commands looks lags time .lists)

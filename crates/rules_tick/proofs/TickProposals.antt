@@ -17,49 +17,38 @@ use Rattle.rules_record.specs.Lent.{Lists, windowOf}
 use Rattle.rules_record.specs.Effects.{followedBy}
 use Rattle.rules_record.specs.Reply.{Reply}
 use Rattle.rules_record.specs.Facts.{Checked}
-use Rattle.rules_tick.specs.Arrival.{arrived, largestOf}
+use Rattle.rules_tick.specs.Lags.{largestOf}
 use Rattle.rules_tick.specs.InputReady.{Ready}
-use Rattle.rules_tick.proofs.ArrivalKeeps.{arrived-slot}
+use Rattle.rules_tick.proofs.LagsKeep.{arrived-slot}
 use Rattle.rules_tick.proofs.LateKeeps.{late-slot}
 use Rattle.rules_tick.proofs.Readiness.{ready-low, ready-of}
 use Rattle.rules_tick.proofs.InputViews.{auto-proposed}
 use Rattle.rules_tick.specs.declared.Look.{Look}
 use Rattle.rules_tick.specs.Looks.{lookAt, lagsOf}
 use Rattle.rules_tick.specs.TickChecks.{tickNumber}
-use Rattle.rules_tick.specs.Tick.{heard, looked, tickedInput, ticked}
+use Rattle.rules_tick.specs.Tick.{heard, tickedInput, ticked}
 use Rattle.rules_tick.specs.TickReply.{tickReply}
 use Rattle.rules_tick.proofs.Looked.{looked-slot}
 use Rattle.rules_tick.proofs.TickFrames.{arrived-sized, heard-sized, between-settings, between-sized, between-ready, turn, below-settings, below-sized, below-slots, turn-ready, turn-room, turns, ticked-settings, ticked-past, ticked-slot}
 use Rattle.rules_tick.proofs.TickAccepted.{Accepted, tick-checked, tick-accepted, accepted-room}
+use Rattle.rules_tick.proofs.TickSteps.{laggedInputs, heardInputs, heardLists, lookedInputs}
 
 -- ---- one input
 module _ (i : ℕ) (look : Look) (lags : List ℕ) (time : ℕ) (s : Inputs) (l : Lists) (low : i < 16) (sized : Sized s) where
-  abbrev lagged : Inputs
-  lagged = arrived i time lags s l .inputs
-
   pub heard-proposed : slotAt (heard i look lags time s l .inputs) i .proposed ≡ slotAt s i .proposed
   unfolding heard followedBy
   heard-proposed =
-      ap (λ (x : Slot). x .proposed) (late-slot i (look .applied) (largestOf lags) lagged low (arrived-sized i look lags time s l sized .slots))
+      ap (λ (x : Slot). x .proposed) (late-slot i (look .applied) (largestOf lags) (laggedInputs i look lags time s l) low (arrived-sized i look lags time s l sized .slots))
       ∙ ap (λ (x : Slot). x .proposed) (arrived-slot i time lags s l low (sized .slots))
 
 module _ (i : ℕ) (look : Look) (lags : List ℕ) (time : ℕ) (s : Inputs) (l : Lists) (r : Ready s l i) (sized : Sized s) (soon : time ≤ timeLimit)
     (room : roomFor time (length lags) (windowOf s l i) ≡ true) (off : s .confirm ≡ false) where
-  abbrev before : Inputs
-  before = heard i look lags time s l .inputs
-
-  abbrev left : Lists
-  left = heard i look lags time s l .lists
-
-  abbrev between : Inputs
-  between = looked i look time before .inputs
-
   pub input-proposed : slotAt (tickedInput i look lags time s l .inputs) i .proposed ≡ slotAt s i .proposed
   unfolding tickedInput followedBy
   input-proposed =
-      auto-proposed i (largestOf lags) time between left (between-ready i look lags time s l r sized soon room) (between-sized i look lags time s l sized)
+      auto-proposed i (largestOf lags) time (lookedInputs i look lags time s l) (heardLists i look lags time s l) (between-ready i look lags time s l r sized soon room) (between-sized i look lags time s l sized)
       (ap (λ (x : Inputs). x .confirm) (between-settings i look lags time s l) ∙ off)
-      ∙ looked-slot i look time before (ready-low s l i r) (heard-sized i look lags time s l sized) .proposed
+      ∙ looked-slot i look time (heardInputs i look lags time s l) (ready-low s l i r) (heard-sized i look lags time s l sized) .proposed
       ∙ heard-proposed i look lags time s l (ready-low s l i r) sized
 
 -- ---- all inputs

@@ -1,13 +1,13 @@
 -- An input that stays as it was while others change, under the same settings. Assumes nothing.
 use Prim.Native.Nat.{ℕ, _<_, _≤_}
 use mathlib.Core.Path.{_≡_, refl, sym, ap, subst, _∙_}
-use Rattle.rules_window.specs.Whole.{wholeWindow}
+use Rattle.rules_window.specs.WholeWindow.{wholeWindow}
 use Rattle.delay_hold.specs.Whole.{wholeHold}
 use Rattle.rules_record.specs.declared.Slot.{Slot}
 use Rattle.rules_record.specs.declared.Inputs.{Inputs}
 use Rattle.rules_record.specs.Inputs.{slotAt}
 use Rattle.rules_record.specs.Lent.{Lists, bucketsIn, windowFor, windowOf, heldOf}
-use Rattle.rules_record.specs.Places.{proposalFits}
+use Rattle.rules_record.specs.WholePlaces.{proposalFits}
 use Rattle.rules_record.specs.Checks.{Long, Fitting}
 use Rattle.rules_record.proofs.Beside.{Beside}
 use Rattle.rules_routing.proofs.SettingsKept.{SameSettings}
@@ -26,17 +26,9 @@ pub same-then : (s : Inputs) (l : Lists) (y : Inputs) (k : Lists) (z : Inputs) (
 same-then s l y k z m j a b = record { slot = b .slot ∙ a .slot; window = b .window ∙ a .window; held = b .held ∙ a .held }
 
 module _ (s z : Inputs) (settings : SameSettings s z) where
-  pub count-same : z .count ≡ s .count
-  count-same = ap (λ (x : Inputs). x .count) settings
-
   pub buckets-same : bucketsIn z ≡ bucketsIn s
   unfolding bucketsIn
   buckets-same = ap bucketsIn settings
-
-  -- lists long enough for the one are so for the other
-  pub long-under : (m : Lists) → Long (s .count) (bucketsIn s) m → Long (z .count) (bucketsIn z) m
-  unfolding bucketsIn
-  long-under m long = subst (λ (x : Inputs). Long (x .count) (bucketsIn x) m) (sym settings) long
 
   pub fitting-under : (l m : Lists) → Fitting s l → Long (s .count) (bucketsIn s) m → Fitting z m
   unfolding bucketsIn
@@ -65,7 +57,7 @@ module _ (s z : Inputs) (settings : SameSettings s z) where
           totals = b .totals j h apart t;
           counts = b .counts j h apart t;
         });
-    held = λ t. record { hold = same t .hold; times = b .times j h apart t; lags = b .lags j h apart t };
+    held = λ t. record { hold = same t .hold; times = b .times j h apart t; lags = b .peaks j h apart t };
   }
 
   -- an input that stays stays ready

@@ -7,6 +7,7 @@ use native.Mathlib.Numerals.{add-one}
 use native.Mathlib.Omega.{arith}
 use lib.ListN.{length}
 use Rattle.base.specs.Lists.{part, sum}
+use Rattle.base.specs.Limits.{counterLimit}
 use Rattle.rules_window.specs.Window.{Window}
 use Rattle.rules_window.specs.Checks.{roomFor}
 use Rattle.rules_record.specs.declared.Slot.{Slot}
@@ -33,9 +34,9 @@ asked-same s z l m j settings long same {look} {lags} {time} a = record {
   ready = ready-same s z settings l m j long same (a .ready);
   room = ap (λ (w : Window). roomFor time lags w) (same .window) ∙ a .room;
   applied = subst (λ (x : Inputs). look .applied ≤ x .policy .«delay_max») (sym settings) (a .applied);
-  reopens = subst (λ (x : Slot). x .reopens < 9_223_372_036_854_775_808) (sym (same .slot)) (a .reopens);
-  changes = subst (λ (x : Slot). x .«delay_changes» < 9_223_372_036_854_775_808) (sym (same .slot)) (a .changes);
-  lates = subst (λ (x : Slot). x .«late_events» < 9_223_372_036_854_775_808) (sym (same .slot)) (a .lates);
+  reopens = subst (λ (x : Slot). x .reopens < counterLimit) (sym (same .slot)) (a .reopens);
+  changes = subst (λ (x : Slot). x .«delay_changes» < counterLimit) (sym (same .slot)) (a .changes);
+  lates = subst (λ (x : Slot). x .«late_events» < counterLimit) (sym (same .slot)) (a .lates);
 }
 
 -- ---- the loop
@@ -51,7 +52,7 @@ pub record Turn (looks : List Look) (lags : List ℕ) (time : ℕ) (s₀ : Input
   pub totals : length (l .totals) ≡ length (l₀ .totals)
   pub counts : length (l .counts) ≡ length (l₀ .counts)
   pub times : length (l .times) ≡ length (l₀ .times)
-  pub peaks : length (l .lags) ≡ length (l₀ .lags)
+  pub peaks : length (l .peaks) ≡ length (l₀ .peaks)
   pub commands : length c ≡ length c₀
 
 module _ (looks : List Look) (lags : List ℕ) (time : ℕ) (s₀ : Inputs) (l₀ : Lists) (c₀ : List ℕ) (asked : InputsAsked s₀ l₀ looks lags time) where
@@ -96,7 +97,7 @@ module _ (looks : List Look) (lags : List ℕ) (time : ℕ) (s₀ : Inputs) (l�
             (subst (λ (x : Look). Effected 9 (tickedInput i x (part from k lags) time s l) sent m c d used) is-look e)
 
         pub turn-again :
-            (length (m .starts) ≡ length (l .starts)) → (length (m .totals) ≡ length (l .totals)) → (length (m .counts) ≡ length (l .counts)) → (length (m .times) ≡ length (l .times)) → (length (m .lags) ≡ length (l .lags)) → (length d ≡ length c)
+            (length (m .starts) ≡ length (l .starts)) → (length (m .totals) ≡ length (l .totals)) → (length (m .counts) ≡ length (l .counts)) → (length (m .times) ≡ length (l .times)) → (length (m .peaks) ≡ length (l .peaks)) → (length d ≡ length c)
             → Turn looks lags time s₀ l₀ c₀ (i + 1) (sent .inputs) m d (sent .used) (from + look .lags)
         unfolding tickedBelow
         turn-again starts totals counts times peaks commands = record {

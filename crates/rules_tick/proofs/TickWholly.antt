@@ -10,7 +10,7 @@ use Rattle.base.proofs.Words.{laid}
 use Rattle.rules_record.specs.declared.Inputs.{Inputs}
 use Rattle.rules_record.specs.declared.Sent.{Sent}
 use Rattle.rules_record.specs.declared.Extra.the-variants.{Nothing}
-use Rattle.rules_record.specs.Instances.{pruned}
+use Rattle.rules_record.specs.Prune.{pruned}
 use Rattle.rules_record.specs.Lent.{Lists}
 use Rattle.rules_record.specs.Effects.{Effect, Effected}
 use Rattle.rules_tick.specs.declared.Look.{Look}

@@ -1,38 +1,34 @@
 -- Document 01, "Supervision": `auto_delay` of one input. Assumes nothing.
 use Prim.Native.Nat.{ℕ, _+_}
-use mathlib.Core.Bool.{Bool, false}
+use mathlib.Core.Bool.{Bool}
 use mathlib.Core.Path.{_≡_}
-use lib.Dec.{leb, eqb}
-use lib.Ieee.{Float, binary64, round}
+use lib.Dec.{leb}
 use Rattle.base.specs.Choice.{pick, both}
 use Rattle.base.specs.Limits.{nanos}
 use Rattle.rules_window.specs.declared.Quantile.{Quantile}
 use Rattle.rules_window.specs.declared.Quantile.the-variants as Quantile
 use Rattle.base.specs.Rows.{spanOf}
 use Rattle.rules_window.specs.Window.{Window}
-use Rattle.rules_window.specs.Quantile.{quantileUpto}
+use Rattle.rules_window.specs.Quantile.{quantileUpto, thousandths}
 use Rattle.policy.specs.declared.DelayPolicy.{DelayPolicy}
 use Rattle.delay_hold.specs.declared.Lag.{Lag}
 use Rattle.delay_hold.specs.declared.Lag.the-variants.{None, Of}
 use Rattle.delay_hold.specs.declared.Change.{Change}
 use Rattle.delay_hold.specs.declared.Change.the-variants.{Keep, To}
 use Rattle.delay_hold.specs.declared.Next.{Next}
-use Rattle.delay_hold.specs.Decide.{timerOff, withLower}
+use Rattle.delay_hold.specs.Steps5To8.{timerOff, withLower}
 use Rattle.delay_hold.specs.Next.{Decided, nextOf, oneMillisecond, alwaysLower}
 use Rattle.rules_record.specs.declared.Proposal.{Proposal}
 use Rattle.rules_record.specs.declared.Proposal.the-variants.{Nothing, Pending}
 use Rattle.rules_record.specs.declared.Slot.{Slot}
 use Rattle.rules_record.specs.declared.Inputs.{Inputs}
-use Rattle.rules_record.specs.Slots.{stateNumber, isAuto, withHold, withProposed, withDelayChanges}
+use Rattle.rules_record.specs.Slots.{isAuto, withHold, withProposed, withDelayChanges}
+use Rattle.rules_record.specs.States.{isRunning, isStalled}
 use Rattle.rules_record.specs.Inputs.{slotAt, putSlot}
 use Rattle.rules_record.specs.Commands.{Done, quiet}
 use Rattle.rules_routing.specs.SetDelay.{setDelayOf}
 use Rattle.rules_record.specs.Lent.{Lists, windowOf, heldOf, withHeld}
 use Rattle.rules_record.specs.Effects.{Effect, silent, beside}
-
--- "0.999" as a double
-unfoldable pub permille999 : Float
-permille999 = round binary64 false 999 1000
 
 -- "offset + maximum"
 abbrev pub reachOf : DelayPolicy → ℕ
@@ -46,7 +42,7 @@ quantileLag (Quantile.Refused number) = None
 
 -- "p999 is 0.999 up to offset + maximum where span is at least 1 s"
 unfoldable pub p999Of : (policy : DelayPolicy) (w : Window) → Lag
-p999Of policy w = pick (leb nanos (spanOf (w .seconds) (w .starts))) (quantileLag (quantileUpto permille999 (reachOf policy) w)) None
+p999Of policy w = pick (leb nanos (spanOf (w .seconds) (w .starts))) (quantileLag (quantileUpto (thousandths 999) (reachOf policy) w)) None
 
 -- "current is the proposal or else the delay"
 abbrev pub proposedOr : Proposal → (delay : ℕ) → ℕ
@@ -93,10 +89,10 @@ interrupted i s = putSlot s i (withHold (slotAt s i) (withLower (slotAt s i .hol
 
 -- "only automatic and Running go on"
 unfoldable pub goesOn : Slot → Bool
-goesOn slot = both (eqb (stateNumber (slot .state)) 2) (isAuto (slot .config .«extra_delay»))
+goesOn slot = both (isRunning (slot .state)) (isAuto (slot .config .«extra_delay»))
 
 unfoldable pub autoDelayed : (i : ℕ) (largest : Lag) (time : ℕ) (s : Inputs) (l : Lists) → Effect
 autoDelayed i largest time s l =
-    pick (eqb (stateNumber (slotAt s i .state)) 3)
+    pick (isStalled (slotAt s i .state))
     (silent (interrupted i s) l)
     (pick (goesOn (slotAt s i)) (decidedFor (nextFor i largest time s l) i time s l) (silent s l))

@@ -3,24 +3,24 @@ use Prim.Native.Nat.{ℕ, _<_, _≤_}
 use mathlib.Core.Bool.{true}
 use mathlib.Core.Path.{_≡_}
 use mathlib.Core.List.{List, []}
-use Rattle.base.specs.Limits.{timeLimit}
+use Rattle.base.specs.Limits.{timeLimit, counterLimit}
 use Rattle.policy.specs.declared.DelayPolicy.{DelayPolicy}
 use Rattle.policy.specs.Settings as settings
-use Rattle.rules_window.specs.Whole.{wholeWindow}
-use Rattle.rules_window.specs.Parts.{Held}
+use Rattle.rules_window.specs.WholeWindow.{wholeWindow}
+use Rattle.rules_window.specs.Parts.{PartsIn}
 use Rattle.rules_window.specs.Checks.{roomFor}
 use Rattle.delay_hold.specs.Whole.{wholeHold}
 use Rattle.rules_record.specs.declared.Slot.{Slot}
 use Rattle.rules_record.specs.declared.Inputs.{Inputs}
 use Rattle.rules_record.specs.Inputs.{slotAt}
 use Rattle.rules_record.specs.Lent.{Lists, lists, windowsOf, windowFor, windowOf, heldOf}
-use Rattle.rules_record.specs.Places.{proposalFits}
+use Rattle.rules_record.specs.WholePlaces.{proposalFits}
 use Rattle.rules_record.specs.Checks.{Fitting}
 
 -- the window of input i, where this is its slot, as 1 to 6 let it through: its part of each list is there, and it is whole
 pub record WindowReady (s : Inputs) (l : Lists) (i : ℕ) (slot : Slot) : Type 0 where
   pub sound : settings.Sound (s .policy)
-  pub held : Held i (windowsOf s l slot)
+  pub held : PartsIn i (windowsOf s l slot)
   pub whole : wholeWindow (windowFor s l i slot) ≡ true
 
 -- what `arrive` asks: the input's window, 8, and 11 for so many lags
@@ -38,7 +38,7 @@ pub record P999Asked (s : Inputs) (slot : Slot) (i : ℕ) (starts counts : List 
 pub record LateAsked (policy : DelayPolicy) (slot : Slot) (applied : ℕ) : Type 0 where
   pub sound : settings.Sound policy
   pub applied-in : applied ≤ policy .«delay_max»
-  pub events : slot .«late_events» < 9_223_372_036_854_775_808
+  pub events : slot .«late_events» < counterLimit
 
 -- input i as 1 to 6 let it through, but for its route, its counters, the times of its head and its last SetDelay, and the tables: the steps of a tick keep this even where they raise a counter to 2^63
 pub record Ready (s : Inputs) (l : Lists) (i : ℕ) : Type 0 where
@@ -53,4 +53,4 @@ pub record Ready (s : Inputs) (l : Lists) (i : ℕ) : Type 0 where
 pub record AutoAsked (s : Inputs) (i : ℕ) (starts counts times lags : List ℕ) : Type 0 where
   pub totals : List ℕ
   pub ready : Ready s (lists starts totals counts times lags) i
-  pub changes : slotAt s i .«delay_changes» < 9_223_372_036_854_775_808
+  pub changes : slotAt s i .«delay_changes» < counterLimit

@@ -1,6 +1,7 @@
 -- The rules of a tick (document 01, "Supervision").
 -- one input: its lags and late events, its automatic delay
-pub mod Arrival
+pub mod Lags
+pub mod LateEvents
 pub mod AutoDelay
 -- what a tick brings, its checks, what it does, what it leaves
 pub mod Looks

@@ -2,19 +2,19 @@
 use Prim.Native.Nat.{ℕ, zero, suc}
 use mathlib.Core.Bool.{Bool, false}
 use mathlib.Core.List.{List}
-use lib.Dec.{leb, eqb}
 use Rattle.base.specs.Choice.{pick}
 use Rattle.rules_record.specs.declared.Inputs.{Inputs}
-use Rattle.rules_record.specs.Slots.{stateNumber}
+use Rattle.rules_record.specs.States.{isWaiting, isOpen}
 use Rattle.rules_record.specs.Inputs.{slotAt, withFlows}
 use Rattle.rules_record.specs.Commands.{Done, quiet}
 use Rattle.rules_record.specs.declared.Extra.the-variants.{Nothing}
-use Rattle.rules_record.specs.Instances.{pruned}
+use Rattle.rules_record.specs.Prune.{pruned}
 use Rattle.rules_routing.specs.TryOpen.{tryOpenOf}
 use Rattle.rules_routing.specs.Watch.{watchOf}
 use Rattle.rules_record.specs.Lent.{Lists}
 use Rattle.rules_record.specs.Effects.{Effect, silent, beside, followedBy}
-use Rattle.rules_tick.specs.Arrival.{arrived, largestOf, lateEvent}
+use Rattle.rules_tick.specs.Lags.{arrived, largestOf}
+use Rattle.rules_tick.specs.LateEvents.{lateEvent}
 use Rattle.rules_tick.specs.AutoDelay.{autoDelayed}
 use Rattle.rules_tick.specs.declared.Look.{Look}
 use Rattle.rules_tick.specs.Looks.{lookAt, lagsOf}
@@ -27,9 +27,9 @@ heard i look lags time s l = followedBy (arrived i time lags s l) (λ z m. silen
 -- "then Waiting opens, Running or Stalled watches"
 unfoldable pub looked : (i : ℕ) (look : Look) (time : ℕ) (s : Inputs) → Done
 looked i look time s =
-    pick (eqb (stateNumber (slotAt s i .state)) 1)
+    pick (isWaiting (slotAt s i .state))
     (tryOpenOf s i time (look .world))
-    (pick (leb 2 (stateNumber (slotAt s i .state))) (watchOf s i time (look .seen) (look .world)) (quiet s))
+    (pick (isOpen (slotAt s i .state)) (watchOf s i time (look .seen) (look .world)) (quiet s))
 
 -- "then `auto_delay`"
 unfoldable pub tickedInput : (i : ℕ) (look : Look) (lags : List ℕ) (time : ℕ) (s : Inputs) (l : Lists) → Effect

@@ -4,7 +4,7 @@ use mathlib.Core.Bool.{true}
 use mathlib.Core.Path.{_≡_}
 use mathlib.Core.List.{List}
 use lib.ListN.{length}
-use Rattle.base.specs.Limits.{timeLimit}
+use Rattle.base.specs.Limits.{timeLimit, counterLimit}
 use Rattle.rules_window.specs.Checks.{roomFor}
 use Rattle.rules_record.specs.declared.Inputs.{Inputs}
 use Rattle.rules_record.specs.Inputs.{slotAt}
@@ -27,9 +27,9 @@ pub record InputAsked (s : Inputs) (l : Lists) (i : ℕ) (look : Look) (lags tim
   pub ready : Ready s l i
   pub room : roomFor time lags (windowOf s l i) ≡ true
   pub applied : look .applied ≤ s .policy .«delay_max»
-  pub reopens : slotAt s i .reopens < 9_223_372_036_854_775_808
-  pub changes : slotAt s i .«delay_changes» < 9_223_372_036_854_775_808
-  pub lates : slotAt s i .«late_events» < 9_223_372_036_854_775_808
+  pub reopens : slotAt s i .reopens < counterLimit
+  pub changes : slotAt s i .«delay_changes» < counterLimit
+  pub lates : slotAt s i .«late_events» < counterLimit
 
 -- all inputs before a tick: 8, 10 of the number of lags, and each input
 pub record InputsAsked (s : Inputs) (l : Lists) (looks : List Look) (lags : List ℕ) (time : ℕ) : Type 0 where

@@ -14,7 +14,7 @@ use Rattle.base.proofs.Choices.{by-bool, by-le}
 use Rattle.base.proofs.Patch.{part-at}
 use Rattle.base.proofs.Points.{blank-at, blank-intro, past-end, sum-zero, sum-at-le}
 use Rattle.base.proofs.Tests.{not-both}
-use Rattle.rules_window.specs.Whole.{summed}
+use Rattle.rules_window.specs.WholeWindow.{summed}
 
 -- a part of a list has the sum 0 exactly where it is blank
 module _ (a n : ℕ) (xs : List ℕ) where

@@ -11,10 +11,10 @@ use Rattle.base.specs.Choice.{both, ask}
 use Rattle.base.specs.Lists.{padded, sum, all, blankFrom, sumFrom}
 use Rattle.base.specs.Rows.{apart, upTo}
 use Rattle.doubles.specs.Doubles.{ceilOf}
-use Rattle.doubles.specs.Quantile.{placeOf}
+use Rattle.doubles.specs.Quantile.{targetOf}
 use Rattle.rules_window.specs.declared.Quantile.the-variants.{End, None, Refused}
 use Rattle.rules_window.specs.Window.{Window, windowed, bucketsOf, fresh, cleared, inUse, laid, opened, dropped, bucketOf, counted, pushed, pushedAll}
-use Rattle.rules_window.specs.Whole.{summed, wholeWindow}
+use Rattle.rules_window.specs.WholeWindow.{summed, wholeWindow}
 use Rattle.rules_window.specs.Quantile.{column, within, running, reach, quantileIn, quantileUpto, quantileOf}
 use Rattle.rules_window.specs.Parts.{placed}
 use Rattle.rules_window.specs.Checks.{checked, fromZeroToOne, newNumber, quantileNumber, newReply, spanReply, answered, quantileReply, numberOf, valueOf}
@@ -67,7 +67,7 @@ span-to-the-newest = refl
 
 -- "quantiles .. without limit": a lag of 9,600 counts, and one far beyond the last bucket, which ends at 212 times 48
 pub quantile-without-limit : quantileOf one (after (9600 ∷ [])) ∷ quantileOf one (after (1000000 ∷ [])) ∷ [] ≡ End 9648 ∷ End 10176 ∷ []
-unfolding padded sum bucketsOf fresh inUse laid opened dropped counted pushed pushedAll column within running reach quantileIn placeOf ceilOf round mul ofInt
+unfolding padded sum bucketsOf fresh inUse laid opened dropped counted pushed pushedAll column within running reach quantileIn targetOf ceilOf round mul ofInt
 quantile-without-limit = refl
 
 -- the call `quantile`, where its checks let it through, answers that one
@@ -77,7 +77,7 @@ quantile-call-without-limit q w e = ap (λ (n : ℕ). answered n (quantileOf q w
 
 -- "Total 0: none": no lag at all, or none up to the limit
 pub quantile-of-none : quantileOf one (after []) ∷ quantileUpto one 9599 (after (9600 ∷ [])) ∷ [] ≡ None ∷ None ∷ []
-unfolding padded sum bucketsOf fresh inUse laid opened dropped counted pushed pushedAll column within running reach quantileIn placeOf ceilOf round mul ofInt
+unfolding padded sum bucketsOf fresh inUse laid opened dropped counted pushed pushedAll column within running reach quantileIn targetOf ceilOf round mul ofInt
 quantile-of-none = refl
 
 -- 14: "Is q from 0 to 1?": the double after 1, 2 and NaN are not

@@ -11,11 +11,10 @@ use lib.Seq.{getD-drop, drop-append-le, length-take-le}
 use Rattle.base.specs.Choice.{pick}
 use Rattle.base.specs.Lists.{padded, shifted}
 use Rattle.base.proofs.Points.{shifted-at}
-use Rattle.base.proofs.Pads.{getD-padded, padded-push, shifted-padded, take-padded}
+use Rattle.base.proofs.Pads.{getD-padded, padded-push, shifted-padded, take-padded, padded-take, padded-zeros, padded-bumped}
 use Rattle.base.proofs.Flat.{row-le, flat-lt}
 use Rattle.rules_window.specs.Window.{Window, inUse, laid, opens, added, opened, stale, without, dropped, bucketOf, counted, pushed}
 use Rattle.rules_window.specs.InPlace.{droppedInPlace, openedInPlace, pushedInPlace}
-use Rattle.rules_window.proofs.Padding.{padded-take, padded-zeros, padded-bumped}
 use Rattle.rules_window.proofs.Stales.{stale-le}
 use Rattle.rules_window.proofs.WholeAt.{Whole}
 use Rattle.rules_window.proofs.Keeps.{dropped-whole, opens-dropped, open-fits, near, opened-pos, bucket-lt}

@@ -12,13 +12,14 @@ use lib.ListN.{length, getD, set, length-set}
 use lib.Seq.{getD-set-same, getD-set-other}
 use Rattle.base.specs.Choice.{pick}
 use Rattle.base.specs.Lists.{shifted, bumped, sumFrom, rowSum}
+use Rattle.base.specs.Limits.{nanos, timeLimit, windowReach}
 use Rattle.base.proofs.Points.{shifted-at, sum-cong, sum-bump, row-shifted}
 use Rattle.base.proofs.Toward.{shifted-length}
 use Rattle.base.proofs.Flat.{row-le, flat-lt}
 use Rattle.rules_window.specs.Window.{Window, stale, opens, bucketOf, counted}
 use Rattle.rules_window.specs.InPlace.{shiftedBy, droppedInPlace, openedInPlace, pushedInPlace}
 use Rattle.rules_window.specs.Checks.{newestOf, newest}
-use Rattle.rules_window.proofs.Stales.{stale-le, stale-old, stale-next}
+use Rattle.rules_window.proofs.Stales.{stale-le, stale-old, stale-next, opens-used}
 use Rattle.rules_window.proofs.WholeAt.{Whole, later, span-ends, span-le, blank-row}
 
 -- ---- seconds go
@@ -30,7 +31,7 @@ drop-whole w h k l =
       lt = shifted-length k (w .totals) ∙ h .lt;
       lc = shifted-length (k * w .buckets) (w .counts) ∙ h .lc;
       gap = λ i g. rw (shifted-at k (w .starts) (i + 1), shifted-at k (w .starts) i, ← add-assoc k i 1) (h .gap (k + i) (omega arith));
-      span = span-le (w .seconds - k) (shifted k (w .starts)) 10000000000 ends;
+      span = span-le (w .seconds - k) (shifted k (w .starts)) windowReach ends;
       early = λ i g. rw (shifted-at k (w .starts) i) (h .early (k + i) (omega arith));
       small = λ i g. rw (shifted-at k (w .totals) i) (h .small (k + i) (omega arith));
       sums = λ i g. row-shifted (w .buckets) k (w .counts) i ∙ (h .sums (k + i) (omega arith) ∙ sym (shifted-at k (w .totals) i));
@@ -39,7 +40,7 @@ drop-whole w h k l =
       blankC = λ i g. shifted-at (k * w .buckets) (w .counts) i ∙ h .blankC (k * w .buckets + i) (place i g);
     }
   where
-    ends : 0 < w .seconds - k → getD (shifted k (w .starts)) (w .seconds - k - 1) 0 - getD (shifted k (w .starts)) 0 0 ≤ 10000000000
+    ends : 0 < w .seconds - k → getD (shifted k (w .starts)) (w .seconds - k - 1) 0 - getD (shifted k (w .starts)) 0 0 ≤ windowReach
     ends g =
         let q : k + (w .seconds - k - 1) ≡ w .seconds - 1 = omega arith in
         rw (shifted-at k (w .starts) (w .seconds - k - 1), shifted-at k (w .starts) 0, q, add-zero k)
@@ -55,7 +56,7 @@ unfolding droppedInPlace
 dropped-whole t w h = drop-whole w h (stale t (w .seconds) (w .starts)) (stale-le t (w .seconds) (w .starts))
 
 -- ---- a second opens
-pub opens-old : (t n : ℕ) (xs : List ℕ) → opens t n xs ≡ true → 0 < n → 1000000000 ≤ t - getD xs (n - 1) 0
+pub opens-old : (t n : ℕ) (xs : List ℕ) → opens t n xs ≡ true → 0 < n → nanos ≤ t - getD xs (n - 1) 0
 opens-old t zero xs h l = absurd (not-suc-le-zero l)
 opens-old t (suc n) xs h l = let q : suc n - 1 ≡ n = omega arith in rw q (leb-true _ _ h)
 
@@ -65,7 +66,7 @@ below-or i n l = eq-or-lt-of-le (omega arith)
 abbrev appended : ℕ → Window → Window
 appended t w = record { seconds = w .seconds + 1; buckets = w .buckets; width = w .width; starts = set (w .starts) (w .seconds) t; totals = w .totals; counts = w .counts }
 
-module _ (t : ℕ) (w : Window) (h : Whole w) (o : opens t (w .seconds) (w .starts) ≡ true) (room : w .seconds < 11) (soon : t ≤ 4000000000000000000) (near : 0 < w .seconds → t - getD (w .starts) 0 0 ≤ 10000000000) where
+module _ (t : ℕ) (w : Window) (h : Whole w) (o : opens t (w .seconds) (w .starts) ≡ true) (room : w .seconds < 11) (soon : t ≤ timeLimit) (near : 0 < w .seconds → t - getD (w .starts) 0 0 ≤ windowReach) where
   new-at : getD (set (w .starts) (w .seconds) t) (w .seconds) 0 ≡ t
   new-at = getD-set-same (w .starts) (w .seconds) t 0 (omega (arith, h .ls))
 
@@ -75,24 +76,24 @@ module _ (t : ℕ) (w : Window) (h : Whole w) (o : opens t (w .seconds) (w .star
   at-new : (i : ℕ) → i ≡ w .seconds → getD (set (w .starts) (w .seconds) t) i 0 ≡ t
   at-new i e = rw e new-at
 
-  append-gap : (i : ℕ) → i + 1 < w .seconds + 1 → 1000000000 ≤ getD (set (w .starts) (w .seconds) t) (i + 1) 0 - getD (set (w .starts) (w .seconds) t) i 0
+  append-gap : (i : ℕ) → i + 1 < w .seconds + 1 → nanos ≤ getD (set (w .starts) (w .seconds) t) (i + 1) 0 - getD (set (w .starts) (w .seconds) t) i 0
   append-gap i g = ⊎-elim last inner (below-or (i + 1) (w .seconds) g)
     where
-      last : i + 1 ≡ w .seconds → 1000000000 ≤ getD (set (w .starts) (w .seconds) t) (i + 1) 0 - getD (set (w .starts) (w .seconds) t) i 0
+      last : i + 1 ≡ w .seconds → nanos ≤ getD (set (w .starts) (w .seconds) t) (i + 1) 0 - getD (set (w .starts) (w .seconds) t) i 0
       last q =
           let p : w .seconds - 1 ≡ i = omega arith in
           rw (at-new (i + 1) q, old-at i (λ z. omega arith)) (rw p at (opens-old t (w .seconds) (w .starts) o (omega arith)))
 
-      inner : i + 1 < w .seconds → 1000000000 ≤ getD (set (w .starts) (w .seconds) t) (i + 1) 0 - getD (set (w .starts) (w .seconds) t) i 0
+      inner : i + 1 < w .seconds → nanos ≤ getD (set (w .starts) (w .seconds) t) (i + 1) 0 - getD (set (w .starts) (w .seconds) t) i 0
       inner l = rw (old-at (i + 1) (λ z. omega arith), old-at i (λ z. omega arith)) (h .gap i l)
 
-  append-span : 0 < w .seconds + 1 → getD (set (w .starts) (w .seconds) t) (w .seconds + 1 - 1) 0 - getD (set (w .starts) (w .seconds) t) 0 0 ≤ 10000000000
+  append-span : 0 < w .seconds + 1 → getD (set (w .starts) (w .seconds) t) (w .seconds + 1 - 1) 0 - getD (set (w .starts) (w .seconds) t) 0 0 ≤ windowReach
   append-span g = let q : w .seconds + 1 - 1 ≡ w .seconds = omega arith in rw (q, new-at) (⊎-elim none some (eq-or-lt-of-le (omega arith)))
     where
-      none : 0 ≡ w .seconds → t - getD (set (w .starts) (w .seconds) t) 0 0 ≤ 10000000000
+      none : 0 ≡ w .seconds → t - getD (set (w .starts) (w .seconds) t) 0 0 ≤ windowReach
       none z = rw (at-new 0 z) (omega arith)
 
-      some : 0 < w .seconds → t - getD (set (w .starts) (w .seconds) t) 0 0 ≤ 10000000000
+      some : 0 < w .seconds → t - getD (set (w .starts) (w .seconds) t) 0 0 ≤ windowReach
       some l = rw (old-at 0 (λ z. omega arith)) (near l)
 
   pub append-whole : Whole (appended t w)
@@ -103,7 +104,7 @@ module _ (t : ℕ) (w : Window) (h : Whole w) (o : opens t (w .seconds) (w .star
         lt = h .lt;
         lc = h .lc;
         gap = append-gap;
-        span = span-le (w .seconds + 1) (set (w .starts) (w .seconds) t) 10000000000 append-span;
+        span = span-le (w .seconds + 1) (set (w .starts) (w .seconds) t) windowReach append-span;
         early = λ i g. ⊎-elim (λ e. rw (at-new i e) soon) (λ l. rw (old-at i (λ z. omega arith)) (h .early i l)) (below-or i (w .seconds) g);
         small = λ i g. ⊎-elim (λ e. omega (arith, h .blankT i (omega arith))) (λ l. h .small i l) (below-or i (w .seconds) g);
         sums = λ i g. ⊎-elim (λ e. blank-row w h i (omega arith) ∙ sym (h .blankT i (omega arith))) (λ l. h .sums i l) (below-or i (w .seconds) g);
@@ -121,13 +122,13 @@ unfolding openedInPlace
 opened-no-is t w o = rw o
 
 -- there is room for a second that opens: eleven seconds in use reach back 10 s, and one more would make 11 s
-pub open-fits : (t : ℕ) (w : Window) → Whole w → (0 < w .seconds → t - getD (w .starts) 0 0 ≤ 10000000000) → opens t (w .seconds) (w .starts) ≡ true → w .seconds < 11
+pub open-fits : (t : ℕ) (w : Window) → Whole w → (0 < w .seconds → t - getD (w .starts) 0 0 ≤ windowReach) → opens t (w .seconds) (w .starts) ≡ true → w .seconds < 11
 open-fits t w h near o = ⊎-elim full (λ l. l) (eq-or-lt-of-le (h .few))
   where
     full : w .seconds ≡ 11 → w .seconds < 11
     full e = omega (arith, near (omega arith), opens-old t (w .seconds) (w .starts) o (omega arith), later w h 0 (w .seconds - 1) (omega arith) (omega arith))
 
-pub opened-whole : (t : ℕ) (w : Window) → Whole w → t ≤ 4000000000000000000 → (0 < w .seconds → t - getD (w .starts) 0 0 ≤ 10000000000) → Whole (openedInPlace t w)
+pub opened-whole : (t : ℕ) (w : Window) → Whole w → t ≤ timeLimit → (0 < w .seconds → t - getD (w .starts) 0 0 ≤ windowReach) → Whole (openedInPlace t w)
 opened-whole t w h soon near = go (opens t (w .seconds) (w .starts)) refl
   where
     go : (b : Bool) → opens t (w .seconds) (w .starts) ≡ b → Whole (openedInPlace t w)
@@ -215,12 +216,12 @@ opens-dropped t zero xs = refl
 opens-dropped t (suc n) xs = go (suc n - stale t (suc n) xs) refl
   where
     go : (m : ℕ) → suc n - stale t (suc n) xs ≡ m → opens t m (shifted (stale t (suc n) xs) xs) ≡ opens t (suc n) xs
-    go zero e = sym (le-leb 1000000000 (t - getD xs n 0) (omega (arith, stale-old t (suc n) xs n (omega arith))))
+    go zero e = sym (le-leb nanos (t - getD xs n 0) (omega (arith, stale-old t (suc n) xs n (omega arith))))
     go (suc m) e =
         let q : stale t (suc n) xs + m ≡ n = omega (arith, stale-le t (suc n) xs) in
         rw (shifted-at (stale t (suc n) xs) xs m, q)
 
-pub near : (t : ℕ) (w : Window) → Whole w → 0 < (droppedInPlace t w) .seconds → t - getD ((droppedInPlace t w) .starts) 0 0 ≤ 10000000000
+pub near : (t : ℕ) (w : Window) → Whole w → 0 < (droppedInPlace t w) .seconds → t - getD ((droppedInPlace t w) .starts) 0 0 ≤ windowReach
 unfolding droppedInPlace
 near t w h l =
     let k : ℕ = stale t (w .seconds) (w .starts) in
@@ -233,14 +234,10 @@ room-dropped t w m pos h = rw (opens-dropped t (w .seconds) (w .starts)) (go (op
     k : ℕ
     k = stale t (w .seconds) (w .starts)
 
-    used : (n : ℕ) (xs : List ℕ) → opens t n xs ≡ false → 0 < n
-    used zero xs e = let z : _≡_ {A = ℕ} 0 1 = cc in omega arith
-    used (suc n) xs e = omega arith
-
     go : (b : Bool) → opens t (w .seconds) (w .starts) ≡ b → pick b 0 (getD (w .totals) (w .seconds - 1) 0) < m → pick b 0 (getD (shifted k (w .totals)) (w .seconds - k - 1) 0) < m
     go true e g = pos
     go false e g =
-        let u : 0 < w .seconds - k = used (w .seconds - k) (shifted k (w .starts)) (opens-dropped t (w .seconds) (w .starts) ∙ e) in
+        let u : 0 < w .seconds - k = opens-used t (w .seconds - k) (shifted k (w .starts)) (opens-dropped t (w .seconds) (w .starts) ∙ e) in
         let q : k + (w .seconds - k - 1) ≡ w .seconds - 1 = omega arith in
         rw (shifted-at k (w .totals) (w .seconds - k - 1), q) g
 
@@ -262,9 +259,9 @@ opened-pos t w = go (w .seconds)
 
     go : (n : ℕ) → 0 < pick (opens t n (w .starts)) (n + 1) n
     go zero = omega arith
-    go (suc n) = some (leb 1000000000 (t - getD (w .starts) n 0)) n
+    go (suc n) = some (leb nanos (t - getD (w .starts) n 0)) n
 
-pub pushed-whole : (lag t : ℕ) (w : Window) → Whole w → 0 < w .buckets → t ≤ 4000000000000000000 → newest t w < 4294967295 → Whole (pushedInPlace lag t w)
+pub pushed-whole : (lag t : ℕ) (w : Window) → Whole w → 0 < w .buckets → t ≤ timeLimit → newest t w < 4294967295 → Whole (pushedInPlace lag t w)
 unfolding pushedInPlace droppedInPlace openedInPlace
 pushed-whole lag t w h some soon room =
     let p : Whole (droppedInPlace t w) = dropped-whole t w h in

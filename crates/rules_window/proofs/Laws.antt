@@ -22,8 +22,9 @@ use Rattle.rules_window.specs.declared.Quantile.the-variants.{End, None}
 use Rattle.rules_window.specs.declared.Found.{Found}
 use Rattle.rules_window.specs.declared.Found.the-variants.{At, Nowhere}
 use Rattle.base.specs.Rows.{spanOf}
+use Rattle.base.specs.Limits.{nanos, timeLimit, widthLimit, windowReach}
 use Rattle.rules_window.specs.Window.{Window, fresh, cleared, opens, counted, pushed, pushedAll}
-use Rattle.rules_window.specs.Whole.{Shaped, Sound}
+use Rattle.rules_window.specs.WholeWindow.{Shaped, Sound}
 use Rattle.rules_window.specs.InPlace.{droppedInPlace, openedInPlace, pushedInPlace}
 use Rattle.rules_window.specs.Checks.{newest, newestOf, roomFor, quantileNumber, quantileUptoReply, answered, numberOf, valueOf}
 use Rattle.rules_window.specs.Quantile.{column, within, running, reach, endOf, quantileIn, quantileUpto, lagsIn, totalUpto, Placeable}
@@ -34,7 +35,7 @@ use Rattle.rules_window.proofs.Reaching.{running-none, found-below}
 use Rattle.rules_window.proofs.Ticks.{newest-pushed, push-keeps-sound}
 
 -- ---- a fresh window is sound
-pub fresh-sound : (B W : ℕ) → 1 ≤ W → W ≤ 4800 → 2 ≤ B → B ≤ 4096 → Sound (fresh B W)
+pub fresh-sound : (B W : ℕ) → 1 ≤ W → W ≤ widthLimit → 2 ≤ B → B ≤ 4096 → Sound (fresh B W)
 unfolding fresh
 fresh-sound B W wl wh bl bh =
     record {
@@ -86,7 +87,7 @@ room-without-lags time w s = le-leb (newest time w + 0) 4294967295 (go (opens ti
     go true = omega arith
     go false = omega (arith, small)
 
-module _ (time : ℕ) (soon : time ≤ 4000000000000000000) where
+module _ (time : ℕ) (soon : time ≤ timeLimit) where
   -- room for one lag more than the others leaves room for these
   next-room : (lag more : ℕ) (w : Window) → Sound w → roomFor time (suc more) w ≡ true → (newest time w < 4294967295) × (roomFor time more (pushed lag time w) ≡ true)
   next-room lag more w s r =
@@ -115,28 +116,28 @@ module _ (time : ℕ) (soon : time ≤ 4000000000000000000) where
 
 -- ---- after a tick's lags every second is at most 10 s old
 abbrev pub Recent : ℕ → Window → Type 0
-Recent time w = (i : ℕ) → i < w .seconds → time - getD (w .starts) i 0 ≤ 10000000000
+Recent time w = (i : ℕ) → i < w .seconds → time - getD (w .starts) i 0 ≤ windowReach
 
-opened-near : (t : ℕ) (w : Window) → Whole w → (0 < w .seconds → t - getD (w .starts) 0 0 ≤ 10000000000) → t - getD ((openedInPlace t w) .starts) 0 0 ≤ 10000000000
+opened-near : (t : ℕ) (w : Window) → Whole w → (0 < w .seconds → t - getD (w .starts) 0 0 ≤ windowReach) → t - getD ((openedInPlace t w) .starts) 0 0 ≤ windowReach
 opened-near t w h near = by-bool (opens t (w .seconds) (w .starts)) yes no
   where
-    first : t - getD (set (w .starts) (w .seconds) t) 0 0 ≤ 10000000000
+    first : t - getD (set (w .starts) (w .seconds) t) 0 0 ≤ windowReach
     first =
         by-le 1 (w .seconds) (λ l. rw (getD-set-other (w .starts) (w .seconds) 0 t 0 (λ z. omega arith)) (near l))
         (λ l. let z : w .seconds ≡ 0 = omega arith in rw (z, getD-set-same (w .starts) 0 t 0 (omega (arith, h .ls))) (omega arith))
 
-    yes : opens t (w .seconds) (w .starts) ≡ true → t - getD ((openedInPlace t w) .starts) 0 0 ≤ 10000000000
-    yes o = subst (λ (v : Window). t - getD (v .starts) 0 0 ≤ 10000000000) (sym (opened-yes-is t w o)) first
+    yes : opens t (w .seconds) (w .starts) ≡ true → t - getD ((openedInPlace t w) .starts) 0 0 ≤ windowReach
+    yes o = subst (λ (v : Window). t - getD (v .starts) 0 0 ≤ windowReach) (sym (opened-yes-is t w o)) first
 
     none : w .seconds ≡ 0 → opens t (w .seconds) (w .starts) ≡ true
     none z = rw z
 
-    no : opens t (w .seconds) (w .starts) ≡ false → t - getD ((openedInPlace t w) .starts) 0 0 ≤ 10000000000
+    no : opens t (w .seconds) (w .starts) ≡ false → t - getD ((openedInPlace t w) .starts) 0 0 ≤ windowReach
     no o =
-        subst (λ (v : Window). t - getD (v .starts) 0 0 ≤ 10000000000) (sym (opened-no-is t w o))
+        subst (λ (v : Window). t - getD (v .starts) 0 0 ≤ windowReach) (sym (opened-no-is t w o))
         (by-le 1 (w .seconds) near (λ l. let p = none (omega arith) in let z : _≡_ {A = ℕ} 0 1 = cc in absurd (omega arith)))
 
-pub push-recent : (lag t : ℕ) (w : Window) → Sound w → t ≤ 4000000000000000000 → Recent t (pushed lag t w)
+pub push-recent : (lag t : ℕ) (w : Window) → Sound w → t ≤ timeLimit → Recent t (pushed lag t w)
 unfolding pushedInPlace counted
 push-recent lag t w s soon = subst (Recent t) (in-place lag t w h (omega (arith, s .shaped .buckets-low))) recent
   where
@@ -151,7 +152,7 @@ push-recent lag t w s soon = subst (Recent t) (in-place lag t w h (omega (arith,
         let o : Whole v = opened-whole t (droppedInPlace t w) (dropped-whole t w h) soon (near t w h) in
         omega (arith, later v o 0 i (omega arith) l, opened-near t (droppedInPlace t w) (dropped-whole t w h) (near t w h))
 
-pub lags-recent : (t : ℕ) → t ≤ 4000000000000000000 → (lag : ℕ) (lags : List ℕ) (w : Window) → Sound w → roomFor t (length (lag ∷ lags)) w ≡ true → Recent t (pushedAll t (lag ∷ lags) w)
+pub lags-recent : (t : ℕ) → t ≤ timeLimit → (lag : ℕ) (lags : List ℕ) (w : Window) → Sound w → roomFor t (length (lag ∷ lags)) w ≡ true → Recent t (pushedAll t (lag ∷ lags) w)
 unfolding pushedAll
 lags-recent t soon lag [] w s r = push-recent lag t w s soon
 lags-recent t soon lag (next ∷ lags) w s r =
@@ -159,7 +160,7 @@ lags-recent t soon lag (next ∷ lags) w s r =
     lags-recent t soon next lags (pushed lag t w) (push-keeps-sound lag t w s soon (h .0)) (h .1)
 
 -- ---- the span after two seconds is at least 1 s, and 0 before
-pub span-of-two : (w : Window) → Sound w → 2 ≤ w .seconds → 1000000000 ≤ spanOf (w .seconds) (w .starts)
+pub span-of-two : (w : Window) → Sound w → 2 ≤ w .seconds → nanos ≤ spanOf (w .seconds) (w .starts)
 span-of-two w s l =
     let h : Whole w = whole-of w s in
     omega (arith, span-ends (w .seconds) (w .starts) (omega arith), later w h 0 (w .seconds - 1) (omega arith) (omega arith))
@@ -222,7 +223,7 @@ module _ (q : Float) (limit : ℕ) (w : Window) where
       total = totalUpto limit w
 
       target : ℕ
-      target = places.placeOf total q
+      target = places.targetOf total q
 
       at : ℕ → ℕ
       at b = running limit (w .width) (w .buckets) (w .seconds) (w .counts) b
@@ -262,8 +263,8 @@ module _ (q : Float) (limit : ℕ) (w : Window) where
       let one : 1 ≤ totalUpto limit w = total-some b h in
       let all : 0 + suc (w .buckets - 1) ≡ w .buckets = omega (arith, h .inside) in
       let last : suc (w .buckets - 1) ≡ w .buckets = omega (arith, h .inside) in
-      let found = found-some limit (w .width) (w .buckets) (w .seconds) (w .counts) (places.placeOf (totalUpto limit w) q) (w .buckets - 1) 0 (rw all (place-at-most (totalUpto limit w) q one p)) in
-      let is : reach (places.placeOf (totalUpto limit w) q) limit (w .width) (w .buckets) (w .seconds) (w .counts) (w .buckets) 0 ≡ At (found .0) = ap (λ (d : ℕ). reach (places.placeOf (totalUpto limit w) q) limit (w .width) (w .buckets) (w .seconds) (w .counts) d 0) (sym last) ∙ found .1 in
+      let found = found-some limit (w .width) (w .buckets) (w .seconds) (w .counts) (places.targetOf (totalUpto limit w) q) (w .buckets - 1) 0 (rw all (place-at-most (totalUpto limit w) q one p)) in
+      let is : reach (places.targetOf (totalUpto limit w) q) limit (w .width) (w .buckets) (w .seconds) (w .counts) (w .buckets) 0 ≡ At (found .0) = ap (λ (d : ℕ). reach (places.targetOf (totalUpto limit w) q) limit (w .width) (w .buckets) (w .seconds) (w .counts) d 0) (sym last) ∙ found .1 in
       ((found .0 + 1) * w .width, rw (ne-eqb (totalUpto limit w) 0 (λ z. omega arith), is))
 
   -- and is none exactly where none does
@@ -276,7 +277,7 @@ module _ (q : Float) (limit : ℕ) (w : Window) where
 
   pub quantile-cases : (quantileUpto q limit w ≡ None) ⊎ ((e : ℕ) × (quantileUpto q limit w ≡ End e))
   unfolding quantileIn
-  quantile-cases = go (eqb (totalUpto limit w) 0) (reach (places.placeOf (totalUpto limit w) q) limit (w .width) (w .buckets) (w .seconds) (w .counts) (w .buckets) 0)
+  quantile-cases = go (eqb (totalUpto limit w) 0) (reach (places.targetOf (totalUpto limit w) q) limit (w .width) (w .buckets) (w .seconds) (w .counts) (w .buckets) 0)
     where
       go : (y : Bool) (f : Found) → (pick y None (endOf (w .width) f) ≡ None) ⊎ ((e : ℕ) × (pick y None (endOf (w .width) f) ≡ End e))
       go true f = inl refl

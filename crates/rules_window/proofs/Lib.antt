@@ -6,7 +6,6 @@ pub mod InUse
 pub mod Keeps
 pub mod Laws
 pub mod Numbers
-pub mod Padding
 pub mod Parting
 pub mod Reaching
 pub mod Stales
@@ -15,3 +14,4 @@ pub mod Ticks
 pub mod Totals
 pub mod WholeAt
 pub mod Wholes
+pub mod Thousandths

@@ -5,7 +5,6 @@ use mathlib.Core.Path.{_≡_, refl, sym, ap, _∙_}
 use mathlib.Core.List.{List}
 use native.Mathlib.Omega.{arith}
 use borrow.Author.Tests.{le-leb, lt-leb, eq-eqb, ne-eqb, leb-true, eqb-true, not-true, not-false}
-use lib.Dec.{T}
 use lib.Ieee.{Float}
 use lib.ListN.{length}
 use Rattle.base.specs.Choice.{ask}
@@ -14,12 +13,14 @@ use Rattle.base.proofs.Points.{both-true}
 use Rattle.rules_window.specs.declared.Quantile.{Quantile}
 use Rattle.rules_window.specs.declared.Quantile.the-variants.{Refused}
 use Rattle.base.specs.Rows.{spanOf}
+use Rattle.base.specs.Limits.{samplesLimit, timeLimit, widthLimit}
 use Rattle.rules_window.specs.Window.{Window, windowed, bucketsOf, fresh, cleared, pushed}
-use Rattle.rules_window.specs.Whole.{wholeWindow, Shaped, Sound}
+use Rattle.rules_window.specs.WholeWindow.{wholeWindow, Shaped, Sound}
 use Rattle.rules_window.specs.Quantile.{quantileUpto, Placeable, ShortRows}
 use Rattle.rules_window.specs.Checks.{checked, newest, roomFor, fromZeroToOne, newNumber, pushNumber, quantileNumber, replied, nothing, newReply, pushReply, clearReply, spanReply, answered, quantileUptoReply}
 use Rattle.rules_window.proofs.WholeAt.{whole-of}
 use Rattle.rules_window.proofs.Totals.{total-few, rows-short}
+use Rattle.doubles.proofs.Values.{is}
 
 pub ruleset gate = (le-leb, lt-leb, eq-eqb, ne-eqb)
 
@@ -86,7 +87,7 @@ module _ (w : Window) (n : ℕ) (e : n ≡ checked w 0) where
   checked-sound z = passed w 0 (sym e ∙ z) .0
 
 -- ---- what `new` was asked
-pub new-settings : (offset maximum width a b c n : ℕ) → n ≡ newNumber offset maximum width a b c → n ≡ 0 → (offset ≤ 96000) × (maximum ≤ 96000) × (1 ≤ width)
+pub new-settings : (offset maximum width a b c n : ℕ) → n ≡ newNumber offset maximum width a b c → n ≡ 0 → (offset ≤ samplesLimit) × (maximum ≤ samplesLimit) × (1 ≤ width)
 unfolding newNumber
 new-settings offset maximum width a b c n e z =
     let p = asked _ _ _ (sym e ∙ z) in
@@ -174,22 +175,22 @@ module _ (time : ℕ) (w : Window) (n : ℕ) (e : n ≡ checked w 0) where
   unfolding pushNumber
   push-stops h = checked-stops w n e _ h
 
-  pub push-late : n ≡ 0 → 4000000000000000000 < time → 8 ≡ pushNumber time w
+  pub push-late : n ≡ 0 → timeLimit < time → 8 ≡ pushNumber time w
   unfolding pushNumber
-  push-late z h = sym (checked-goes w n e _ z ∙ no-ask 8 _ (lt-leb time 4000000000000000000 h))
+  push-late z h = sym (checked-goes w n e _ z ∙ no-ask 8 _ (lt-leb time timeLimit h))
 
-  pub push-full : (r : Bool) → n ≡ 0 → time ≤ 4000000000000000000 → r ≡ roomFor time 1 w → not r ≡ true → 11 ≡ pushNumber time w
+  pub push-full : (r : Bool) → n ≡ 0 → time ≤ timeLimit → r ≡ roomFor time 1 w → not r ≡ true → 11 ≡ pushNumber time w
   unfolding pushNumber
-  push-full r z h er hr = sym (checked-goes w n e _ z ∙ (yes-ask 8 _ (le-leb time 4000000000000000000 h) ∙ no-ask 11 0 (sym er ∙ not-true r hr)))
+  push-full r z h er hr = sym (checked-goes w n e _ z ∙ (yes-ask 8 _ (le-leb time timeLimit h) ∙ no-ask 11 0 (sym er ∙ not-true r hr)))
 
-  pub push-passes : (r : Bool) → n ≡ 0 → time ≤ 4000000000000000000 → r ≡ roomFor time 1 w → not r ≡ false → 0 ≡ pushNumber time w
+  pub push-passes : (r : Bool) → n ≡ 0 → time ≤ timeLimit → r ≡ roomFor time 1 w → not r ≡ false → 0 ≡ pushNumber time w
   unfolding pushNumber
-  push-passes r z h er hr = sym (checked-goes w n e _ z ∙ (yes-ask 8 _ (le-leb time 4000000000000000000 h) ∙ yes-ask 11 0 (sym er ∙ not-false r hr)))
+  push-passes r z h er hr = sym (checked-goes w n e _ z ∙ (yes-ask 8 _ (le-leb time timeLimit h) ∙ yes-ask 11 0 (sym er ∙ not-false r hr)))
 
   pub room-asks : n ≡ 0 → (w .seconds ≤ length (w .starts)) × (w .seconds ≤ length (w .totals))
   room-asks z = let s = whole-of w (checked-sound w n e z) in (omega (arith, s .few, s .ls), omega (arith, s .few, s .lt))
 
-pub push-asks : (time : ℕ) (w : Window) (n : ℕ) → n ≡ pushNumber time w → n ≡ 0 → (Sound w) × ((time ≤ 4000000000000000000) × (newest time w < 4294967295))
+pub push-asks : (time : ℕ) (w : Window) (n : ℕ) → n ≡ pushNumber time w → n ≡ 0 → (Sound w) × ((time ≤ timeLimit) × (newest time w < 4294967295))
 unfolding pushNumber
 push-asks time w n e z =
     let a = passed w _ (sym e ∙ z) in
@@ -216,11 +217,8 @@ unfolding fromZeroToOne
 sound-placeable q limit w s h =
     let b = both-true _ _ h in
     record { few = total-few limit w s; low = is (b .0); high = is (b .1) }
-  where
-    is : {y : Bool} → y ≡ true → T y
-    is e = rw e tt
 
-pub quantile-asks : (q : Float) (limit : ℕ) (w : Window) (n : ℕ) → n ≡ quantileNumber q w → n ≡ 0 → ((w .seconds ≤ 11) × (w .buckets ≤ 4096) × (1 ≤ w .width) × (w .width ≤ 4800)) × ((length (w .counts) ≡ 11 * w .buckets) × (Placeable q limit w × ShortRows (w .buckets) (w .seconds) (w .counts)))
+pub quantile-asks : (q : Float) (limit : ℕ) (w : Window) (n : ℕ) → n ≡ quantileNumber q w → n ≡ 0 → ((w .seconds ≤ 11) × (w .buckets ≤ 4096) × (1 ≤ w .width) × (w .width ≤ widthLimit)) × ((length (w .counts) ≡ 11 * w .buckets) × (Placeable q limit w × ShortRows (w .buckets) (w .seconds) (w .counts)))
 unfolding quantileNumber
 quantile-asks q limit w n e z =
     let a = passed w _ (sym e ∙ z) in

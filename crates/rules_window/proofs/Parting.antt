@@ -5,25 +5,25 @@ use mathlib.Core.Path.{_≡_, refl, _∙_}
 use mathlib.Core.List.{List, [], _∷_}
 use lib.ListN.{take}
 use Rattle.base.specs.Choice.{pick}
+use Rattle.base.proofs.Patch.{part-long}
 use Rattle.rules_window.specs.Window.{Window, inUse, laid, opens, added, opened, dropped, counted, pushed, pushedAll}
-use Rattle.rules_window.specs.Whole.{wholeWindow, Shaped, Sound}
-use Rattle.rules_window.specs.Parts.{partOf, Held}
-use Rattle.rules_window.proofs.Padding.{part-length}
+use Rattle.rules_window.specs.WholeWindow.{wholeWindow, Shaped, Sound}
+use Rattle.rules_window.specs.Parts.{partOf, PartsIn}
 
 -- what input j holds has the sizes and lengths of a window
-pub held-shaped : (j : ℕ) (w : Window) → Held j w → Shaped (partOf j w)
+pub held-shaped : (j : ℕ) (w : Window) → PartsIn j w → Shaped (partOf j w)
 held-shaped j w h =
     record {
       width-low = h .width-low;
       width-high = h .width-high;
       buckets-low = h .buckets-low;
       buckets-high = h .buckets-high;
-      starts-long = part-length (j * 11) 11 (w .starts) (h .starts-in);
-      totals-long = part-length (j * 11) 11 (w .totals) (h .totals-in);
-      counts-long = part-length (j * (11 * w .buckets)) (11 * w .buckets) (w .counts) (h .counts-in);
+      starts-long = part-long (j * 11) 11 (w .starts) (h .starts-in);
+      totals-long = part-long (j * 11) 11 (w .totals) (h .totals-in);
+      counts-long = part-long (j * (11 * w .buckets)) (11 * w .buckets) (w .counts) (h .counts-in);
     }
 
-pub held-sound : (j : ℕ) (w : Window) → Held j w → wholeWindow (partOf j w) ≡ true → Sound (partOf j w)
+pub held-sound : (j : ℕ) (w : Window) → PartsIn j w → wholeWindow (partOf j w) ≡ true → Sound (partOf j w)
 held-sound j w h e = record { shaped = held-shaped j w h; whole = e }
 
 -- ---- a push keeps a window's sizes

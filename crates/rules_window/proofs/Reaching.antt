@@ -154,10 +154,10 @@ module _ (q : Float) (limit W B n : ℕ) (cs : List ℕ) (t : ℕ) (et : t ≡ r
   unfolding quantileIn
   quantile-none z = simp (← et, eq-eqb _ _ z)
 
-  pub place-asks : places.Quantile (running limit W B n cs B) q → places.Quantile t q
+  pub place-asks : places.TargetAsked (running limit W B n cs B) q → places.TargetAsked t q
   place-asks h = rw et h
 
-  module _ (target : ℕ) (ep : target ≡ places.placeOf t q) (found : Found) (ef : found ≡ reach target limit W B n cs B 0) where
+  module _ (target : ℕ) (ep : target ≡ places.targetOf t q) (found : Found) (ef : found ≡ reach target limit W B n cs B 0) where
     quantile-is : (t ≡ 0 → ⊥) → endOf W found ≡ quantileIn q limit W B n cs
     unfolding quantileIn
     quantile-is z = simp (← et, ne-eqb _ _ z, ← ep, ← ef)

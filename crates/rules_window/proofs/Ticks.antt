@@ -1,28 +1,27 @@
 -- The lags of one tick: each push keeps the window sound, and adds one to the total that check 11 looks at. Assumes nothing.
-use Prim.Native.Nat.{ℕ, zero, suc, _+_, _-_, _<_, _≤_}
+use Prim.Native.Nat.{ℕ, _+_, _-_, _<_, _≤_}
 use mathlib.Core.Bool.{Bool, true, false}
 use mathlib.Core.Path.{_≡_, refl, sym, ap, subst, _∙_}
 use mathlib.Core.List.{List}
 use native.Mathlib.Nat.{sub-self}
 use native.Mathlib.Numerals.{add-one}
 use native.Mathlib.Omega.{arith}
-use borrow.Author.Tests.{leb-true}
+use borrow.Author.Tests.{leb-true, le-leb, eq-eqb}
 use lib.ListN.{length, getD, set, drop, drop-of-length-le}
 use lib.Seq.{getD-set-same, drop-cons}
 use Rattle.base.specs.Choice.{pick}
 use Rattle.base.specs.Lists.{shifted}
+use Rattle.base.specs.Limits.{timeLimit}
 use Rattle.base.proofs.Points.{shifted-at}
+use Rattle.base.proofs.Choices.{yes-ask, accepted-new}
 use Rattle.rules_window.specs.Window.{Window, stale, opens, counted, pushed, pushedAll}
-use Rattle.rules_window.specs.Whole.{Sound}
+use Rattle.rules_window.specs.WholeWindow.{Sound}
 use Rattle.rules_window.specs.InPlace.{droppedInPlace, openedInPlace, pushedInPlace}
-use Rattle.rules_window.specs.Checks.{newestOf, newest, roomFor}
+use Rattle.rules_window.specs.Checks.{newestOf, newest, roomFor, checked, pushNumber, pushReply}
 use Rattle.rules_window.proofs.WholeAt.{Whole, whole-of, of-whole}
 use Rattle.rules_window.proofs.Keeps.{dropped-whole, opened-whole, opens-dropped, open-fits, near, pushed-whole}
 use Rattle.rules_window.proofs.InUse.{in-place}
-
-used : (t n : ℕ) (xs : List ℕ) → opens t n xs ≡ false → 0 < n
-used t zero xs e = let z : _≡_ {A = ℕ} 0 1 = cc in omega arith
-used t (suc n) xs e = omega arith
+use Rattle.rules_window.proofs.Stales.{opens-used}
 
 newest-dropped : (t : ℕ) (w : Window) → newest t (droppedInPlace t w) ≡ newest t w
 unfolding newestOf droppedInPlace
@@ -34,7 +33,7 @@ newest-dropped t w = rw (opens-dropped t (w .seconds) (w .starts)) (go (opens t 
     go : (b : Bool) → opens t (w .seconds) (w .starts) ≡ b → pick b 0 (getD (shifted k (w .totals)) (w .seconds - k - 1) 0) ≡ pick b 0 (getD (w .totals) (w .seconds - 1) 0)
     go true e = refl
     go false e =
-        let u : 0 < w .seconds - k = used t (w .seconds - k) (shifted k (w .starts)) (opens-dropped t (w .seconds) (w .starts) ∙ e) in
+        let u : 0 < w .seconds - k = opens-used t (w .seconds - k) (shifted k (w .starts)) (opens-dropped t (w .seconds) (w .starts) ∙ e) in
         let q : k + (w .seconds - k - 1) ≡ w .seconds - 1 = omega arith in
         rw (shifted-at k (w .totals) (w .seconds - k - 1), q)
 
@@ -55,7 +54,7 @@ opens-not t w f = go (opens t (w .seconds) (w .starts)) refl
     go true e = rw (add-one, getD-set-same (w .starts) (w .seconds) t 0 (f e), sub-self t)
     go false e = e
 
-newest-in-place : (lag t : ℕ) (w : Window) → Whole w → t ≤ 4000000000000000000 → newest t (pushedInPlace lag t w) ≡ newest t w + 1
+newest-in-place : (lag t : ℕ) (w : Window) → Whole w → t ≤ timeLimit → newest t (pushedInPlace lag t w) ≡ newest t w + 1
 unfolding newestOf pushedInPlace counted
 newest-in-place lag t w h soon =
     let p : Whole (droppedInPlace t w) = dropped-whole t w h in
@@ -68,7 +67,7 @@ newest-in-place lag t w h soon =
     (ap (λ (x : ℕ). x + 1) (total-opened t (droppedInPlace t w) p ∙ newest-dropped t w))
 
 -- ---- a push of a sound window
-module _ (lag t : ℕ) (w : Window) (s : Sound w) (soon : t ≤ 4000000000000000000) where
+module _ (lag t : ℕ) (w : Window) (s : Sound w) (soon : t ≤ timeLimit) where
   same : pushedInPlace lag t w ≡ pushed lag t w
   same = in-place lag t w (whole-of w s) (omega (arith, s .shaped .buckets-low))
 
@@ -108,8 +107,8 @@ pub record Going (time : ℕ) (lags : List ℕ) (last : Window) (i : ℕ) (w : W
 pub going-start : (time : ℕ) (lags : List ℕ) (w : Window) → Sound w → roomFor time (length lags) w ≡ true → Going time lags (pushedAll time lags w) 0 w
 going-start time lags w s r = record { is = refl; sound = s; room = omega (arith, leb-true (newest time w + length lags) 4294967295 r) }
 
-module _ (time : ℕ) (lags : List ℕ) (last : Window) (i : ℕ) (w : Window) (soon : time ≤ 4000000000000000000) (g : Going time lags last i w) where
-  pub going-asks : i < length lags → (Sound w) × ((time ≤ 4000000000000000000) × (newest time w < 4294967295))
+module _ (time : ℕ) (lags : List ℕ) (last : Window) (i : ℕ) (w : Window) (soon : time ≤ timeLimit) (g : Going time lags last i w) where
+  pub going-asks : i < length lags → (Sound w) × ((time ≤ timeLimit) × (newest time w < 4294967295))
   going-asks l = (g .sound, (soon, omega (arith, g .room)))
 
   pub going-more : (v : Window) → i < length lags → v ≡ pushed (getD lags i 0) time w → Going time lags last (i + 1) v
@@ -124,3 +123,23 @@ module _ (time : ℕ) (lags : List ℕ) (last : Window) (i : ℕ) (w : Window) (
   pub going-end : length lags ≤ i → w ≡ last
   unfolding pushedAll
   going-end l = sym (g .is ∙ rw (drop-of-length-le lags l))
+
+-- ---- the call accepts a push of a sound window
+-- 2, 5 and 6 let a sound window through
+sound-checked : (w : Window) (rest : ℕ) → Sound w → checked w rest ≡ rest
+unfolding checked
+sound-checked w rest s =
+    yes-ask 2 _ (le-leb _ _ (s .shaped .width-low))
+    ∙ yes-ask 2 _ (le-leb _ _ (s .shaped .width-high))
+    ∙ yes-ask 2 _ (le-leb _ _ (s .shaped .buckets-low))
+    ∙ yes-ask 2 _ (le-leb _ _ (s .shaped .buckets-high))
+    ∙ yes-ask 5 _ (eq-eqb _ _ (s .shaped .starts-long))
+    ∙ yes-ask 5 _ (eq-eqb _ _ (s .shaped .totals-long))
+    ∙ yes-ask 5 _ (eq-eqb _ _ (s .shaped .counts-long))
+    ∙ yes-ask 6 _ (s .whole)
+
+pub push-accepted : (lag time : ℕ) (w : Window) → Sound w → time ≤ timeLimit → newest time w < 4294967295 → pushReply lag time w .window ≡ pushed lag time w
+unfolding pushReply pushNumber
+push-accepted lag time w s soon room =
+    let one : newest time w + 1 ≤ 4294967295 = omega arith in
+    accepted-new _ w (pushed lag time w) (sound-checked w _ s ∙ yes-ask 8 _ (le-leb _ _ soon) ∙ yes-ask 11 _ (le-leb _ _ one))

@@ -7,7 +7,7 @@ use lib.ListN.{getD}
 use Rattle.base.specs.Lists.{sumFrom, rowSum}
 use Rattle.base.proofs.Choices.{pick-all}
 use Rattle.rules_window.specs.Window.{Window}
-use Rattle.rules_window.specs.Whole.{Sound}
+use Rattle.rules_window.specs.WholeWindow.{Sound}
 use Rattle.rules_window.specs.Quantile.{column, within, running, totalUpto, ShortRows}
 use Rattle.rules_window.proofs.WholeAt.{Whole, whole-of}
 use Rattle.rules_window.proofs.Sums.{sum-swap, sum-le, sum-bound}

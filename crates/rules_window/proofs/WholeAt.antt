@@ -11,19 +11,19 @@ use lib.Dec.{leb}
 use Rattle.base.specs.Lists.{sumFrom, rowSum, blankFrom}
 use Rattle.base.proofs.Points.{both-true, true-both, all-at, all-intro, blank-at, blank-intro, sum-zero}
 use Rattle.base.proofs.Flat.{row-le}
-use Rattle.base.specs.Limits.{nanos, timeLimit}
+use Rattle.base.specs.Limits.{nanos, timeLimit, windowReach}
 use Rattle.base.specs.Rows.{apart, upTo, spanOf}
 use Rattle.rules_window.specs.Window.{Window}
-use Rattle.rules_window.specs.Whole.{summed, wholeWindow, Sound}
+use Rattle.rules_window.specs.WholeWindow.{summed, wholeWindow, Sound}
 
 pub record Whole (w : Window) : Type 0 where
   pub few : w .seconds ≤ 11
   pub ls : length (w .starts) ≡ 11
   pub lt : length (w .totals) ≡ 11
   pub lc : length (w .counts) ≡ 11 * w .buckets
-  pub gap : (i : ℕ) → i + 1 < w .seconds → 1000000000 ≤ getD (w .starts) (i + 1) 0 - getD (w .starts) i 0
-  pub span : spanOf (w .seconds) (w .starts) ≤ 10000000000
-  pub early : (i : ℕ) → i < w .seconds → getD (w .starts) i 0 ≤ 4000000000000000000
+  pub gap : (i : ℕ) → i + 1 < w .seconds → nanos ≤ getD (w .starts) (i + 1) 0 - getD (w .starts) i 0
+  pub span : spanOf (w .seconds) (w .starts) ≤ windowReach
+  pub early : (i : ℕ) → i < w .seconds → getD (w .starts) i 0 ≤ timeLimit
   pub small : (i : ℕ) → i < w .seconds → getD (w .totals) i 0 ≤ 4294967295
   pub sums : (i : ℕ) → i < w .seconds → rowSum (w .buckets) (w .counts) i ≡ getD (w .totals) i 0
   pub blankS : (i : ℕ) → w .seconds ≤ i → getD (w .starts) i 0 ≡ 0
@@ -34,7 +34,7 @@ pub record Whole (w : Window) : Type 0 where
 pub record Parts (w : Window) : Type 0 where
   pub within : leb (w .seconds) 11 ≡ true
   pub apart-is : apart nanos (w .seconds - 1) (w .starts) ≡ true
-  pub span-is : leb (spanOf (w .seconds) (w .starts)) 10000000000 ≡ true
+  pub span-is : leb (spanOf (w .seconds) (w .starts)) windowReach ≡ true
   pub summed-is : summed (w .seconds) (w .buckets) (w .totals) (w .counts) ≡ true
   pub starts-blank : blankFrom (w .seconds) (w .starts) ≡ true
   pub totals-blank : blankFrom (w .seconds) (w .totals) ≡ true
@@ -108,13 +108,13 @@ of-whole w h =
     })
 
 -- from second i on, d seconds later is at least d s later
-pub far : (w : Window) → Whole w → (i d : ℕ) → i + d < w .seconds → getD (w .starts) i 0 + d * 1000000000 ≤ getD (w .starts) (i + d) 0
+pub far : (w : Window) → Whole w → (i d : ℕ) → i + d < w .seconds → getD (w .starts) i 0 + d * nanos ≤ getD (w .starts) (i + d) 0
 far w h i zero l = rw (add-zero i) (omega arith)
 far w h i (suc d) l =
     let q : i + suc d ≡ i + d + 1 = omega arith in
     rw q (omega (arith, far w h i d (omega arith), h .gap (i + d) (omega arith)))
 
-pub later : (w : Window) → Whole w → (i j : ℕ) → i ≤ j → j < w .seconds → getD (w .starts) i 0 + (j - i) * 1000000000 ≤ getD (w .starts) j 0
+pub later : (w : Window) → Whole w → (i j : ℕ) → i ≤ j → j < w .seconds → getD (w .starts) i 0 + (j - i) * nanos ≤ getD (w .starts) j 0
 later w h i j l k = let q : i + (j - i) ≡ j = omega arith in rw q at (far w h i (j - i) (omega arith))
 
 -- the span, read at the two ends

@@ -12,10 +12,10 @@ use Rattle.base.specs.Choice.{both}
 use Rattle.base.specs.Lists.{blankFrom, sumFrom, rowSum}
 use Rattle.base.proofs.Choices.{by-bool, by-le}
 use Rattle.base.proofs.Points.{both-true, true-both, all-at, all-intro, blank-at, blank-intro, past-end, sum-at-le}
-use Rattle.base.specs.Limits.{nanos, timeLimit}
+use Rattle.base.specs.Limits.{nanos, timeLimit, windowReach}
 use Rattle.base.specs.Rows.{apart, upTo, spanOf}
 use Rattle.rules_window.specs.Window.{Window}
-use Rattle.rules_window.specs.Whole.{summed, wholeWindow, Shaped}
+use Rattle.rules_window.specs.WholeWindow.{summed, wholeWindow, Shaped}
 use Rattle.rules_window.proofs.WholeAt.{Whole, Parts, parts-of, of-parts, whole-of, blank-row}
 
 -- ---- a part that fails
@@ -29,8 +29,8 @@ module _ (w : Window) where
   pub apart-fails : (r : Bool) → r ≡ apart nanos (w .seconds - 1) (w .starts) → not r ≡ true → false ≡ wholeWindow w
   apart-fails r e h = fails r (λ p. e ∙ p .apart-is) (not-true r h)
 
-  pub span-fails : (a : ℕ) → a ≡ spanOf (w .seconds) (w .starts) → 10000000000 < a → false ≡ wholeWindow w
-  span-fails a e h = fails (leb (spanOf (w .seconds) (w .starts)) 10000000000) (λ p. p .span-is) (rw (← e) (lt-leb _ _ h))
+  pub span-fails : (a : ℕ) → a ≡ spanOf (w .seconds) (w .starts) → windowReach < a → false ≡ wholeWindow w
+  span-fails a e h = fails (leb (spanOf (w .seconds) (w .starts)) windowReach) (λ p. p .span-is) (rw (← e) (lt-leb _ _ h))
 
   pub timely-fails : (r : Bool) → r ≡ upTo timeLimit (w .seconds) (w .starts) → not r ≡ true → false ≡ wholeWindow w
   timely-fails r e h = fails r (λ p. e ∙ p .timely-is) (not-true r h)
@@ -71,7 +71,7 @@ module _ (w : Window) where
       unused : (r : ℕ) → w .seconds ≤ r → both (leb (getD (w .totals) r 0) 4294967295) (eqb (rowSum (w .buckets) (w .counts) r) (getD (w .totals) r 0)) ≡ true
       unused r g = true-both _ _ (le-leb (getD (w .totals) r 0) 4294967295 (omega (arith, h .blankT r g))) (eq-eqb _ _ (blank-row w h r g ∙ sym (h .blankT r g)))
 
-  pub rows-tell : (ra : Bool) (a : ℕ) (rt rs rz q : Bool) → Shaped w → w .seconds ≤ 11 → ra ≡ apart nanos (w .seconds - 1) (w .starts) → not ra ≡ false → a ≡ spanOf (w .seconds) (w .starts) → a ≤ 10000000000 → rt ≡ upTo timeLimit (w .seconds) (w .starts) → not rt ≡ false → rs ≡ blankFrom (w .seconds) (w .starts) → not rs ≡ false → rz ≡ blankFrom (w .seconds) (w .totals) → not rz ≡ false → q ≡ summed 11 (w .buckets) (w .totals) (w .counts) → q ≡ wholeWindow w
+  pub rows-tell : (ra : Bool) (a : ℕ) (rt rs rz q : Bool) → Shaped w → w .seconds ≤ 11 → ra ≡ apart nanos (w .seconds - 1) (w .starts) → not ra ≡ false → a ≡ spanOf (w .seconds) (w .starts) → a ≤ windowReach → rt ≡ upTo timeLimit (w .seconds) (w .starts) → not rt ≡ false → rs ≡ blankFrom (w .seconds) (w .starts) → not rs ≡ false → rz ≡ blankFrom (w .seconds) (w .totals) → not rz ≡ false → q ≡ summed 11 (w .buckets) (w .totals) (w .counts) → q ≡ wholeWindow w
   rows-tell ra a rt rs rz q s few ea ha es hs et ht eb hb ez hz e = e ∙ by-bool (summed 11 (w .buckets) (w .totals) (w .counts)) (λ h. h ∙ sym (of-parts w (parts h))) (λ h. h ∙ none h)
     where
       zero-totals : blankFrom (w .seconds) (w .totals) ≡ true

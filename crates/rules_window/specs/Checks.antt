@@ -10,10 +10,10 @@ use Rattle.base.specs.Choice.{pick, both, ask, accepted}
 use Rattle.rules_window.specs.declared.SpanAnswer.{SpanAnswer}
 use Rattle.rules_window.specs.declared.Quantile.{Quantile}
 use Rattle.rules_window.specs.declared.Quantile.the-variants.{End, None, Refused}
-use Rattle.base.specs.Limits.{timely}
+use Rattle.base.specs.Limits.{timely, samplesLimit, widthLimit}
 use Rattle.base.specs.Rows.{spanOf}
 use Rattle.rules_window.specs.Window.{Window, bucketsOf, fresh, cleared, opens, pushed}
-use Rattle.rules_window.specs.Whole.{wholeWindow}
+use Rattle.rules_window.specs.WholeWindow.{wholeWindow}
 use Rattle.rules_window.specs.Quantile.{quantileUpto, quantileOf}
 
 -- what every call on a window asks: 2 ("W 1 to 4,800, buckets at most 4,096", and at least the 2 that every window is made with),
@@ -21,7 +21,7 @@ use Rattle.rules_window.specs.Quantile.{quantileUpto, quantileOf}
 unfoldable pub checked : (w : Window) (rest : ℕ) → ℕ
 checked w rest =
     ask 2 (leb 1 (w .width))
-    (ask 2 (leb (w .width) 4800)
+    (ask 2 (leb (w .width) widthLimit)
     (ask 2 (leb 2 (w .buckets))
     (ask 2 (leb (w .buckets) 4096)
     (ask 5 (eqb (length (w .starts)) 11)
@@ -49,10 +49,10 @@ fromZeroToOne q = both (le (fin false 0 (pos 0)) q) (le q (fin false 1 (pos 0)))
 -- the number of the first check that says no, or 0; of the lists `new` asks only the lengths
 unfoldable pub newNumber : (offset maximum width starts totals counts : ℕ) → ℕ
 newNumber offset maximum width starts totals counts =
-    ask 2 (leb offset 96000)
-    (ask 2 (leb maximum 96000)
+    ask 2 (leb offset samplesLimit)
+    (ask 2 (leb maximum samplesLimit)
     (ask 2 (leb 1 width)
-    (ask 2 (leb width 4800)
+    (ask 2 (leb width widthLimit)
     (ask 2 (leb (bucketsOf offset maximum width) 4096)
     (ask 5 (eqb starts 11)
     (ask 5 (eqb totals 11)

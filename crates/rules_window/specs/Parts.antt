@@ -2,6 +2,7 @@
 use Prim.Native.Nat.{ℕ, _+_, _*_, _≤_}
 use lib.ListN.{length}
 use Rattle.base.specs.Lists.{part, patched}
+use Rattle.base.specs.Limits.{widthLimit}
 use Rattle.rules_window.specs.Window.{Window}
 
 -- the window of input j, of a window that holds the lists of all inputs
@@ -29,9 +30,9 @@ placed j v w =
     }
 
 -- what the inner functions ask of the settings and of the lists of all inputs: input j has its part of each
-pub record Held (j : ℕ) (w : Window) : Type 0 where
+pub record PartsIn (j : ℕ) (w : Window) : Type 0 where
   pub width-low : 1 ≤ w .width
-  pub width-high : w .width ≤ 4800
+  pub width-high : w .width ≤ widthLimit
   pub buckets-low : 2 ≤ w .buckets
   pub buckets-high : w .buckets ≤ 4096
   pub starts-in : j * 11 + 11 ≤ length (w .starts)

@@ -1,9 +1,10 @@
 -- Document 01, "LagWindow": the quantile of the counted lags up to a limit. Assumes nothing.
 use Prim.Native.Nat.{ℕ, zero, suc, _+_, _*_, _<_, _≤_}
 use mathlib.Core.List.{List}
+use mathlib.Core.Bool.{false}
 use lib.Dec.{leb, eqb}
 use lib.ListN.{getD}
-use lib.Ieee.{Float}
+use lib.Ieee.{Float, binary64, round}
 use Rattle.base.specs.Choice.{pick}
 use Rattle.base.specs.Lists.{sum, rowSum}
 use Rattle.doubles.specs.Quantile as places
@@ -40,7 +41,11 @@ endOf width Nowhere = None
 unfoldable pub quantileIn : (q : Float) (limit width buckets n : ℕ) (counts : List ℕ) → Quantile
 quantileIn q limit width buckets n counts =
     let total = running limit width buckets n counts buckets in
-    pick (eqb total 0) None (endOf width (reach (places.placeOf total q) limit width buckets n counts buckets 0))
+    pick (eqb total 0) None (endOf width (reach (places.targetOf total q) limit width buckets n counts buckets 0))
+
+-- k thousandths as a double: "0.5, 0.99 and 0.999"
+unfoldable pub thousandths : ℕ → Float
+thousandths k = round binary64 false k 1000
 
 -- `quantile_upto`, and `quantile`, which has no limit
 abbrev pub quantileUpto : (q : Float) (limit : ℕ) (w : Window) → Quantile
@@ -59,7 +64,7 @@ totalUpto limit w = running limit (w .width) (w .buckets) (w .seconds) (w .count
 
 -- what the place of q among these lags is asked for: they are few enough, and q is from 0 to 1
 abbrev pub Placeable : Float → ℕ → Window → Type 0
-Placeable q limit w = places.Quantile (totalUpto limit w) q
+Placeable q limit w = places.TargetAsked (totalUpto limit w) q
 
 -- what the summing of rows in 32 bits asks: each of the n seconds counts at most 4,294,967,295 lags, so that no part of its row wraps
 abbrev pub ShortRows : (buckets n : ℕ) → List ℕ → Type 0

@@ -5,7 +5,7 @@ use mathlib.Core.List.{List, [], _∷_, _++_}
 use lib.Dec.{leb, ltb}
 use lib.ListN.{getD, take, drop, replicate}
 use Rattle.base.specs.Choice.{pick}
-use Rattle.base.specs.Limits.{nanos}
+use Rattle.base.specs.Limits.{nanos, windowReach}
 use Rattle.base.specs.Lists.{padded, bumped}
 
 -- a window with the lists lent for it: how many seconds are in use, the buckets of a second, a bucket's width W,
@@ -84,7 +84,7 @@ opened time w = pick (opens time (w .seconds) (w .starts)) (added time w) w
 abbrev pub stale : (time : ℕ) → ℕ → (starts : List ℕ) → ℕ
 stale time zero starts = 0
 stale time (suc n) [] = 0
-stale time (suc n) (start ∷ starts) = pick (ltb 10000000000 (time - start)) (suc (stale time n starts)) 0
+stale time (suc n) (start ∷ starts) = pick (ltb windowReach (time - start)) (suc (stale time n starts)) 0
 
 abbrev pub without : (k : ℕ) (w : Window) → Window
 without k w =

@@ -6,7 +6,7 @@ use mathlib.Core.List.{List}
 use lib.ListN.{length}
 use Rattle.base.specs.Choice.{accepted}
 use Rattle.base.specs.Lists.{padded}
-use Rattle.base.proofs.Choices.{refused-old, accepted-new, accepted-all}
+use Rattle.base.proofs.Choices.{refused-old, accepted-new, accepted-all, by-zero}
 use Rattle.rules_record.specs.declared.ExtraDelay.{ExtraDelay}
 use Rattle.rules_record.specs.declared.Inputs.{Inputs}
 use Rattle.rules_record.specs.declared.Commands.the-variants.{Words}
@@ -18,7 +18,6 @@ use Rattle.rules_record.specs.Effects.{Effect}
 use Rattle.rules_record.specs.Reply.{Reply, replied}
 use Rattle.rules_record.proofs.Checked.{settings-told}
 use Rattle.rules_record.proofs.Numbers.{call-low}
-use Rattle.base.proofs.Choices.{by-zero}
 use Rattle.rules_calls.specs.declared.Settings.{Settings}
 use Rattle.rules_calls.specs.NewRecord.{blankFor, noInputs}
 use Rattle.rules_calls.specs.NewChecks.{newNumber}
@@ -30,23 +29,20 @@ use Rattle.rules_calls.specs.RouteChecks.{routeNumber}
 use Rattle.rules_calls.specs.Route.{routed}
 use Rattle.rules_calls.specs.RouteReply.{routeReply}
 use Rattle.rules_calls.specs.UpdateChecks.{updateNumber, confirmNumber}
-use Rattle.rules_calls.specs.Update.{updated, confirmed}
+use Rattle.rules_calls.specs.Update.{updated}
+use Rattle.rules_calls.specs.ConfirmDelay.{confirmed}
 use Rattle.rules_calls.specs.UpdateReply.{updateReply, confirmReply}
 use Rattle.rules_tick.specs.declared.Look.{Look}
 use Rattle.rules_tick.specs.TickChecks.{tickNumber}
 use Rattle.rules_tick.specs.Tick.{ticked}
 use Rattle.rules_tick.specs.TickReply.{tickReply}
 use Rattle.sent_delays.specs.Last.{lastDelay}
+use Rattle.sent_delays.specs.Delays.{Told, SentDelays}
 use Rattle.sent_delays.proofs.Words.{last-padded}
 use Rattle.sent_delays.proofs.Steps.{TellsEffect}
 use Rattle.sent_delays.proofs.Ticks.{tells-ticked}
 use Rattle.sent_delays.proofs.OneInput.{tells-routed, tells-updated, tells-confirmed}
 use Rattle.sent_delays.proofs.Starts.{blank-delay, tells-started}
-
--- What a call on the record s leaves: an accepted one tells every delay, a refused one leaves it as it was.
-pub record Told (s : Inputs) (reply : Reply) : Type 0 where
-  pub sized : Sized (reply .inputs)
-  pub delays : (j : ℕ) → j < 16 → slotAt (reply .inputs) j .delay ≡ accepted (reply .number) (slotAt s j .delay) (lastDelay j (slotAt s j .delay) (reply .commands))
 
 -- the same of an accepted call
 pub accepted-told : {s : Inputs} {reply : Reply} → Told s reply → reply .number ≡ 0 → (j : ℕ) → j < 16 → slotAt (reply .inputs) j .delay ≡ lastDelay j (slotAt s j .delay) (reply .commands)
@@ -103,24 +99,6 @@ module _ (s : Inputs) (sized : Sized s) (l : Lists) (commands : List ℕ) where
       reply-told (tickNumber s l (length commands) looks lags time) s l commands (ticked looks lags time s l) sized
       (λ e. tells-ticked looks lags time s l sized (settings-told s l (Words (length commands)) _ e .0 .allowed .most))
 
-  -- ---- .. and accepted: the delay is the samples of the last SetDelay among the commands
-  module _ (j : ℕ) (low : j < 16) where
-    pub route-delays : (input : ℕ) (wanted : Wanted) (time : ℕ) (world : World) → routeReply s l commands input wanted time world .number ≡ 0
-        → slotAt (routeReply s l commands input wanted time world .inputs) j .delay ≡ lastDelay j (slotAt s j .delay) (routeReply s l commands input wanted time world .commands)
-    route-delays input wanted time world e = accepted-told (route-told input wanted time world) e j low
-
-    pub update-delays : (input : ℕ) (kind : ExtraDelay) (time : ℕ) → updateReply s l commands input kind time .number ≡ 0
-        → slotAt (updateReply s l commands input kind time .inputs) j .delay ≡ lastDelay j (slotAt s j .delay) (updateReply s l commands input kind time .commands)
-    update-delays input kind time e = accepted-told (update-told input kind time) e j low
-
-    pub confirm-delays : (input time : ℕ) → confirmReply s l commands input time .number ≡ 0
-        → slotAt (confirmReply s l commands input time .inputs) j .delay ≡ lastDelay j (slotAt s j .delay) (confirmReply s l commands input time .commands)
-    confirm-delays input time e = accepted-told (confirm-told input time) e j low
-
-    pub tick-delays : (looks : List Look) (lags : List ℕ) (time : ℕ) → tickReply s l commands looks lags time .number ≡ 0
-        → slotAt (tickReply s l commands looks lags time .inputs) j .delay ≡ lastDelay j (slotAt s j .delay) (tickReply s l commands looks lags time .commands)
-    tick-delays looks lags time e = accepted-told (tick-told looks lags time) e j low
-
 -- ---- `new`: "0 before any"
 module _ (settings : Settings) (kinds : List ExtraDelay) (bytes delays : List ℕ) (time : ℕ) (l : Lists) (commands : List ℕ) where
   abbrev fresh : Reply
@@ -147,3 +125,16 @@ module _ (settings : Settings) (kinds : List ExtraDelay) (bytes delays : List �
         subst (λ (r : Reply). slotAt (r .inputs) j .delay ≡ lastDelay j 0 (r .commands)) (sym (accepted-new number _ _ (sym new-number ∙ passed)))
         (padded-delays number noInputs l commands (started settings kinds bytes delays time l) (new-tells (sym new-number ∙ passed)) j low
         ∙ ap (λ (d : ℕ). lastDelay j d (padded (length commands) (started settings kinds bytes delays time l .words))) (blank-delay settings j low))
+
+-- ---- the claim
+pub sent-delays : SentDelays
+sent-delays = record {
+  new = λ settings kinds bytes delays time l commands passed. record {
+    sized = new-sized settings kinds bytes delays time l commands passed;
+    delays = new-delays settings kinds bytes delays time l commands passed;
+  };
+  route = route-told;
+  update = update-told;
+  confirm = confirm-told;
+  tick = tick-told;
+}

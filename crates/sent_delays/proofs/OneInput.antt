@@ -24,7 +24,8 @@ use Rattle.rules_routing.specs.Clear.{clearedSlot, cleared}
 use Rattle.rules_calls.specs.declared.Wanted.{Wanted}
 use Rattle.rules_calls.specs.declared.Wanted.the-variants as Wanted
 use Rattle.rules_calls.specs.Route.{enrolledFor, routeFor, equalRoute, startsOver, forgetting, zeroing, startedOver, routedSlot, openedFor, moved, rerouted, routedTo, routed}
-use Rattle.rules_calls.specs.Update.{kindStored, delaySet, updated, taken, confirmedBy, confirmed}
+use Rattle.rules_calls.specs.Update.{kindStored, delaySet, updated}
+use Rattle.rules_calls.specs.ConfirmDelay.{taken, confirmedBy, confirmed}
 use Rattle.sent_delays.proofs.Steps.{Tells, TellsDone, TellsEffect, tells-then, tells-same, tells-none, tells-quiet, tells-put, tells-put-delay, tells-clear-input, tells-set, tells-open}
 
 -- enrolling a flow changes no slot

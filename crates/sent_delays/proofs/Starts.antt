@@ -4,7 +4,7 @@ use mathlib.Core.Path.{_≡_, refl, ap, _∙_}
 use mathlib.Core.List.{List, []}
 use native.Mathlib.Omega.{arith}
 use lib.Dec.{ltb}
-use lib.ListN.{length, getD, length-set, length-replicate, getD-replicate}
+use lib.ListN.{length, getD, length-set, getD-replicate}
 use Rattle.base.proofs.Choices.{pick-all, lt-yes}
 use Rattle.doubles.specs.Doubles.{samplesOf}
 use Rattle.rules_record.specs.declared.ExtraDelay.{ExtraDelay}
@@ -15,14 +15,14 @@ use Rattle.rules_record.specs.declared.Inputs.{Inputs}
 use Rattle.rules_record.specs.Slots.{emptySlot}
 use Rattle.rules_record.specs.Inputs.{slotAt}
 use Rattle.rules_record.specs.Sized.{Sized}
-use Rattle.rules_record.specs.Flows.{emptyEntry, enrolled, placeOf, kept}
-use Rattle.rules_record.specs.Instances.{noKey}
+use Rattle.rules_record.specs.Flows.{enrolled, flowPlace, kept}
 use Rattle.rules_record.specs.Commands.{quiet}
 use Rattle.rules_record.specs.Lent.{Lists}
 use Rattle.rules_calls.specs.declared.Settings.{Settings}
 use Rattle.rules_calls.specs.NewRecord.{blank, blankFor}
 use Rattle.rules_calls.specs.NewLoading.{loadedFlow, loadedOne, loadedBelow}
 use Rattle.rules_calls.specs.NewStart.{kindAt, madeAt, startedOne, startedBelow, loaded, started}
+use Rattle.rules_calls.proofs.NewBlank.{blank-sized}
 use Rattle.sent_delays.proofs.Steps.{Tells, TellsDone, TellsEffect, tells-then, tells-first, tells-same, tells-none, tells-put, tells-set}
 use Rattle.sent_delays.proofs.OneInput.{tells-enrolled}
 
@@ -42,7 +42,7 @@ tells-loaded (suc n) bytes delays s h =
     let z : Inputs = loadedBelow n bytes delays s in
     let flow : Flow = loadedFlow bytes n in
     let g = tells-enrolled z flow (f .sized) in
-    tells-then f (tells-then g (tells-kept (enrolled z flow) (placeOf (enrolled z flow) flow) (getD delays n 0) (g .sized)))
+    tells-then f (tells-then g (tells-kept (enrolled z flow) (flowPlace (enrolled z flow) flow) (getD delays n 0) (g .sized)))
 
 -- ---- "A Ms input then gets `set_delay`"
 pub tells-started-one : (i : ℕ) → i < 16 → (kind : ExtraDelay) (time : ℕ) (s : Inputs) → Sized s → TellsDone s (startedOne i kind time s)
@@ -60,9 +60,6 @@ tells-started-below (suc n) most kinds time s h =
     tells-first _ _ f (tells-started-one n (omega arith) (kindAt kinds n) time _ (f .sized))
 
 -- ---- from fresh
-pub blank-sized : (settings : Settings) → Sized (blankFor settings)
-unfolding blankFor blank
-blank-sized settings = record { slots = length-replicate 16 emptySlot; flows = length-replicate 64 emptyEntry; instances = length-replicate 18 noKey }
 
 -- a slot that is not in use has delay 0
 pub blank-delay : (settings : Settings) (j : ℕ) → j < 16 → slotAt (blankFor settings) j .delay ≡ 0

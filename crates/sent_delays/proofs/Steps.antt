@@ -5,26 +5,28 @@ use mathlib.Core.Path.{_≡_, refl, sym, ap, subst, _∙_}
 use mathlib.Core.List.{List, [], _++_}
 use lib.Dec.{eqb}
 use borrow.Author.Tests.{eqb-true, eqb-false}
-use Rattle.base.proofs.Choices.{by-bool, pick-all}
+use Rattle.base.proofs.Choices.{by-bool}
 use Rattle.rules_record.specs.declared.Slot.{Slot}
 use Rattle.rules_record.specs.declared.Inputs.{Inputs}
 use Rattle.rules_record.specs.declared.Inode.{Inode}
 use Rattle.rules_record.specs.declared.State.the-variants.{Stalled}
-use Rattle.rules_record.specs.Slots.{stateNumber, withState}
+use Rattle.rules_record.specs.Slots.{withState}
 use Rattle.rules_record.specs.Inputs.{slotAt, putSlot}
 use Rattle.rules_record.proofs.SlotFrame.{slot-same, slot-other}
 use Rattle.rules_record.proofs.Sized.{sized-put}
 use Rattle.rules_record.specs.Sized.{Sized}
-use Rattle.rules_record.specs.Commands.{Done, setInput, clearInput, setDelay, quiet, first}
+use Rattle.rules_record.specs.Commands.{Done, setInput, clearInput, setDelay, quiet, sendFirst}
 use Rattle.rules_routing.specs.SetDelay.{setDelayOf}
 use Rattle.rules_routing.proofs.SetDelayStored.{stored-same, stored-other, stored-sized}
 use Rattle.rules_routing.specs.declared.World.{World}
-use Rattle.rules_routing.specs.TryOpen.{runningSlot, openedSlot, tryOpenOf}
+use Rattle.rules_routing.specs.TryOpen.{tryOpenOf}
 use Rattle.rules_routing.proofs.TryOpenFrame.{open-leaves}
 use Rattle.rules_routing.proofs.TryOpenOutcomes.{open-outcomes}
-use Rattle.rules_routing.specs.Watch.{lostSlot, movedSlot, watchOf}
+use Rattle.rules_routing.specs.Watch.{lostSlot, watchOf}
 use Rattle.rules_routing.proofs.WatchFrame.{watch-leaves}
 use Rattle.rules_routing.proofs.WatchOutcomes.{watch-outcomes}
+use Rattle.rules_routing.proofs.TryOpenKeeps.{opened-delay}
+use Rattle.rules_routing.proofs.WatchKeeps.{moved-delay}
 use Rattle.rules_record.specs.Lent.{Lists}
 use Rattle.rules_record.specs.Effects.{Effect, followedBy}
 use Rattle.sent_delays.specs.Last.{lastDelay}
@@ -57,8 +59,8 @@ unfolding followedBy
 tells-followed s effect next f g = tells-then f g
 
 -- the words are sent first, then what follows
-pub tells-first : {s m : Inputs} (words : List ℕ) (done : Done) → Tells s m words → TellsDone m done → TellsDone s (first words done)
-unfolding first
+pub tells-first : {s m : Inputs} (words : List ℕ) (done : Done) → Tells s m words → TellsDone m done → TellsDone s (sendFirst words done)
+unfolding sendFirst
 tells-first words done f g = tells-then f g
 
 -- the record changes once more, with nothing sent
@@ -119,19 +121,10 @@ module _ (i before : ℕ) (slot : Slot) where
     }
 
 -- ---- slots whose delay stays
-opened-delay : (slot : Slot) (inode head time : ℕ) → openedSlot slot inode head time .delay ≡ slot .delay
-unfolding openedSlot runningSlot
-opened-delay slot inode head time =
-    let running : runningSlot slot inode head time .delay ≡ slot .delay = pick-all (λ (x : Slot). x .delay ≡ slot .delay) (eqb (stateNumber (slot .state)) 3) refl refl in
-    pick-all (λ (x : Slot). x .delay ≡ slot .delay) (eqb (stateNumber (slot .state)) 1) running running
 
 lost-delay : (slot : Slot) → lostSlot slot .delay ≡ slot .delay
 unfolding lostSlot
 lost-delay slot = refl
-
-moved-delay : (slot : Slot) (head time : ℕ) → movedSlot slot head time .delay ≡ slot .delay
-unfolding movedSlot
-moved-delay slot head time = pick-all (λ (x : Slot). x .delay ≡ slot .delay) (eqb (stateNumber (slot .state)) 3) refl refl
 
 module _ (i : ℕ) (input : i < 16) (s : Inputs) (sized : Sized s) where
   -- the slot of input i is written, and these words are sent
@@ -154,7 +147,7 @@ module _ (i : ℕ) (input : i < 16) (s : Inputs) (sized : Sized s) where
 
   -- "`set_delay` stores, .., sends SetDelay."
   pub tells-set : (delay time : ℕ) → TellsDone s (setDelayOf s i delay time)
-  unfolding setDelayOf first quiet
+  unfolding setDelayOf sendFirst quiet
   tells-set delay time =
       tells-own i (stored-sized s i delay time sized) (stored-other s i delay time)
       (own-set i (slotAt s i .delay) _ delay (ap (λ (x : Slot). x .delay) (stored-same s i delay time input sized)))

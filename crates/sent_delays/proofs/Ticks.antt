@@ -3,7 +3,6 @@ use Prim.Native.Nat.{ℕ, zero, suc, _≤_, _<_}
 use mathlib.Core.Path.{_≡_, refl, ap}
 use mathlib.Core.List.{List, []}
 use native.Mathlib.Omega.{arith}
-use lib.Dec.{leb, eqb}
 use Rattle.base.proofs.Choices.{pick-all}
 use Rattle.delay_hold.specs.declared.Lag.{Lag}
 use Rattle.delay_hold.specs.declared.Change.{Change}
@@ -11,17 +10,19 @@ use Rattle.delay_hold.specs.declared.Change.the-variants.{Keep, To}
 use Rattle.delay_hold.specs.Next.{Decided}
 use Rattle.rules_record.specs.declared.Slot.{Slot}
 use Rattle.rules_record.specs.declared.Inputs.{Inputs}
-use Rattle.rules_record.specs.Slots.{stateNumber, withHold}
+use Rattle.rules_record.specs.Slots.{withHold}
+use Rattle.rules_record.specs.States.{isWaiting, isStalled, isOpen}
 use Rattle.rules_record.specs.Inputs.{slotAt}
 use Rattle.rules_record.specs.Sized.{Sized}
 use Rattle.rules_record.specs.Commands.{quiet}
 use Rattle.rules_record.specs.declared.Extra.{Extra}
 use Rattle.rules_record.specs.declared.Extra.the-variants.{Nothing}
-use Rattle.rules_record.specs.Instances.{pruned}
+use Rattle.rules_record.specs.Prune.{pruned}
 use Rattle.rules_record.proofs.InstanceKeys.{pruned-sized, pruned-rest}
 use Rattle.rules_record.specs.Lent.{Lists}
 use Rattle.rules_record.specs.Effects.{beside}
-use Rattle.rules_tick.specs.Arrival.{arrived, largestOf, lateEvent}
+use Rattle.rules_tick.specs.Lags.{arrived, largestOf}
+use Rattle.rules_tick.specs.LateEvents.{lateEvent}
 use Rattle.rules_tick.specs.AutoDelay.{nextFor, changing, answered, decidedFor, goesOn, autoDelayed}
 use Rattle.rules_tick.specs.declared.Look.{Look}
 use Rattle.rules_tick.specs.Looks.{lookAt, lagsOf}
@@ -47,9 +48,9 @@ module _ (i : ℕ) (input : i < 16) where
   pub tells-looked : (look : Look) (time : ℕ) (s : Inputs) → Sized s → TellsDone s (looked i look time s)
   unfolding looked
   tells-looked look time s h =
-      pick-all (TellsDone s) (eqb (stateNumber (slotAt s i .state)) 1)
+      pick-all (TellsDone s) (isWaiting (slotAt s i .state))
       (tells-open i input s h time (look .world))
-      (pick-all (TellsDone s) (leb 2 (stateNumber (slotAt s i .state))) (tells-watch i input s h time (look .seen) (look .world)) (tells-quiet h))
+      (pick-all (TellsDone s) (isOpen (slotAt s i .state)) (tells-watch i input s h time (look .seen) (look .world)) (tells-quiet h))
 
   -- "an answer becomes the proposal (confirmation on) or delay changes + 1 and `set_delay`"
   pub tells-answered : (change : Change) (time : ℕ) (slot : Slot) (s : Inputs) → Sized s → slot .delay ≡ slotAt s i .delay → TellsDone s (answered change i time slot s)
@@ -68,7 +69,7 @@ module _ (i : ℕ) (input : i < 16) where
   pub tells-auto : (largest : Lag) (time : ℕ) (s : Inputs) (l : Lists) → Sized s → TellsEffect s (autoDelayed i largest time s l)
   unfolding autoDelayed
   tells-auto largest time s l h =
-      pick-all (TellsEffect s) (eqb (stateNumber (slotAt s i .state)) 3)
+      pick-all (TellsEffect s) (isStalled (slotAt s i .state))
       (tells-put i input s h _ refl)
       (pick-all (TellsEffect s) (goesOn (slotAt s i)) (tells-decided (nextFor i largest time s l) time s l h) (tells-none h))
 

@@ -1,2 +1,3 @@
 -- What the commands tell of an input's delay.
 pub mod Last
+pub mod Delays

@@ -8,7 +8,7 @@ use borrow.Author.Tests.{le-leb, lt-leb}
 use Rattle.base.proofs.All.{both-yes, both-no}
 use Rattle.base.specs.Limits.{timeLimit, spanLimit}
 use Rattle.base.proofs.Calls.{call-broken, call-late, call-accepted}
-use Rattle.sources.specs.Schedules.{waitLimit, firstWait, wholeDown, wholeSchedule, scheduleNumber, isUp, answerBy, queryUpOf, nextWait, failureBy, queryFailedOf}
+use Rattle.sources.specs.Queries.{waitLimit, firstWait, wholeDown, wholeSchedule, scheduleNumber, isUp, answerBy, queryUpOf, nextWait, failureBy, queryFailedOf}
 use Rattle.sources.specs.declared.QueryDown.{QueryDown}
 use Rattle.sources.specs.declared.QueryDown.the-variants.{Never, Until}
 use Rattle.sources.specs.declared.Schedule.{Schedule}

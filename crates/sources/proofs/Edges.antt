@@ -5,7 +5,7 @@ use mathlib.Core.Path.{_≡_, refl}
 use mathlib.Core.List.{List, [], _∷_}
 use Rattle.base.specs.Choice.{both, ask}
 use Rattle.base.specs.Limits.{callNumber}
-use Rattle.sources.specs.Schedules.{freshSchedule, wholeDown, wholeSchedule, scheduleNumber, isUp, nextWait, queryFailedOf}
+use Rattle.sources.specs.Queries.{freshSchedule, wholeDown, wholeSchedule, scheduleNumber, isUp, nextWait, queryFailedOf}
 use Rattle.sources.specs.declared.QueryDown.the-variants.{Never, Until}
 use Rattle.sources.specs.declared.Schedule.{Schedule}
 use Rattle.sources.specs.declared.Failure.{Failure}

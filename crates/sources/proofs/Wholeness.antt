@@ -8,7 +8,7 @@ use Rattle.base.proofs.Choices.{accepted-all}
 use Rattle.base.proofs.Points.{true-both}
 use Rattle.base.specs.Limits.{timeLimit, spanLimit}
 use Rattle.base.proofs.Calls.{accepted-call, whole-call}
-use Rattle.sources.specs.Schedules.{waitLimit, freshSchedule, wholeDown, wholeSchedule, scheduleNumber, nextWait, queryFailedOf}
+use Rattle.sources.specs.Queries.{waitLimit, freshSchedule, wholeDown, wholeSchedule, scheduleNumber, nextWait, queryFailedOf}
 use Rattle.sources.specs.declared.QueryDown.the-variants.{Until}
 use Rattle.sources.specs.declared.Schedule.{Schedule}
 use Rattle.sources.proofs.Cases.{wait-short}

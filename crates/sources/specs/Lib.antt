@@ -1,2 +1,2 @@
 -- The definitions that the contracts of `sources` cite.
-pub mod Schedules
+pub mod Queries

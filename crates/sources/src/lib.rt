@@ -1,6 +1,6 @@
 // When the Query API, which names an input's sender, is asked again after it did not answer: later each time.
 ghost use mathlib.Core.Path.{_≡_};
-ghost use Rattle.sources.specs.Schedules.{freshSchedule, wholeSchedule, queryUpOf, nextWait, queryFailedOf};
+ghost use Rattle.sources.specs.Queries.{freshSchedule, wholeSchedule, queryUpOf, nextWait, queryFailedOf};
 use base::NANOS;
 use base::RECORD_LIMIT;
 use base::TIME_LIMIT;

@@ -4,10 +4,9 @@ use mathlib.Core.Bool.{Bool, true, false}
 use mathlib.Core.Path.{_≡_, refl, sym, ap, _∙_}
 use borrow.Author.Tests.{le-leb, lt-leb}
 use Rattle.base.proofs.Choices.{yes-ask, no-ask}
-use Rattle.base.specs.Limits.{timeLimit, spanLimit}
-use Rattle.base.specs.Limits.{callNumber}
+use Rattle.base.specs.Limits.{timeLimit, spanLimit, callNumber}
 use Rattle.base.proofs.Calls.{call-broken, call-late, call-accepted}
-use Rattle.state.specs.Coalesces.{freshCoalesce, wholeCoalesce, dueAfterChange, changedNumber, changeBy, changedOf, isSet, recordNumber, answerBy, pendingOf, isDue, takenBy, takeDueOf, takeOf}
+use Rattle.state.specs.Coalesce.{freshCoalesce, wholeCoalesce, dueAfterChange, changedNumber, changeBy, changedOf, isSet, recordNumber, answerBy, pendingOf, isDue, takenBy, takeDueOf, takeOf}
 use Rattle.state.specs.declared.Due.{Due}
 use Rattle.state.specs.declared.Due.the-variants.{Unset, At}
 use Rattle.state.specs.declared.Coalesce.{Coalesce}

@@ -5,7 +5,7 @@ use mathlib.Core.Path.{_≡_, refl}
 use mathlib.Core.List.{List, [], _∷_}
 use Rattle.base.specs.Choice.{ask}
 use Rattle.base.specs.Limits.{callNumber}
-use Rattle.state.specs.Coalesces.{freshCoalesce, wholeDue, wholeCoalesce, dueAfterChange, changedNumber, isSet, recordNumber, pendingOf, isDue, takeDueOf, takeOf}
+use Rattle.state.specs.Coalesce.{freshCoalesce, wholeDue, wholeCoalesce, dueAfterChange, changedNumber, isSet, recordNumber, pendingOf, isDue, takeDueOf, takeOf}
 use Rattle.state.specs.declared.Due.{Due}
 use Rattle.state.specs.declared.Due.the-variants.{Unset, At}
 use Rattle.state.specs.declared.Coalesce.{Coalesce}

@@ -6,10 +6,9 @@ use native.Mathlib.Omega.{arith}
 use borrow.Author.Tests.{le-leb, lt-leb, leb-true}
 use Rattle.base.specs.Choice.{pick}
 use Rattle.base.proofs.Choices.{yes-ask, no-ask, asked, accepted-all, by-le, pick-all}
-use Rattle.base.specs.Limits.{timeLimit, spanLimit}
-use Rattle.base.specs.Limits.{callNumber}
+use Rattle.base.specs.Limits.{timeLimit, spanLimit, callNumber}
 use Rattle.base.proofs.Calls.{accepted-call, whole-call}
-use Rattle.state.specs.Coalesces.{freshCoalesce, wholeDue, wholeCoalesce, dueAfterChange, changedNumber, changedOf, isSet, recordNumber, isDue, takenBy, takeDueOf, takeOf}
+use Rattle.state.specs.Coalesce.{freshCoalesce, wholeDue, wholeCoalesce, dueAfterChange, changedNumber, changedOf, isSet, recordNumber, isDue, takenBy, takeDueOf, takeOf}
 use Rattle.state.specs.declared.Due.{Due}
 use Rattle.state.specs.declared.Due.the-variants.{Unset, At}
 use Rattle.state.specs.declared.Coalesce.{Coalesce}

@@ -1,2 +1,2 @@
 -- The definitions that the contracts of `state` cite.
-pub mod Coalesces
+pub mod Coalesce

@@ -1,6 +1,6 @@
 // When to write a file that changes often: at most once per delay, a delay after the first change since the last write.
 ghost use mathlib.Core.Path.{_≡_};
-ghost use Rattle.state.specs.Coalesces.{freshCoalesce, wholeCoalesce, changedOf, pendingOf, takeDueOf, takeOf};
+ghost use Rattle.state.specs.Coalesce.{freshCoalesce, wholeCoalesce, changedOf, pendingOf, takeDueOf, takeOf};
 use base::RECORD_LIMIT;
 use base::SPAN_LIMIT;
 use base::TIME_LIMIT;

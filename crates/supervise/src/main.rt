@@ -1,25 +1,41 @@
 // The library behind the text protocol of compare/README.md: reads calls from standard input, one a line, and writes one answer line each.
+// A line becomes a request (text_read), a request an answer (text_alone, text_called, text_crafted), an answer a line (text_shown).
+use base::product_usize;
+use rules_record::ExtraDelay;
 use rules_record::Inputs;
-use text_answers::bad_line;
+use rules_tick::Look;
+use text_alone::Alone;
+use text_answers::Answer;
+use text_called::Called;
 use text_lending::Counts;
 use text_lending::Heard;
-use text_lending::Out;
+use text_lending::LONE_COUNTS;
+use text_lending::LONE_PEAKS;
+use text_lending::LONE_SECONDS;
 use text_lending::Peaks;
 use text_lending::Seconds;
 use text_lending::Times;
 use text_lending::Words;
+use text_lending::buckets_in;
+use text_lending::first_u32;
 use text_lines::Cursor;
-use text_lone::Alone;
-use text_names::Call;
-use text_protocol::print::put_text;
-use text_protocol::scan::ends;
-use text_protocol::words::LOST;
-use text_protocol::words::text_end;
-use text_protocol::words::word_end;
-use text_supervisor::Done;
+use text_print::Out;
+use text_print::put_text;
+use text_requests::Call;
+use text_requests::Known;
+use text_requests::Lone;
+use text_requests::PutAsked;
+use text_requests::Request;
+use text_requests::lists::kinds_at;
+use text_requests::lists::loads_at;
+use text_requests::lists::looks_at;
+use text_scan::bytes::part;
 
-// The input buffer.
-type Input = [u8; 1_052_672];
+// The input buffer: the longest line, its newline, and a little more.
+type Input = [u8; 1_048_640];
+
+// The bytes of a flow.
+const FLOW_BYTES: usize = 16;
 
 // All that is kept from line to line, but for the supervisor's record and the lists.
 pub struct State {
@@ -28,63 +44,254 @@ pub struct State {
     pub cursor: Cursor,
     // The place in the output buffer.
     pub place: usize,
+    // Whole records are shown.
+    pub full: bool,
     pub alone: Alone,
 }
 
-// A call on a supervisor: its words begin at `at` of the line that the cursor shows. LOST: there is none.
-pub struct Found {
+// What a line leaves that is no call on a supervisor, and its answer.
+pub struct Told {
     pub state: State,
-    pub line: Cursor,
-    pub call: Call,
-    pub short: bool,
-    pub at: usize,
+    pub answer: Answer,
 }
 
-// Where a call's name begins, and whether its lists are short.
-pub struct Begins {
-    pub short: bool,
-    pub at: usize,
+// What a line leaves of all that is kept.
+pub struct Turn {
+    pub state: State,
+    pub inputs: Inputs,
 }
 
 fn begin() -> State {
     let cursor = text_lines::begin();
-    let alone = text_lone::begin();
+    let alone = text_alone::begin();
     State {
         more: true,
         cursor,
         place: 0,
+        full: false,
         alone,
     }
 }
 
-fn prefix(s: &[u8]) -> Begins {
-    let at = text_end(s, 0, b"!5 ");
-    if at == LOST {
-        return Begins {
-            short: false,
-            at: 0,
-        };
-    }
-    Begins { short: true, at }
-}
-
-fn is_flush(s: &[u8]) -> bool {
-    ends(s, word_end(s, 0, b"flush"))
-}
-
-// Nothing is left to be answered.
-fn answered(state: State) -> Found {
-    let line = state.cursor;
-    Found {
-        state,
-        line,
-        call: Call::Dump,
-        short: false,
-        at: LOST,
+// What reading the next line depends on.
+fn known(inputs: Inputs, alone: Alone) -> Known {
+    let window = alone.window;
+    Known {
+        inputs: inputs.count,
+        buckets: buckets_in(inputs),
+        lone_buckets: window.buckets,
     }
 }
 
-fn flush(state: State, out: &mut Out) -> State {
+// ---- calls alone
+// A call alone, or what a line crafts of the window and the hold alone.
+fn lone(
+    request: Lone,
+    kept: Alone,
+    short: bool,
+    s: &[u8],
+    starts: &mut Seconds,
+    totals: &mut Seconds,
+    counts: &mut Counts,
+    times: &mut Times,
+    peaks: &mut Peaks,
+) -> text_alone::Answered {
+    match request {
+        Lone::WindowSet(asked) => {
+            let mut window = kept.window;
+            text_crafted::rows(
+                s,
+                asked.at,
+                window.buckets,
+                LONE_SECONDS,
+                LONE_COUNTS,
+                starts,
+                totals,
+                counts,
+            );
+            window.seconds = asked.seconds;
+            text_alone::Answered {
+                alone: Alone { window, ..kept },
+                answer: Answer::Done,
+            }
+        }
+        Lone::HoldSet(asked) => {
+            let hold = asked.hold;
+            text_crafted::peaks(s, asked.at, hold.peaks, LONE_PEAKS, times, peaks);
+            text_alone::Answered {
+                alone: Alone { hold, ..kept },
+                answer: Answer::Done,
+            }
+        }
+        _ => text_alone::answer(request, kept, short, starts, totals, counts, times, peaks),
+    }
+}
+
+// A line that is no call on a supervisor.
+fn alone_by(
+    request: Request,
+    state: State,
+    short: bool,
+    s: &[u8],
+    starts: &mut Seconds,
+    totals: &mut Seconds,
+    counts: &mut Counts,
+    times: &mut Times,
+    peaks: &mut Peaks,
+) -> Told {
+    match request {
+        Request::Full(full) => Told {
+            state: State { full, ..state },
+            answer: Answer::Done,
+        },
+        Request::Alone(call) => {
+            let kept = state.alone;
+            let done = lone(call, kept, short, s, starts, totals, counts, times, peaks);
+            let alone = done.alone;
+            let answer = done.answer;
+            Told {
+                state: State { alone, ..state },
+                answer,
+            }
+        }
+        _ => Told {
+            state,
+            answer: Answer::BadLine,
+        },
+    }
+}
+
+// ---- calls on a supervisor
+// The kinds that `new` brings.
+fn kinds_for(call: Call, s: &[u8]) -> [ExtraDelay; 16] {
+    let Call::New(asked) = call else {
+        return kinds_at(s, 0, 0);
+    };
+    let settings = asked.settings;
+    kinds_at(s, asked.kinds, settings.count)
+}
+
+// What a tick brings for each input.
+fn looks_for(call: Call, s: &[u8], count: usize) -> [Look; 16] {
+    let Call::Tick(asked) = call else {
+        return looks_at(s, 0, 0);
+    };
+    looks_at(s, asked.looks, count)
+}
+
+// The delays that `new` loads: their flows go to the output buffer, whose answers are written out first.
+fn load(call: Call, s: &[u8], out: &mut Out, place: usize, heard: &mut Heard) {
+    let Call::New(asked) = call else {
+        return;
+    };
+    text_lines::write(out, place);
+    loads_at(s, asked.loads, asked.loaded, out, heard);
+}
+
+// How many numbers a call has heard: the lags of a tick, the delays that `new` loads.
+fn heard_by(call: Call) -> usize {
+    match call {
+        Call::New(asked) => asked.loaded,
+        Call::Tick(asked) => asked.lags,
+        _ => 0,
+    }
+}
+
+// What a call does that changes nothing, or changes the record by a call, or crafts a part of it.
+enum Deed {
+    Ask,
+    Change,
+    Craft(PutAsked),
+    // A dry tick is read, and nothing is done.
+    Nothing,
+}
+
+fn deed_of(call: Call) -> Deed {
+    match call {
+        Call::New(_) | Call::Route(_) | Call::Update(_) | Call::Confirm(_) => Deed::Change,
+        Call::Tick(asked) => {
+            if asked.dry {
+                return Deed::Nothing;
+            }
+            Deed::Change
+        }
+        Call::Put(asked) => Deed::Craft(asked),
+        _ => Deed::Ask,
+    }
+}
+
+// A call on a supervisor, or what a line crafts of its record.
+fn called(
+    call: Call,
+    inputs: Inputs,
+    short: bool,
+    s: &[u8],
+    out: &mut Out,
+    place: usize,
+    starts: &mut Seconds,
+    totals: &mut Seconds,
+    counts: &mut Counts,
+    times: &mut Times,
+    peaks: &mut Peaks,
+    commands: &mut Words,
+    heard: &mut Heard,
+) -> Called {
+    load(call, s, out, place, heard);
+    let what = deed_of(call);
+    match what {
+        Deed::Change => {
+            let n = heard_by(call);
+            text_called::change(
+                call,
+                inputs,
+                short,
+                kinds_for(call, s),
+                looks_for(call, s, inputs.count),
+                part(out, 0, product_usize(n, FLOW_BYTES)),
+                first_u32(heard, n),
+                starts,
+                totals,
+                counts,
+                times,
+                peaks,
+                commands,
+            )
+        }
+        Deed::Craft(asked) => Called {
+            inputs: text_crafted::put(
+                inputs,
+                asked,
+                buckets_in(inputs),
+                s,
+                starts,
+                totals,
+                counts,
+                times,
+                peaks,
+            ),
+            answer: Answer::Done,
+        },
+        Deed::Ask => Called {
+            inputs,
+            answer: text_called::ask(call, inputs, short, starts, totals, counts, times, peaks),
+        },
+        Deed::Nothing => Called {
+            inputs,
+            answer: Answer::Dry,
+        },
+    }
+}
+
+// ---- lines
+// Where the answer goes: `new` has written out the answers so far.
+fn place_for(call: Call, place: usize) -> usize {
+    match call {
+        Call::New(_) => 0,
+        _ => place,
+    }
+}
+
+fn flushed(state: State, out: &mut Out) -> State {
     let at = text_lines::room(out, state.place);
     let place = put_text(out, at, b"flushed\n");
     let mut changed = state;
@@ -93,83 +300,136 @@ fn flush(state: State, out: &mut Out) -> State {
     changed
 }
 
-// A call that needs no supervisor, and whose name begins at `at`.
-fn lone(
+// What a line leaves, with its answer shown.
+fn shown(
     state: State,
-    short: bool,
-    s: &[u8],
-    at: usize,
+    inputs: Inputs,
+    answer: Answer,
     out: &mut Out,
-    starts: &mut Seconds,
-    totals: &mut Seconds,
-    counts: &mut Counts,
-    times: &mut Times,
-    lags: &mut Peaks,
-) -> State {
-    let kept = state.alone;
-    let done = text_lone::answer(
-        kept,
-        short,
-        s,
-        at,
+    place: usize,
+    starts: &Seconds,
+    totals: &Seconds,
+    counts: &Counts,
+    times: &Times,
+    peaks: &Peaks,
+    commands: &Words,
+) -> Turn {
+    let alone = state.alone;
+    let window = alone.window;
+    let hold = alone.hold;
+    let next = text_shown::show(
+        answer,
+        state.full,
         out,
-        state.place,
+        place,
+        inputs,
+        buckets_in(inputs),
+        window,
+        hold,
         starts,
         totals,
         counts,
         times,
-        lags,
+        peaks,
+        commands,
     );
-    let left = done.alone;
     let mut changed = state;
-    changed.alone = left;
-    changed.place = done.place;
-    changed
+    changed.place = next;
+    Turn {
+        state: changed,
+        inputs,
+    }
 }
 
-// Answers a line, unless it is a call on a supervisor.
-fn read(
+// The line that the cursor shows becomes a request, the request an answer, the answer a line.
+fn answered(
     state: State,
     line: Cursor,
-    s: &[u8],
+    inputs: Inputs,
+    input: &Input,
     out: &mut Out,
     starts: &mut Seconds,
     totals: &mut Seconds,
     counts: &mut Counts,
     times: &mut Times,
-    lags: &mut Peaks,
-) -> Found {
-    if is_flush(s) {
-        return answered(flush(state, out));
-    }
-    let p = prefix(s);
-    let named = text_names::call_at(s, p.at);
-    if named.next == LOST {
-        return answered(lone(
-            state,
-            p.short,
-            s,
-            p.at,
-            out,
-            starts,
-            totals,
-            counts,
-            times,
-            lags,
-        ));
-    }
-    let call = named.call;
-    Found {
-        state,
-        line,
-        call,
-        short: p.short,
-        at: named.next,
+    peaks: &mut Peaks,
+    commands: &mut Words,
+    heard: &mut Heard,
+) -> Turn {
+    let s = text_lines::line(input, line);
+    let kept = state.alone;
+    let read = text_read::read(s, known(inputs, kept), heard);
+    let request = read.request;
+    match request {
+        Request::Flush => Turn {
+            state: flushed(state, out),
+            inputs,
+        },
+        Request::On(call) => {
+            let done = called(
+                call,
+                inputs,
+                read.short,
+                s,
+                out,
+                state.place,
+                starts,
+                totals,
+                counts,
+                times,
+                peaks,
+                commands,
+                heard,
+            );
+            let left = done.inputs;
+            let answer = done.answer;
+            shown(
+                state,
+                left,
+                answer,
+                out,
+                place_for(call, state.place),
+                starts,
+                totals,
+                counts,
+                times,
+                peaks,
+                commands,
+            )
+        }
+        _ => {
+            let done = alone_by(
+                request,
+                state,
+                read.short,
+                s,
+                starts,
+                totals,
+                counts,
+                times,
+                peaks,
+            );
+            let left = done.state;
+            let answer = done.answer;
+            shown(
+                left,
+                inputs,
+                answer,
+                out,
+                state.place,
+                starts,
+                totals,
+                counts,
+                times,
+                peaks,
+                commands,
+            )
+        }
     }
 }
 
 // Nothing more to answer in what was read: what was answered is written, and more is read.
-fn refill(state: State, cursor: Cursor, input: &mut Input, out: &Out) -> State {
+fn refilled(state: State, cursor: Cursor, input: &mut Input, out: &Out) -> State {
     let written = text_lines::write(out, state.place);
     let c = text_lines::more(input, cursor);
     let mut changed = state;
@@ -186,218 +446,12 @@ fn ended(state: State, out: &Out) -> State {
     changed
 }
 
-// Answers the next line, unless it is a call on a supervisor, or reads more.
-fn step(
-    state: State,
-    input: &mut Input,
-    out: &mut Out,
-    starts: &mut Seconds,
-    totals: &mut Seconds,
-    counts: &mut Counts,
-    times: &mut Times,
-    lags: &mut Peaks,
-) -> Found {
-    let before = state.cursor;
-    let c = text_lines::look(input, before);
-    if c.found {
-        let mut passing = state;
-        let next = text_lines::passed(c);
-        passing.cursor = next;
-        return read(
-            passing,
-            c,
-            text_lines::line(input, c),
-            out,
-            starts,
-            totals,
-            counts,
-            times,
-            lags,
-        );
+// No line was found: more is read, unless there is none.
+fn unfound(state: State, cursor: Cursor, input: &mut Input, out: &Out) -> State {
+    if cursor.ended {
+        return ended(state, out);
     }
-    if c.ended {
-        return answered(ended(state, out));
-    }
-    answered(refill(state, c, input, out))
-}
-
-// No call, or a tick on a supervisor that was made.
-fn passed_over(call: Call, at: usize, count: usize) -> bool {
-    if at == LOST {
-        return true;
-    }
-    match call {
-        Call::Tick | Call::DryTick => count != 0,
-        _ => false,
-    }
-}
-
-// The call asks for a supervisor, and none was made: its record has no inputs.
-fn unmade(call: Call, count: usize) -> bool {
-    match call {
-        Call::New => false,
-        _ => count == 0,
-    }
-}
-
-// The call on a supervisor that was found, but for a tick on one that was made. `heard` is room for the delays that `new` loads.
-fn called(
-    found: Found,
-    inputs: Inputs,
-    input: &Input,
-    out: &mut Out,
-    starts: &mut Seconds,
-    totals: &mut Seconds,
-    counts: &mut Counts,
-    times: &mut Times,
-    lags: &mut Peaks,
-    commands: &mut Words,
-    heard: &mut Heard,
-) -> Done {
-    let state = found.state;
-    let call = found.call;
-    let place = state.place;
-    let at = found.at;
-    if passed_over(call, at, inputs.count) {
-        return Done { inputs, place };
-    }
-    if unmade(call, inputs.count) {
-        return Done {
-            inputs,
-            place: bad_line(out, place),
-        };
-    }
-    let alone = state.alone;
-    let line = found.line;
-    let s = text_lines::line(input, line);
-    match call {
-        Call::New => text_making::new(
-            inputs,
-            alone.full,
-            found.short,
-            s,
-            at,
-            out,
-            place,
-            starts,
-            totals,
-            counts,
-            times,
-            lags,
-            commands,
-            heard,
-        ),
-        Call::Route | Call::Update | Call::Confirm => text_changing::answer(
-            call,
-            inputs,
-            alone.full,
-            found.short,
-            s,
-            at,
-            out,
-            place,
-            starts,
-            totals,
-            counts,
-            times,
-            lags,
-            commands,
-        ),
-        Call::Put => text_crafting::put(
-            inputs,
-            s,
-            at,
-            out,
-            place,
-            starts,
-            totals,
-            counts,
-            times,
-            lags,
-        ),
-        _ => Done {
-            inputs,
-            place: text_asking::answer(
-                call,
-                inputs,
-                found.short,
-                s,
-                at,
-                out,
-                place,
-                starts,
-                totals,
-                counts,
-                times,
-                lags,
-            ),
-        },
-    }
-}
-
-// The tick on a supervisor that was found. `heard` is room for its lags.
-fn ticked(
-    found: Found,
-    inputs: Inputs,
-    place: usize,
-    input: &Input,
-    out: &mut Out,
-    starts: &mut Seconds,
-    totals: &mut Seconds,
-    counts: &mut Counts,
-    times: &mut Times,
-    lags: &mut Peaks,
-    commands: &mut Words,
-    heard: &mut Heard,
-) -> Done {
-    if found.at == LOST {
-        return Done { inputs, place };
-    }
-    if inputs.count == 0 {
-        return Done { inputs, place };
-    }
-    let state = found.state;
-    let alone = state.alone;
-    let line = found.line;
-    let s = text_lines::line(input, line);
-    let call = found.call;
-    match call {
-        Call::Tick => text_ticking::tick(
-            inputs,
-            false,
-            alone.full,
-            found.short,
-            s,
-            found.at,
-            out,
-            place,
-            starts,
-            totals,
-            counts,
-            times,
-            lags,
-            commands,
-            heard,
-        ),
-        Call::DryTick => text_ticking::tick(
-            inputs,
-            true,
-            alone.full,
-            found.short,
-            s,
-            found.at,
-            out,
-            place,
-            starts,
-            totals,
-            counts,
-            times,
-            lags,
-            commands,
-            heard,
-        ),
-        _ => Done { inputs, place },
-    }
+    refilled(state, cursor, input, out)
 }
 
 // Answers line after line.
@@ -408,60 +462,53 @@ fn run(
     totals: &mut Seconds,
     counts: &mut Counts,
     times: &mut Times,
-    lags: &mut Peaks,
+    peaks: &mut Peaks,
     commands: &mut Words,
     heard: &mut Heard,
 ) {
     let mut state = begin();
-    let mut inputs = text_supervisor::begin();
+    let mut inputs = text_called::begin();
     let mut turns = u64::MAX;
     while turns > 0 && state.more {
-        let found = step(state, input, out, starts, totals, counts, times, lags);
-        let told = called(
-            found,
-            inputs,
-            input,
-            out,
-            starts,
-            totals,
-            counts,
-            times,
-            lags,
-            commands,
-            heard,
-        );
-        let kept = told.inputs;
-        let done = ticked(
-            found,
-            kept,
-            told.place,
-            input,
-            out,
-            starts,
-            totals,
-            counts,
-            times,
-            lags,
-            commands,
-            heard,
-        );
-        let mut next = found.state;
-        next.place = done.place;
-        state = next;
-        let left = done.inputs;
-        inputs = left;
+        let before = state.cursor;
+        let c = text_lines::look(input, before);
+        if c.found {
+            let mut passing = state;
+            let next = text_lines::passed(c);
+            passing.cursor = next;
+            let done = answered(
+                passing,
+                c,
+                inputs,
+                input,
+                out,
+                starts,
+                totals,
+                counts,
+                times,
+                peaks,
+                commands,
+                heard,
+            );
+            let after = done.state;
+            state = after;
+            let left = done.inputs;
+            inputs = left;
+        } else {
+            state = unfound(state, c, input, out);
+        }
         turns -= 1;
     }
 }
 
 fn main() {
-    let mut input = [0u8; 1_052_672];
+    let mut input = [0u8; 1_048_640];
     let mut out = [0u8; 262_144];
     let mut starts = [0u64; 187];
     let mut totals = [0u64; 187];
     let mut counts = [0u32; 765_952];
     let mut times = [0u64; 10_200];
-    let mut lags = [0u32; 10_200];
+    let mut peaks = [0u32; 10_200];
     let mut commands = [0u32; 192];
     let mut heard = [0u32; 524_288];
     run(
@@ -471,7 +518,7 @@ fn main() {
         &mut totals,
         &mut counts,
         &mut times,
-        &mut lags,
+        &mut peaks,
         &mut commands,
         &mut heard,
     );

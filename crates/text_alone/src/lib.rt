@@ -1,6 +1,202 @@
-// The calls of the text protocol that need no supervisor (compare/README.md): numbers, the clock, `Coalesce`, the schedule, a window, a hold.
-// Each function reads its words from place `at` of the line, which is after the call's name, and writes the answer.
-pub mod clocks;
-pub mod holds;
-pub mod numbers;
-pub mod windows;
+// The calls that need no supervisor: each is answered by value (compare/README.md, "The protocol"). The window and the hold alone have the lists'
+// last places. A refused call leaves what is kept.
+use base::product_usize;
+use delay_hold::DelayHold;
+use lag_window::LagWindow;
+use sources::Schedule;
+use state::Coalesce;
+use text_answers::Answer;
+use text_lending::Counts;
+use text_lending::LONE_COUNTS;
+use text_lending::LONE_PEAKS;
+use text_lending::LONE_SECONDS;
+use text_lending::Peaks;
+use text_lending::Seconds;
+use text_lending::Times;
+use text_lending::buckets;
+use text_lending::cut;
+use text_lending::places;
+use text_requests::Lone;
+
+mod clocks;
+mod holds;
+mod numbers;
+mod windows;
+
+// What the calls alone keep.
+pub struct Alone {
+    pub window: LagWindow,
+    pub hold: DelayHold,
+    pub coalesce: Coalesce,
+    pub schedule: Schedule,
+}
+
+pub struct Answered {
+    pub alone: Alone,
+    pub answer: Answer,
+}
+
+// Before any call: a window of width 4 for offset and maximum 0, and a fresh hold.
+pub fn begin() -> Alone {
+    let window = LagWindow {
+        seconds: 0,
+        buckets: 1_202,
+        width: 4,
+    };
+    let hold = delay_hold::core::fresh();
+    let coalesce = Coalesce::new();
+    let schedule = Schedule::new();
+    Alone {
+        window,
+        hold,
+        coalesce,
+        schedule,
+    }
+}
+
+// The buckets of the window that a call is on: a new one has its own.
+fn buckets_for(request: Lone, window: LagWindow) -> usize {
+    let Lone::WindowNew(asked) = request else {
+        return window.buckets;
+    };
+    buckets(asked.offset, asked.most, asked.width)
+}
+
+// A call on the window, on its places of the starts and the totals.
+fn on_seconds(
+    request: Lone,
+    alone: Alone,
+    short: bool,
+    starts: &mut [u64],
+    totals: &mut [u64],
+    counts: &mut [u32],
+) -> Answered {
+    let kept = alone.window;
+    let n = cut(LagWindow::SECONDS, short);
+    let a = places(LONE_SECONDS, n, starts.len());
+    let b = places(LONE_SECONDS, n, totals.len());
+    let a0 = a.from;
+    let a1 = a.to;
+    let b0 = b.from;
+    let b1 = b.to;
+    let done = windows::answer(
+        request,
+        kept,
+        &mut starts[a0..a1],
+        &mut totals[b0..b1],
+        counts,
+    );
+    let left = done.window;
+    let answer = done.answer;
+    Answered {
+        alone: Alone {
+            window: left,
+            ..alone
+        },
+        answer,
+    }
+}
+
+// On its places of the counts too.
+fn on_window(
+    request: Lone,
+    alone: Alone,
+    short: bool,
+    starts: &mut Seconds,
+    totals: &mut Seconds,
+    counts: &mut [u32],
+) -> Answered {
+    let kept = alone.window;
+    let n = cut(
+        product_usize(LagWindow::SECONDS, buckets_for(request, kept)),
+        short,
+    );
+    let c = places(LONE_COUNTS, n, counts.len());
+    let c0 = c.from;
+    let c1 = c.to;
+    on_seconds(request, alone, short, starts, totals, &mut counts[c0..c1])
+}
+
+// A call on the hold, on its places of the lists.
+fn on_hold(
+    request: Lone,
+    alone: Alone,
+    short: bool,
+    times: &mut [u64],
+    peaks: &mut [u32],
+) -> Answered {
+    let kept = alone.hold;
+    let n = cut(DelayHold::PLACES, short);
+    let a = places(LONE_PEAKS, n, times.len());
+    let b = places(LONE_PEAKS, n, peaks.len());
+    let a0 = a.from;
+    let a1 = a.to;
+    let b0 = b.from;
+    let b1 = b.to;
+    let done = holds::answer(request, kept, &mut times[a0..a1], &mut peaks[b0..b1]);
+    let left = done.hold;
+    let answer = done.answer;
+    Answered {
+        alone: Alone {
+            hold: left,
+            ..alone
+        },
+        answer,
+    }
+}
+
+// A call that has no lists.
+fn listless(request: Lone, alone: Alone) -> Answered {
+    match request {
+        Lone::CoalesceSet(_) | Lone::Changed(_) | Lone::Pending | Lone::Take | Lone::TakeDue(_) => {
+            let kept = alone.coalesce;
+            let done = clocks::coalesce(request, kept);
+            let left = done.coalesce;
+            let answer = done.answer;
+            Answered {
+                alone: Alone {
+                    coalesce: left,
+                    ..alone
+                },
+                answer,
+            }
+        }
+        Lone::QuerySet(_) | Lone::QueryUp(_) | Lone::QueryFailed(_) => {
+            let kept = alone.schedule;
+            let done = clocks::schedule(request, kept);
+            let left = done.schedule;
+            let answer = done.answer;
+            Answered {
+                alone: Alone {
+                    schedule: left,
+                    ..alone
+                },
+                answer,
+            }
+        }
+        _ => Answered {
+            alone,
+            answer: numbers::answer(request),
+        },
+    }
+}
+
+// The answer of a call, but for what is crafted.
+pub fn answer(
+    request: Lone,
+    alone: Alone,
+    short: bool,
+    starts: &mut Seconds,
+    totals: &mut Seconds,
+    counts: &mut Counts,
+    times: &mut Times,
+    peaks: &mut Peaks,
+) -> Answered {
+    match request {
+        Lone::WindowNew(_) | Lone::Push(_) | Lone::Clear | Lone::Span | Lone::Quantile(_) => {
+            on_window(request, alone, short, starts, totals, counts)
+        }
+        Lone::HoldNew | Lone::Next(_) => on_hold(request, alone, short, times, peaks),
+        _ => listless(request, alone),
+    }
+}

@@ -1,58 +1,50 @@
-// What every answer of the text protocol is made of (compare/README.md): `bad line`, `refused N`, `ok` and what follows it. Each function
-// writes from `place` of the output buffer on, and hands back the place after.
-use text_lines::room;
-use text_protocol::print::put_bit_after;
-use text_protocol::print::put_decimal_after;
-use text_protocol::print::put_text;
+// What a request is answered, by value (compare/README.md, "The protocol"). Where an answer shows a window, a hold or a record, it says which
+// part of what is kept is shown.
+ghost use mathlib.Core.Path.{_≡_};
+ghost use Rattle.text_answers.specs.Answers.{unlessRefused};
+use delay_hold::Lag;
+use rules_calls::InputStatus;
+use sources::QueryDown;
+use state::Due;
 
-pub fn bad_line(out: &mut [u8], place: usize) -> usize {
-    let a = room(out, place);
-    put_text(out, a, b"bad line\n")
+pub enum Answer {
+    BadLine,
+    // The number of the check that said no.
+    Refused(u32),
+    // Accepted, and nothing follows.
+    Done,
+    Number(u64),
+    // A number, or none.
+    Maybe(Lag),
+    // A double.
+    Double(f64),
+    Bit(bool),
+    Due(Due),
+    Taken(bool, Due),
+    Failed(u64, QueryDown),
+    Status(InputStatus),
+    // The window alone, whole.
+    Window,
+    // The delay that `next` changes to, or none, and the hold alone, whole.
+    Next(Lag),
+    // The record of this input.
+    Input(usize),
+    // The record of all inputs.
+    All,
+    // Whether the table was unsaved, and the record of all inputs.
+    Ticked(bool),
+    // The record as it stands, with no commands, whole.
+    Dump,
+    // The same as it is set, after a tick that was read and not made.
+    Dry,
 }
 
-// The end of an answer.
-pub fn end(out: &mut [u8], place: usize) -> usize {
-    let a = room(out, place);
-    put_text(out, a, b"\n")
-}
-
-pub fn accepted(out: &mut [u8], place: usize) -> usize {
-    let a = room(out, place);
-    put_text(out, a, b"ok")
-}
-
-pub fn done(out: &mut [u8], place: usize) -> usize {
-    let a = accepted(out, place);
-    end(out, a)
-}
-
-pub fn refused(out: &mut [u8], place: usize, number: u32) -> usize {
-    let a = room(out, place);
-    let b = put_text(out, a, b"refused");
-    let c = put_decimal_after(out, b, b' ', number as u64);
-    end(out, c)
-}
-
-pub fn number_answer(out: &mut [u8], place: usize, value: u64) -> usize {
-    let a = accepted(out, place);
-    let b = put_decimal_after(out, a, b' ', value);
-    end(out, b)
-}
-
-// A refusal, or a number.
-pub fn number_or_refused(out: &mut [u8], place: usize, number: u32, value: u64) -> usize {
+// This answer, unless the call was refused.
+pub fn unless(number: u32, answer: Answer) -> Answer
+    ensures { λ r. ⌜ r ≡ unlessRefused number answer ⌝ }
+{
     if number != 0 {
-        return refused(out, place, number);
+        return Answer::Refused(number);
     }
-    number_answer(out, place, value)
-}
-
-// A refusal, or a bit.
-pub fn bit_or_refused(out: &mut [u8], place: usize, number: u32, value: bool) -> usize {
-    if number != 0 {
-        return refused(out, place, number);
-    }
-    let a = accepted(out, place);
-    let b = put_bit_after(out, a, b' ', value);
-    end(out, b)
+    answer
 }

@@ -2,11 +2,15 @@
 // for a window and a hold alone. A function that only hands a list on is lent the whole array, one that cuts a part a slice.
 ghost use mathlib.Core.Path.{_≡_};
 ghost use Prim.Native.Nat.{_≤_};
-ghost use Rattle.text_lending.specs.Lengths.{cutTo, lengthsFor, placesFrom};
+ghost use lib.ListN.{take};
+ghost use Rattle.text_lending.specs.LentTo.{bucketsHeld, lentTo};
+ghost use Rattle.text_lending.specs.Lengths.{bucketsLent, cutTo, lengthsFor, placesFrom};
 use base::least_usize;
 use base::less_usize;
 use base::product_usize;
 use base::sum_usize;
+use rules_record::Inputs;
+use text_requests::Call;
 
 // Where the places of the window and the hold alone begin.
 pub const LONE_SECONDS: usize = 176;
@@ -31,10 +35,7 @@ pub type Words = [u32; 192];
 // The lags of a tick, or the delays that `new` loads.
 pub type Heard = [u32; 524_288];
 
-// The output buffer, and room for the flows that `new` loads: what was answered is written out before they are read.
-pub type Out = [u8; 262_144];
-
-// The lengths that a call on a supervisor asks for.
+// The lengths that a call asks for.
 pub struct Sizes {
     pub seconds: usize,
     pub counts: usize,
@@ -48,17 +49,21 @@ pub struct Span {
     pub to: usize,
 }
 
-// The buckets of these settings, or more than any window has.
-pub fn buckets(offset: u32, most: u32, width: u32) -> usize {
+// The buckets a second of windows with these settings, as the library counts them; none where no supervisor has such an offset or maximum, or the
+// width is 0: the call is refused then before its lists are asked for.
+pub fn buckets(offset: u32, maximum: u32, width: u32) -> usize
+    ensures { λ r. ⌜ r ≡ bucketsLent offset maximum width ⌝ }
+{
+    if 96_000 < offset {
+        return 0;
+    }
+    if 96_000 < maximum {
+        return 0;
+    }
     if width == 0 {
-        return 4_097;
+        return 0;
     }
-    let reach = offset as u64 + most as u64 + 4_800;
-    let n = reach / width as u64;
-    if 4_094 < n {
-        return 4_097;
-    }
-    n as usize + 2
+    lag_rows::core::buckets_of(offset, maximum, width)
 }
 
 // One place less where lists are to be short.
@@ -82,6 +87,34 @@ pub fn lengths(n: usize, buckets: usize, short: bool) -> Sizes
         peaks: cut(product_usize(n, 600), short),
         words: cut(product_usize(n, 12), short),
     }
+}
+
+// The buckets a second of a record's windows.
+pub fn buckets_in(inputs: Inputs) -> usize
+    ensures { λ r. ⌜ r ≡ bucketsHeld inputs ⌝ }
+{
+    let policy = inputs.policy;
+    buckets(policy.read_offset, policy.delay_max, inputs.width)
+}
+
+// The lengths of the lists that a call asks for: `new` by its settings, every other by the record.
+pub fn sizes_for(call: Call, inputs: Inputs, short: bool) -> Sizes
+    ensures { λ r. ⌜ r ≡ lentTo call inputs short ⌝ }
+{
+    let Call::New(asked) = call else {
+        return lengths(inputs.count, buckets_in(inputs), short);
+    };
+    let settings = asked.settings;
+    let n = buckets(settings.read_offset, settings.delay_max, settings.width);
+    lengths(settings.count, n, short)
+}
+
+// The first n numbers, as far as there are any.
+pub fn first_u32(s: &[u32], n: usize) -> &[u32]
+    ensures { λ r. ⌜ now r ≡ take n (now (s .entry)) ⌝ }
+{
+    let end = least_usize(n, s.len());
+    &s[..end]
 }
 
 // So many places from `first` on, of at most `most`.

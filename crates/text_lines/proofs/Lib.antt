@@ -1,3 +1,4 @@
 pub mod Looking
 pub mod OneLine
 pub mod Reading
+pub mod RoundTrip

@@ -7,10 +7,10 @@ use native.Mathlib.Omega.{arith}
 use borrow.Author.Tests.{le-leb, lt-leb, lt-ltb, le-ltb, ne-eqb}
 use lib.ListN.{length, getD, take, drop}
 use Rattle.base.proofs.Choices.{yes-pick, no-pick}
-use Rattle.text_protocol.specs.declared.Step.{Step}
-use Rattle.text_protocol.specs.declared.Step.the-variants.{At, Bad}
-use Rattle.text_protocol.specs.Scan.{hasByte, firstFrom}
-use Rattle.text_protocol.proofs.Parts.{first-within}
+use Rattle.text_scan.specs.declared.Step.{Step}
+use Rattle.text_scan.specs.declared.Step.the-variants.{At, Bad}
+use Rattle.text_scan.specs.Scan.{hasByte, firstFrom}
+use Rattle.text_scan.proofs.Parts.{first-within}
 use Rattle.text_lines.specs.declared.Cursor.{Cursor}
 use Rattle.text_lines.specs.Lines.{longest, foundAt, seenAll, droppedAll, lastOf, unfinishedOf, lookOf, returnBefore, textEnd, tooLong, lineOf, roomAt}
 

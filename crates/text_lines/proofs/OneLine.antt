@@ -8,10 +8,10 @@ use lib.Dec.{ltb}
 use lib.ListN.{length, getD, take, drop, length-take, length-drop}
 use lib.Seq.{getD-take, getD-drop}
 use Rattle.base.proofs.Choices.{pick-all, by-le}
-use Rattle.text_protocol.specs.declared.Step.{Step}
-use Rattle.text_protocol.specs.declared.Step.the-variants.{At, Bad}
-use Rattle.text_protocol.specs.Scan.{firstFrom}
-use Rattle.text_protocol.proofs.Parts.{lookedTo, first-over}
+use Rattle.text_scan.specs.declared.Step.{Step}
+use Rattle.text_scan.specs.declared.Step.the-variants.{At, Bad}
+use Rattle.text_scan.specs.Scan.{firstFrom}
+use Rattle.text_scan.proofs.Parts.{lookedTo, first-over}
 use Rattle.text_lines.specs.declared.Cursor.{Cursor}
 use Rattle.text_lines.specs.Lines.{longest, lastOf, unfinishedOf, lookedAt, lookOf, returnBefore, textEnd, tooLong, lineOf}
 

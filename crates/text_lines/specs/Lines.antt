@@ -7,9 +7,9 @@ use lib.Dec.{eqb, leb, ltb}
 use lib.ListN.{length, take, drop}
 use Rattle.base.specs.Choice.{pick}
 use Rattle.base.specs.Lists.{shifted}
-use Rattle.text_protocol.specs.declared.Step.{Step}
-use Rattle.text_protocol.specs.declared.Step.the-variants.{At, Bad}
-use Rattle.text_protocol.specs.Scan.{hasByte, firstFrom}
+use Rattle.text_scan.specs.declared.Step.{Step}
+use Rattle.text_scan.specs.declared.Step.the-variants.{At, Bad}
+use Rattle.text_scan.specs.Scan.{hasByte, firstFrom}
 use Rattle.text_lines.specs.declared.Cursor.{Cursor}
 
 -- 1 MiB: the longest line, without its newline

@@ -7,10 +7,11 @@ use base::less_usize;
 use base::sum_usize;
 use libc::STDIN_FILENO;
 use libc::STDOUT_FILENO;
-use text_protocol::Step;
-use text_protocol::bytes::part;
-use text_protocol::bytes::shift_u8;
-use text_protocol::scan::first;
+use text_print::Out;
+use text_scan::Step;
+use text_scan::bytes::part;
+use text_scan::bytes::shift_u8;
+use text_scan::first;
 
 // The longest line, without its newline. The input buffer is longer.
 pub const LONGEST: usize = 1_048_576;
@@ -190,13 +191,13 @@ pub fn more(input: &mut [u8], c: Cursor) -> Cursor
 }
 
 // Writes the answers so far: whether that could be done.
-pub fn write(out: &[u8], place: usize) -> bool {
+pub fn write(out: &Out, place: usize) -> bool {
     io::write_all(STDOUT_FILENO, part(out, 0, place))
 }
 
 // The place for the next words: where few places are left, the answers so far are written and the buffer begins anew.
-pub fn room(out: &[u8], place: usize) -> usize
-    ensures { λ r. ⌜ r ≡ roomAt (length (now (out .entry))) place ⌝ }
+pub fn room(out: &Out, place: usize) -> usize
+    ensures { λ r. ⌜ r ≡ roomAt 262_144 place ⌝ }
 {
     if SPARE <= less_usize(out.len(), place) {
         return place;

@@ -2,30 +2,30 @@
 use Prim.Native.Nat.{ℕ, _+_, _≤_, _<_}
 use mathlib.Core.Bool.{true, false}
 use mathlib.Core.Path.{_≡_, refl, sym, ap, _∙_}
-use lib.Dec.{eqb}
 use Rattle.base.specs.Limits.{timeLimit}
 use Rattle.base.specs.Choice.{both}
 use Rattle.base.proofs.Choices.{by-bool}
 use Rattle.delay_hold.specs.declared.Lag.{Lag}
-use Rattle.delay_hold.specs.Decide.{timerOff, withLower}
+use Rattle.delay_hold.specs.Steps5To8.{timerOff, withLower}
 use Rattle.delay_hold.specs.Next.{held, Decided, nextOf, delayAfter, oneMillisecond, alwaysLower}
 use Rattle.rules_record.specs.declared.Proposal.{Proposal}
 use Rattle.rules_record.specs.declared.Proposal.the-variants.{Nothing, Pending}
 use Rattle.rules_record.specs.declared.Slot.{Slot}
 use Rattle.rules_record.specs.declared.Inputs.{Inputs}
-use Rattle.rules_record.specs.Slots.{stateNumber, isAuto, withHold, withProposed, withDelayChanges, withDelay}
+use Rattle.rules_record.specs.Slots.{isAuto, withHold, withProposed, withDelayChanges, withDelay}
+use Rattle.rules_record.specs.States.{isRunning}
 use Rattle.rules_record.specs.Inputs.{slotAt, putSlot}
 use Rattle.rules_record.proofs.SlotFrame.{slot-same}
 use Rattle.rules_record.proofs.Sized.{sized-put}
 use Rattle.rules_record.specs.Sized.{Sized}
 use Rattle.base.proofs.Tests.{not-both}
-use Rattle.rules_record.specs.Commands.{quiet, first}
+use Rattle.rules_record.specs.Commands.{quiet, sendFirst}
 use Rattle.rules_routing.specs.SetDelay.{delayStored, setDelayOf}
 use Rattle.rules_routing.proofs.SetDelayStored.{stored-same}
 use Rattle.rules_record.specs.Lent.{Lists, windowOf, heldFor, heldOf}
 use Rattle.rules_record.specs.Effects.{Effect}
 use Rattle.rules_routing.proofs.SettingsKept.{settings-put}
-use Rattle.rules_tick.specs.Arrival.{largestOf}
+use Rattle.rules_tick.specs.Lags.{largestOf}
 use Rattle.rules_tick.specs.AutoDelay.{p999Of, proposedOr, currentOf, nextFor, changing, goesOn, autoDelayed}
 use Rattle.rules_tick.specs.AutoDelay as auto
 use Rattle.rules_tick.specs.InputReady.{Ready}
@@ -51,7 +51,7 @@ module _ (i : ℕ) (largest : Lag) (time : ℕ) (s : Inputs) (l : Lists) (low : 
 
   -- the state and the kind stay
   pub auto-state : slotAt (autoDelayed i largest time s l .inputs) i .state ≡ slotAt s i .state
-  unfolding setDelayOf first quiet
+  unfolding setDelayOf sendFirst quiet
   auto-state =
       auto-rule i largest time s l (λ effect. slotAt (effect .inputs) i .state ≡ slotAt s i .state)
       (λ e. ap (λ (x : Slot). x .state) (put _))
@@ -61,7 +61,7 @@ module _ (i : ℕ) (largest : Lag) (time : ℕ) (s : Inputs) (l : Lists) (low : 
       (λ on delay e h. ap (λ (x : Slot). x .state) (changed delay))
 
   pub auto-config : slotAt (autoDelayed i largest time s l .inputs) i .config ≡ slotAt s i .config
-  unfolding setDelayOf first quiet
+  unfolding setDelayOf sendFirst quiet
   auto-config =
       auto-rule i largest time s l (λ effect. slotAt (effect .inputs) i .config ≡ slotAt s i .config)
       (λ e. ap (λ (x : Slot). x .config) (put _))
@@ -72,7 +72,7 @@ module _ (i : ℕ) (largest : Lag) (time : ℕ) (s : Inputs) (l : Lists) (low : 
 
   pub auto-goes : goesOn (slotAt (autoDelayed i largest time s l .inputs) i) ≡ goesOn (slotAt s i)
   unfolding goesOn
-  auto-goes = λ t. both (eqb (stateNumber (auto-state t)) 2) (isAuto (auto-config t .«extra_delay»))
+  auto-goes = λ t. both (isRunning (auto-state t)) (isAuto (auto-config t .«extra_delay»))
 
 module _ (i : ℕ) (tick : Tick) (s : Inputs) (l : Lists) (r : Ready s l i) (sized : Sized s) (soon : tick .time ≤ timeLimit) (lowers : tick .mayLower ≡ alwaysLower) (off : s .confirm ≡ false) (none : slotAt s i .proposed ≡ Nothing)
     (view : InputView) (is : pushedView tick view ≡ viewOf s l i) where

@@ -7,15 +7,14 @@ use lib.ListN.{length, length-replicate}
 use borrow.Author.Tests.{eqb-true, eqb-false}
 use Rattle.base.proofs.Choices.{by-bool}
 use Rattle.policy.specs.declared.DelayPolicy.{DelayPolicy}
-use Rattle.rules_window.specs.Window.{bucketsOf, fresh}
-use Rattle.rules_window.specs.Window.{windowed}
+use Rattle.rules_window.specs.Window.{fresh, windowed, bucketsOf}
 use Rattle.rules_window.specs.Parts.{partOf}
 use Rattle.delay_hold.specs.Next.{clearedHold}
 use Rattle.rules_record.specs.declared.Slot.{Slot}
 use Rattle.rules_record.specs.declared.Proposal.the-variants.{Nothing}
 use Rattle.rules_record.specs.declared.Inputs.{Inputs}
 use Rattle.rules_record.specs.Inputs.{slotAt}
-use Rattle.rules_record.specs.Lent.{Lists, bucketsIn, windowFor, heldFor, heldOf, withWindow, withHeld}
+use Rattle.rules_record.specs.Lent.{Lists, bucketsIn, windowFor, heldFor, heldOf, withWindow, withHeld, bucketsFor}
 use Rattle.rules_record.specs.Checks.{Fitting}
 use Rattle.rules_record.proofs.Beside.{Beside, beside-window, window-same, held-same}
 use Rattle.rules_record.proofs.Shapes.{held-times, held-lags}
@@ -23,11 +22,7 @@ use Rattle.rules_routing.specs.Clear.{clearedSlot, clearedLists}
 use Rattle.rules_routing.proofs.SettingsKept.{SameSettings, settings-then}
 use Rattle.history.specs.View.{InputView}
 use Rattle.history.specs.Events.{history}
-use Rattle.third_demand.proofs.Lifted.{viewOf, Lifted}
-
--- the window, the hold and the delay of input i, where this is its slot
-abbrev pub viewFor : Inputs → Lists → ℕ → Slot → InputView
-viewFor s l i slot = record { window = windowFor s l i slot; held = heldFor l i slot; delay = slot .delay }
+use Rattle.third_demand.proofs.Lifted.{viewOf, Lifted, viewFor}
 
 -- nothing happens to the input
 pub lifted-none : (policy : DelayPolicy) (time : ℕ) (view next : InputView) → next ≡ view → Lifted policy time view next
@@ -47,7 +42,7 @@ module _ (s z : Inputs) (same : SameSettings s z) where
   view-own m i slot is-slot = λ t. record {
     window =
         partOf i
-        (windowed (is-slot t .«lag_seconds») (bucketsOf (same-policy t .«read_offset») (same-policy t .«delay_max») (same-width t)) (same-width t)
+        (windowed (is-slot t .«lag_seconds») (bucketsFor (same-policy t) (same-width t)) (same-width t)
         (m .starts) (m .totals) (m .counts));
     held = heldFor m i (is-slot t);
     delay = is-slot t .delay;
@@ -72,7 +67,7 @@ module _ (s z : Inputs) (same : SameSettings s z) where
           totals = beside .totals j there apart t;
           counts = beside .counts j there apart t;
         };
-        held = record { hold = slotAt s j .hold; times = beside .times j there apart t; lags = beside .lags j there apart t };
+        held = record { hold = slotAt s j .hold; times = beside .times j there apart t; lags = beside .peaks j there apart t };
         delay = slotAt s j .delay;
       })
 

@@ -29,12 +29,12 @@ use Rattle.rules_calls.specs.declared.Settings.{Settings}
 use Rattle.rules_calls.specs.declared.Wanted.the-variants as Wanted
 use Rattle.rules_calls.specs.NewRecord.{policyOf}
 use Rattle.rules_tick.specs.declared.Look.{Look}
-use Rattle.rules_tick.specs.Arrival.{largestOf}
+use Rattle.rules_tick.specs.Lags.{largestOf}
 use Rattle.rules_tick.specs.AutoDelay.{goesOn}
 use Rattle.rules_tick.specs.Looks.{lagsOf}
 use Rattle.sent_delays.specs.Last.{lastDelay, delayTold}
 use Rattle.history.specs.Stretch.{NonEmpty, NoneAbove, bucketEnd}
-use Rattle.third_demand.specs.Calls.{Call, routes, updates, ticks, timeOf, after, run, Accepted, clockAfter, Orderly, toldBy, told, Night, fresh, left, delayOf}
+use Rattle.third_demand.specs.Calls.{Call, routes, updates, ticks, timeOf, after, run, Accepted, clockAfter, Orderly, toldBy, told, Night, fresh, leftBy, delayOf}
 use Rattle.third_demand.specs.Demand.{policyIn, RunsOn, InStretch, Goes, tickTime, lastTick, Stretch, ending}
 use Rattle.third_demand.proofs.ThirdDemand.{third-demand}
 use Rattle.third_demand.proofs.Opened.{base-opened, window-opened, hold-opened, record-opened, routing-opened, calls-opened, tick-opened}
@@ -153,14 +153,14 @@ along-stretch i L before r (call ∷ calls) h =
 -- what the floor asks of the late tick, what the ceiling asks of the stretch, and the delays
 record Computed : Type 0 where
   new : fresh night .number ≡ 0
-  late-taken : Accepted (left night (opens ∷ [])) (tickAt 0 4000)
-  late-runs : RunsOn 0 (left night (opens ∷ tickAt 0 4000 ∷ []))
+  late-taken : Accepted (leftBy night (opens ∷ [])) (tickAt 0 4000)
+  late-runs : RunsOn 0 (leftBy night (opens ∷ tickAt 0 4000 ∷ []))
   late-lag : largestOf (lagsOf looks (4000 ∷ []) 0) ≡ Lag.Of 4000
   late-delay : delayOf 0 night (opens ∷ tickAt 0 4000 ∷ []) ≡ 4800
-  first-taken : Accepted (left night (opens ∷ tickAt 0 4000 ∷ [])) (tickAt 5 480)
-  first-in : InStretch 0 480 (5 * nanos) looks (480 ∷ []) (5 * nanos) (after (left night (opens ∷ tickAt 0 4000 ∷ [])) (tickAt 5 480))
-  goes-along : along 0 480 (5 * nanos) (after (left night (opens ∷ tickAt 0 4000 ∷ [])) (tickAt 5 480)) later ≡ true
-  long : 5 * nanos + (30 * nanos + policyIn night .window + 3 * policyIn night .hold) ≤ ending (5 * nanos) (after (left night (opens ∷ tickAt 0 4000 ∷ [])) (tickAt 5 480)) later
+  first-taken : Accepted (leftBy night (opens ∷ tickAt 0 4000 ∷ [])) (tickAt 5 480)
+  first-in : InStretch 0 480 (5 * nanos) looks (480 ∷ []) (5 * nanos) (after (leftBy night (opens ∷ tickAt 0 4000 ∷ [])) (tickAt 5 480))
+  goes-along : along 0 480 (5 * nanos) (after (leftBy night (opens ∷ tickAt 0 4000 ∷ [])) (tickAt 5 480)) later ≡ true
+  long : 5 * nanos + (30 * nanos + policyIn night .window + 3 * policyIn night .hold) ≤ ending (5 * nanos) (after (leftBy night (opens ∷ tickAt 0 4000 ∷ [])) (tickAt 5 480)) later
   last-delay : delayOf 0 night (opens ∷ tickAt 0 4000 ∷ tickAt 5 480 ∷ later) ≡ 816
   last-need : needOf (policyIn night) (bucketEnd (policyIn night) 480 480) ≡ 816
 

@@ -3,12 +3,11 @@
 use Prim.Native.Nat.{ℕ, _+_, _*_, _≤_, _<_}
 use mathlib.Core.Path.{_≡_}
 use mathlib.Core.List.{List}
-use lib.Dec.{eqb}
 use lib.ListN.{length}
 use Rattle.rules_record.specs.declared.ExtraDelay.{ExtraDelay}
 use Rattle.rules_record.specs.declared.Proposal.the-variants.{Nothing}
 use Rattle.rules_record.specs.declared.Slot.{Slot}
-use Rattle.rules_record.specs.Slots.{stateNumber}
+use Rattle.rules_record.specs.States.{isRunning}
 use Rattle.rules_record.specs.Inputs.{slotAt}
 use Rattle.rules_routing.specs.declared.World.{World}
 use Rattle.rules_record.specs.Reply.{Reply}
@@ -75,7 +74,7 @@ pub record Laws (settings : Settings) : Type 0 where
   pub step : (n : ℕ) (r : Reply) (call : Call) → n < most → Good settings n r → Accepted r call → Step settings n r call
   pub tick :
       (n : ℕ) (r : Reply) (looks : List Look) (lags : List ℕ) (time i : ℕ) → n < most → Good settings n r → Accepted r (ticks looks lags time) → i < settings .count →
-      TickLifted (policyOf settings) (tickOf time (lagsOf looks lags i)) (eqb (stateNumber (slotAt (r .inputs) i .state)) 2)
+      TickLifted (policyOf settings) (tickOf time (lagsOf looks lags i)) (isRunning (slotAt (r .inputs) i .state))
       (goesOn (slotAt (after r (ticks looks lags time) .inputs) i)) (seenAt r i) (seenAt (after r (ticks looks lags time)) i)
   pub route-other :
       (n : ℕ) (r : Reply) (input : ℕ) (wanted : Wanted) (time : ℕ) (world : World) (i : ℕ) → Sure settings n r → Accepted r (routes input wanted time world) → i < settings .count →

@@ -18,7 +18,7 @@ use Rattle.rules_record.specs.declared.Inputs.{Inputs}
 use Rattle.rules_record.specs.Inputs.{slotAt}
 use Rattle.rules_record.proofs.Sized.{sized-put}
 use Rattle.rules_record.specs.Sized.{Sized}
-use Rattle.rules_record.specs.Commands.{quiet, first}
+use Rattle.rules_record.specs.Commands.{quiet, sendFirst}
 use Rattle.rules_routing.specs.SetDelay.{setDelayOf}
 use Rattle.rules_routing.specs.declared.World.{World}
 use Rattle.rules_routing.specs.TryOpen.{tryOpenOf}
@@ -26,7 +26,7 @@ use Rattle.rules_routing.proofs.TryOpenOutcomes.{open-outcomes}
 use Rattle.rules_record.specs.Lent.{Lists}
 use Rattle.rules_record.specs.Effects.{Effect, beside, followedBy}
 use Rattle.rules_routing.specs.Clear.{cleared}
-use Rattle.rules_tick.specs.Arrival.{arrived, largestOf}
+use Rattle.rules_tick.specs.Lags.{arrived, largestOf}
 use Rattle.rules_tick.specs.AutoDelay.{autoDelayed}
 use Rattle.rules_tick.proofs.AutoDelayKeeps.{auto-rule}
 use Rattle.rules_calls.specs.Update.{delaySet, updated}
@@ -60,7 +60,7 @@ few-none : (n : ℕ) → Few n []
 few-none n = zero-le
 
 set-few : (s : Inputs) (i delay time : ℕ) → Few 3 (setDelayOf s i delay time .words)
-unfolding setDelayOf first quiet
+unfolding setDelayOf sendFirst quiet
 set-few s i delay time = omega arith
 
 module _ (i : ℕ) (low : i < 16) where
@@ -147,7 +147,7 @@ started-one-few i (Auto tag) time s = few-none 3
 started-one-few i (Ms delay) time s = set-few _ i _ time
 
 pub started-few : (n : ℕ) (kinds : List ExtraDelay) (time : ℕ) (s : Inputs) → Few (n * 3) (startedBelow n kinds time s .words)
-unfolding startedBelow quiet first
+unfolding startedBelow quiet sendFirst
 started-few zero kinds time s = few-none 0
 started-few (suc n) kinds time s =
     omega (

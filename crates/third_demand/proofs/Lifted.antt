@@ -5,14 +5,18 @@ use mathlib.Core.Path.{_≡_}
 use mathlib.Core.List.{List, [], _∷_, _++_}
 use Rattle.policy.specs.declared.DelayPolicy.{DelayPolicy}
 use Rattle.rules_record.specs.declared.Inputs.{Inputs}
+use Rattle.rules_record.specs.declared.Slot.{Slot}
 use Rattle.rules_record.specs.Inputs.{slotAt}
-use Rattle.rules_record.specs.Lent.{Lists, windowOf, heldOf}
+use Rattle.rules_record.specs.Lent.{Lists, windowFor, heldFor}
 use Rattle.history.specs.View.{rulesOf, InputView, Tick}
 use Rattle.history.specs.Events.{Event, ticks, history, Lawful, clock}
 
--- the window, the hold and the delay of input i
+-- the window, the hold and the delay of input i, where this is its slot
+abbrev pub viewFor : Inputs → Lists → ℕ → Slot → InputView
+viewFor s l i slot = record { window = windowFor s l i slot; held = heldFor l i slot; delay = slot .delay }
+
 abbrev pub viewOf : Inputs → Lists → ℕ → InputView
-viewOf s l i = record { window = windowOf s l i; held = heldOf s l i; delay = slotAt s i .delay }
+viewOf s l i = viewFor s l i (slotAt s i)
 
 -- events at this time, lawful after every earlier one, lead from one view to the next
 pub record Lifted (policy : DelayPolicy) (time : ℕ) (view next : InputView) : Type 0 where

@@ -11,25 +11,26 @@ use Rattle.doubles.specs.Doubles.{halfAway, ceilOf}
 use Rattle.doubles.specs.Quantile as quantiles
 use Rattle.policy.specs.Need.{shareOf, needOf}
 use Rattle.policy.specs.Settings.{reachesAllowed, timesAllowed, marginsAllowed, shareOfPercent, percentAllowed}
-use Rattle.rules_window.specs.Quantile.{column, within, running, reach, quantileIn}
-use Rattle.rules_window.specs.Whole.{summed, wholeWindow}
+use Rattle.rules_window.specs.Quantile.{column, within, running, reach, quantileIn, thousandths}
+use Rattle.rules_window.specs.WholeWindow.{summed, wholeWindow}
 use Rattle.rules_window.specs.Window.{bucketsOf, inUse, laid, opened, dropped, counted, pushed, pushedAll}
 use Rattle.rules_window.specs.Checks.{newestOf}
 use Rattle.rules_window.specs.Window as windows
-use Rattle.delay_hold.specs.Decide.{lowering, weighed, decideAt, decide}
+use Rattle.delay_hold.specs.Steps5To8.{lowering, weighed, decideAt, decide}
 use Rattle.delay_hold.specs.Next.{nextOf}
-use Rattle.delay_hold.specs.Peaks.{joinTimes, joinLags, oldCount, timesAfter, lagsAfter}
-use Rattle.delay_hold.specs.Steps.{noted}
+use Rattle.delay_hold.specs.Step4Peaks.{joinTimes, joinLags, oldCount, timesAfter, lagsAfter}
+use Rattle.delay_hold.specs.Steps1To3.{noted}
 use Rattle.delay_hold.specs.Whole.{timerFits, wholePeaks, wholeTimes, wholeHold}
 use Rattle.rules_record.specs.Checks.{inputsAllowed, bucketsAllowed, pausesAllowed, listsFit, recordNumber, inputNumber, timedNumber}
-use Rattle.rules_record.specs.Commands.{quiet, first}
+use Rattle.rules_record.specs.Commands.{quiet, sendFirst}
 use Rattle.rules_record.specs.Effects.{followedBy}
-use Rattle.rules_record.specs.Flows.{sameFlow, emptyEntry, entryAt, flowAt, known, placeBelow, placeOf, distinctFlows, admits, enrolledAt, enrolled, recalled, kept, remembered, rememberedBy, rememberedFor}
+use Rattle.rules_record.specs.Flows.{sameFlow, emptyEntry, entryAt, flowAt, known, placeBelow, flowPlace, distinctFlows, admits, enrolledAt, enrolled, recalled, kept, remembered, rememberedBy, rememberedFor}
 use Rattle.rules_record.specs.Inputs.{slotAt, putSlot}
-use Rattle.rules_record.specs.Instances.{sameKey, noKey, keyAt, held, keyBelow, foundKey, distinctKeys, made, usesKey, anyUses, wantedKey, keepOne, keptKeys, withKeys, pruned}
+use Rattle.rules_record.specs.Instances.{sameKey, noKey, keyAt, keysHeld, keyBelow, foundKey, distinctKeys, made}
+use Rattle.rules_record.specs.Prune.{usesKey, anyUses, wantedKey, keepOne, keptKeys, withKeys, pruned}
 use Rattle.rules_record.specs.Lent.{bucketsIn}
-use Rattle.rules_record.specs.Places.{routeFits, wholeSlot, unusedTimer, unusedHold, unusedParts, unusedNumbers, unusedSlot, unusedEntry, entriesFit, wholeFlows, unusedKey, keysFit, wholeInstances}
-use Rattle.rules_record.specs.Record.{wholeInput, wholeInputs, wholeRecord}
+use Rattle.rules_record.specs.WholePlaces.{routeFits, wholeSlot, unusedTimer, unusedHold, unusedParts, unusedNumbers, unusedSlot, unusedEntry, entriesFit, wholeFlows, unusedKey, keysFit, wholeInstances}
+use Rattle.rules_record.specs.WholeRecord.{wholeInput, wholeInputs, wholeRecord}
 use Rattle.rules_record.specs.Slots.{emptySlot}
 use Rattle.rules_routing.specs.Clear.{cleared}
 use Rattle.rules_routing.specs.SetDelay.{delayStored, setDelayOf}
@@ -45,8 +46,9 @@ use Rattle.rules_calls.specs.RouteChecks.{routeNumber}
 use Rattle.rules_calls.specs.RouteReply.{routeReply}
 use Rattle.rules_calls.specs.UpdateReply.{updateReply}
 use Rattle.rules_calls.specs.UpdateChecks.{updateNumber}
-use Rattle.rules_tick.specs.Arrival.{windowAfter, lastLag, arrived, lateNow, lateEvents, lateEvent}
-use Rattle.rules_tick.specs.AutoDelay.{permille999, p999Of, nextFor, answered, decidedFor, goesOn, autoDelayed}
+use Rattle.rules_tick.specs.Lags.{windowAfter, lastLag, arrived}
+use Rattle.rules_tick.specs.LateEvents.{lateNow, lateEvents, lateEvent}
+use Rattle.rules_tick.specs.AutoDelay.{p999Of, nextFor, answered, decidedFor, goesOn, autoDelayed}
 use Rattle.rules_tick.specs.Looks.{lookAt, lagsBefore, lagsOf}
 use Rattle.rules_tick.specs.Tick.{heard, looked, tickedInput, tickedBelow, tickedAll, ticked}
 use Rattle.rules_tick.specs.TickChecks.{looksFit, lagsFit, roomsFit, tickNumber}
@@ -54,7 +56,7 @@ use Rattle.rules_tick.specs.TickReply.{tickReply}
 
 -- of base, doubles and policy
 unfoldable pub base-opened : ℕ
-unfolding any both ask padded blankFrom sum all sumFrom apart upTo firsts.first halfAway ceilOf quantiles.placeOf shareOf needOf reachesAllowed timesAllowed marginsAllowed shareOfPercent percentAllowed round mul div ofInt le
+unfolding any both ask padded blankFrom sum all sumFrom apart upTo firsts.first halfAway ceilOf quantiles.targetOf shareOf needOf reachesAllowed timesAllowed marginsAllowed shareOfPercent percentAllowed round mul div ofInt le
 base-opened = 0
 
 -- of a window
@@ -69,7 +71,7 @@ hold-opened = 0
 
 -- of the record, its tables and its checks
 unfoldable pub record-opened : ℕ
-unfolding inputsAllowed bucketsAllowed pausesAllowed listsFit recordNumber inputNumber timedNumber quiet first followedBy sameFlow emptyEntry entryAt flowAt known placeBelow placeOf distinctFlows admits enrolledAt enrolled recalled kept remembered rememberedBy rememberedFor slotAt putSlot sameKey noKey keyAt held keyBelow foundKey distinctKeys made usesKey anyUses wantedKey keepOne keptKeys withKeys pruned bucketsIn routeFits wholeSlot unusedTimer unusedHold unusedParts unusedNumbers unusedSlot unusedEntry entriesFit wholeFlows unusedKey keysFit wholeInstances wholeInput wholeInputs wholeRecord emptySlot
+unfolding inputsAllowed bucketsAllowed pausesAllowed listsFit recordNumber inputNumber timedNumber quiet sendFirst followedBy sameFlow emptyEntry entryAt flowAt known placeBelow flowPlace distinctFlows admits enrolledAt enrolled recalled kept remembered rememberedBy rememberedFor slotAt putSlot sameKey noKey keyAt keysHeld keyBelow foundKey distinctKeys made usesKey anyUses wantedKey keepOne keptKeys withKeys pruned bucketsIn routeFits wholeSlot unusedTimer unusedHold unusedParts unusedNumbers unusedSlot unusedEntry entriesFit wholeFlows unusedKey keysFit wholeInstances wholeInput wholeInputs wholeRecord emptySlot
 record-opened = 0
 
 -- of routing
@@ -84,5 +86,5 @@ calls-opened = 0
 
 -- of a tick
 unfoldable pub tick-opened : ℕ
-unfolding windowAfter lastLag arrived lateNow lateEvents lateEvent permille999 p999Of nextFor answered decidedFor goesOn autoDelayed lookAt lagsBefore lagsOf heard looked tickedInput tickedBelow tickedAll ticked looksFit lagsFit roomsFit tickNumber tickReply
+unfolding windowAfter lastLag arrived lateNow lateEvents lateEvent thousandths p999Of nextFor answered decidedFor goesOn autoDelayed lookAt lagsBefore lagsOf heard looked tickedInput tickedBelow tickedAll ticked looksFit lagsFit roomsFit tickNumber tickReply
 tick-opened = 0

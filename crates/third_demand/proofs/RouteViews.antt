@@ -1,12 +1,11 @@
 -- What an accepted `route` makes of every input: of its own nothing, or "window and hold are cleared" and a seed where it opens; nothing of
 -- another. Assumes nothing.
 use Prim.Native.Nat.{ℕ, _<_, _≤_}
-use mathlib.Core.Bool.{Bool, true, false}
+use mathlib.Core.Bool.{Bool}
 use mathlib.Core.Path.{_≡_, refl, sym, ap, subst, _∙_}
 use mathlib.Core.List.{List, [], _∷_}
 use native.Mathlib.Omega.{arith}
 use lib.ListN.{length}
-use Rattle.base.specs.Choice.{pick}
 use Rattle.base.specs.Limits.{timeLimit}
 use Rattle.base.proofs.Choices.{accepted-new, pick-all}
 use Rattle.rules_window.specs.Window.{fresh}
@@ -22,7 +21,6 @@ use Rattle.rules_record.proofs.SlotFrame.{slot-same}
 use Rattle.rules_record.proofs.Sized.{sized-put}
 use Rattle.rules_record.specs.Sized.{Sized}
 use Rattle.rules_record.specs.Commands.{quiet}
-use Rattle.rules_record.proofs.FlowTable.{enrolled-rest, enrolled-sized}
 use Rattle.rules_routing.specs.declared.World.{World}
 use Rattle.rules_routing.specs.TryOpen.{runningSlot, openedSlot}
 use Rattle.rules_routing.proofs.TryOpenFrame.{Frame, frame-put, frame-then, open-leaves}
@@ -36,26 +34,20 @@ use Rattle.rules_routing.specs.Clear.{clearedSlot, clearedLists, cleared}
 use Rattle.rules_routing.proofs.ClearFrames.{cleared-beside}
 use Rattle.rules_routing.proofs.SettingsKept.{SameSettings, settings-put, settings-frame}
 use Rattle.rules_calls.specs.declared.Wanted.{Wanted}
-use Rattle.rules_calls.specs.declared.Wanted.the-variants as Wanted
 use Rattle.rules_calls.specs.RouteChecks.{routeNumber}
 use Rattle.rules_calls.specs.Route.{enrolledFor, routeFor, equalRoute, startsOver, startedOver, routedSlot, openedFor, moved, rerouted, routedTo, routed}
 use Rattle.rules_calls.specs.RouteReply.{routeReply}
+use Rattle.rules_calls.proofs.RouteViews.{over-delay}
+use Rattle.rules_calls.proofs.Enrolling.{for-slot}
+use Rattle.rules_calls.proofs.RouteFrames.{for-settings, for-sized}
 use Rattle.history.specs.View.{InputView, rulesOf}
 use Rattle.history.specs.Events.{Event, seeds, clears, after, history}
-use Rattle.third_demand.proofs.Lifted.{viewOf, Lifted}
-use Rattle.third_demand.proofs.CallViews.{viewFor, fitting-same, view-own, view-other, view-cleared, CallOn, call-none, call-from}
+use Rattle.third_demand.proofs.Lifted.{viewOf, Lifted, viewFor}
+use Rattle.third_demand.proofs.CallViews.{fitting-same, view-own, view-other, view-cleared, CallOn, call-none, call-from}
 
 -- ---- the slot of the new route
-pick-ap : {A B : Type 0} (g : A → B) (b : Bool) (x y : A) → g (pick b x y) ≡ pick b (g x) (g y)
-pick-ap g true x y = refl
-pick-ap g false x y = refl
 
 module _ (new : Routed) (time : ℕ) (slot : Slot) where
-  -- a delay of 0 where it starts over, else the delay stays
-  over-delay : startedOver new time slot .delay ≡ pick (startsOver new slot) 0 (slot .delay)
-  unfolding startedOver
-  over-delay = pick-ap (λ (x : Slot). x .delay) (startsOver new slot) _ _
-
   -- no proposal comes, and no counter changes
   over-proposed : slot .proposed ≡ Nothing → startedOver new time slot .proposed ≡ Nothing
   unfolding startedOver
@@ -169,10 +161,6 @@ module _ (s : Inputs) (l : Lists) (i time : ℕ) (sized : Sized s) (f : Fitting 
       (started-moved s l i time f h soon new inode (world .head) delay (subst (λ (z : Inputs). delay ≤ z .policy .«delay_max») (settings-put s i _) fits)))
 
   -- ---- a route of a record where its flow is enrolled
-  -- one that is not equal
-  pub rerouted-own : (new : Routed) → Moved s l i time new (slotAt (rerouted new i time world s l .inputs) i)
-  unfolding rerouted moved followedBy cleared
-  rerouted-own new = opened-slot new
 
   rerouted-call : (new : Routed) → CallOn i time s l (rerouted new i time world s l .inputs) (rerouted new i time world s l .lists)
   unfolding rerouted moved followedBy cleared
@@ -197,21 +185,6 @@ module _ (s : Inputs) (l : Lists) (i time : ℕ) (sized : Sized s) (f : Fitting 
   routed-to-call new =
       pick-all (λ (effect : Effect). CallOn i time s l (effect .inputs) (effect .lists)) (equalRoute new (slotAt s i .route)) (call-none i time s l) (rerouted-call new)
 
--- ---- "Routes .. enrol flows": this leaves the settings and the slots
-module _ (s : Inputs) where
-  enrolled-settings : (wanted : Wanted) → SameSettings s (enrolledFor s wanted)
-  enrolled-settings Wanted.Nothing = refl
-  enrolled-settings (Wanted.From source) = subst (SameSettings s) (sym (enrolled-rest s (source .flow))) refl
-
-  enrolled-slot : (wanted : Wanted) (j : ℕ) → slotAt (enrolledFor s wanted) j ≡ slotAt s j
-  unfolding slotAt
-  enrolled-slot Wanted.Nothing j = refl
-  enrolled-slot (Wanted.From source) j = ap (λ (z : Inputs). slotAt z j) (enrolled-rest s (source .flow))
-
-  sized-enrolled : (wanted : Wanted) → Sized s → Sized (enrolledFor s wanted)
-  sized-enrolled Wanted.Nothing sized = sized
-  sized-enrolled (Wanted.From source) sized = enrolled-sized s (source .flow) sized
-
 -- ---- the call
 module _ (s : Inputs) (l : Lists) (commands : List ℕ) (input : ℕ) (wanted : Wanted) (time : ℕ) (world : World) (accepted : routeNumber s l (length commands) input wanted time world ≡ 0) where
   abbrev effect : Effect
@@ -231,9 +204,9 @@ module _ (s : Inputs) (l : Lists) (commands : List ℕ) (input : ℕ) (wanted : 
   unfolding routed
   routed-call sized =
       let z : Inputs = enrolledFor s wanted in
-      let same : SameSettings s z = enrolled-settings s wanted in
-      call-from input time s l z same (enrolled-slot s wanted) (effect .inputs) (effect .lists)
-      (routed-to-call z l input time (sized-enrolled s wanted sized) (fitting-same s z same l (told .0)) (subst (λ (x : Inputs). input < x .count) (sym same) (told .1)) (told .2) (told .3) world (routeFor z wanted))
+      let same : SameSettings s z = for-settings s wanted in
+      call-from input time s l z same (for-slot s wanted) (effect .inputs) (effect .lists)
+      (routed-to-call z l input time (for-sized s wanted sized) (fitting-same s z same l (told .0)) (subst (λ (x : Inputs). input < x .count) (sym same) (told .1)) (told .2) (told .3) world (routeFor z wanted))
 
   pub route-call : Sized s → CallOn input time s l (routeReply s l commands input wanted time world .inputs) (routeReply s l commands input wanted time world .lists)
   route-call sized = subst (λ (r : Reply). CallOn input time s l (r .inputs) (r .lists)) (sym route-reply) (routed-call sized)

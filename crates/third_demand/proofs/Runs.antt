@@ -4,14 +4,13 @@ use mathlib.Core.Path.{_≡_, refl, sym, ap, subst, _∙_}
 use mathlib.Core.List.{List, [], _∷_, _++_}
 use native.Mathlib.Omega.{arith}
 use lib.ListN.{length}
-use Rattle.base.proofs.Choices.{accepted-new, refused-old}
+use Rattle.base.proofs.Choices.{accepted-new, refused-old, by-zero}
 use Rattle.rules_record.specs.declared.Slot.{Slot}
 use Rattle.rules_record.specs.declared.Inputs.{Inputs}
 use Rattle.rules_record.specs.Inputs.{slotAt}
 use Rattle.rules_record.specs.Lent.{Lists}
 use Rattle.rules_record.specs.Reply.{Reply}
 use Rattle.rules_record.specs.Facts.{Checked}
-use Rattle.base.proofs.Choices.{by-zero}
 use Rattle.rules_routing.proofs.SettingsKept.{SameSettings}
 use Rattle.rules_calls.specs.declared.Settings.{Settings}
 use Rattle.rules_calls.specs.NewRecord.{policyOf, blankFor}
@@ -25,6 +24,7 @@ use Rattle.third_demand.proofs.Lifted.{viewOf, Lifted}
 use Rattle.third_demand.proofs.Good.{Counted, Sure, Good, most, seenAt, Laws}
 use Rattle.third_demand.proofs.Steps.{sure-step}
 use Rattle.third_demand.proofs.Refused.{Unchanged, refused-after}
+use Rattle.third_demand.proofs.Ends.{lawful-then}
 
 -- ---- one list of calls after another
 pub run-append : (r : Reply) (calls more : List Call) → run r (calls ++ more) ≡ run (run r calls) more
@@ -50,12 +50,6 @@ told-append i before r [] more = refl
 told-append i before r (call ∷ calls) more = told-append i (toldBy i before r call) (after r call) calls more
 
 -- ---- the events of one input
-pub lawful-join :
-    (rules : Rules) (before : ℕ) (view : InputView) (past more : List Event) → Lawful rules before view past → Lawful rules (clock before past) (history rules view past) more →
-    Lawful rules before view (past ++ more)
-unfolding history
-lawful-join rules before view [] more a b = b
-lawful-join rules before view (event ∷ past) more a b = (a .0, a .1, a .2, a .3, lawful-join rules (events.timeOf event) (events.after rules view event) past more (a .4) b)
 
 pub clock-append : (before : ℕ) (past more : List Event) → clock before (past ++ more) ≡ clock (clock before past) more
 clock-append before [] more = refl
@@ -82,7 +76,7 @@ module _ (settings : Settings) where
         past = life .past ++ lift .events;
         leads = history-append rules start (life .past) (lift .events) ∙ ap (λ (x : InputView). history rules x (lift .events)) (life .leads) ∙ lift .leads;
         lawful =
-            lawful-join rules 0 start (life .past) (lift .events) (life .lawful)
+            lawful-then rules 0 start (life .past) (lift .events) (life .lawful)
             (subst (λ (x : InputView). Lawful rules (clock 0 (life .past)) x (lift .events)) (sym (life .leads)) (lift .lawful _ soon));
         clocked = subst (λ (x : ℕ). x ≤ time) (sym (clock-append 0 (life .past) (lift .events))) (lift .clocked _ soon);
       }

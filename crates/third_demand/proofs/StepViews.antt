@@ -5,11 +5,9 @@ use mathlib.Core.Path.{_≡_, refl, sym, ap, subst, _∙_}
 use mathlib.Core.List.{List}
 use native.Mathlib.Omega.{arith}
 use borrow.Author.Tests.{eqb-true, ne-eqb}
-use lib.Dec.{eqb}
 use lib.ListN.{length}
 use Rattle.base.specs.Limits.{timeLimit}
 use Rattle.base.specs.Lists.{part}
-use Rattle.base.proofs.Choices.{pick-all}
 use Rattle.base.proofs.Points.{both-true}
 use Rattle.rules_window.specs.Window.{windowed}
 use Rattle.rules_window.specs.Parts.{partOf}
@@ -18,19 +16,21 @@ use Rattle.delay_hold.specs.Next.{held, seededHold}
 use Rattle.rules_record.specs.declared.State.the-variants.{Stalled}
 use Rattle.rules_record.specs.declared.Slot.{Slot}
 use Rattle.rules_record.specs.declared.Inputs.{Inputs}
-use Rattle.rules_record.specs.Slots.{stateNumber, withState}
+use Rattle.rules_record.specs.Slots.{withState}
+use Rattle.rules_record.specs.States.{stateNumber, isRunning}
 use Rattle.rules_record.specs.Inputs.{slotAt}
 use Rattle.rules_record.specs.Sized.{Sized}
-use Rattle.rules_routing.specs.TryOpen.{runningSlot, openedSlot, startsAnew}
+use Rattle.rules_routing.specs.TryOpen.{openedSlot, startsAnew}
 use Rattle.rules_routing.proofs.TryOpenOutcomes.{startedSlot}
 use Rattle.rules_routing.specs.Watch.{lostSlot, movedSlot}
-use Rattle.rules_record.specs.Lent.{Lists, bucketsIn, windowFor, windowOf, heldFor, heldOf}
+use Rattle.rules_record.specs.Lent.{Lists, bucketsIn, windowOf, heldOf}
 use Rattle.rules_record.specs.Effects.{Effect, followedBy}
-use Rattle.rules_routing.proofs.TryOpenKeeps.{opened-seconds, opened-hold}
-use Rattle.rules_routing.proofs.WatchKeeps.{moved-seconds, moved-hold}
-use Rattle.rules_tick.specs.Arrival.{windowAfter, lastLag, arrivedSlot, arrived, largestOf, lateSlot}
+use Rattle.rules_routing.proofs.TryOpenKeeps.{opened-seconds, opened-hold, opened-delay}
+use Rattle.rules_routing.proofs.WatchKeeps.{moved-seconds, moved-hold, moved-delay}
+use Rattle.rules_tick.specs.Lags.{windowAfter, lastLag, arrivedSlot, arrived, largestOf}
+use Rattle.rules_tick.specs.LateEvents.{lateSlot}
 use Rattle.rules_tick.specs.InputReady.{Ready}
-use Rattle.rules_tick.proofs.ArrivalKeeps.{arrived-slot}
+use Rattle.rules_tick.proofs.LagsKeep.{arrived-slot}
 use Rattle.rules_tick.proofs.LateKeeps.{late-slot}
 use Rattle.rules_tick.proofs.InputViews.{arrived-window, arrived-held, late-window, late-held}
 use Rattle.rules_tick.specs.declared.Look.{Look}
@@ -39,12 +39,8 @@ use Rattle.rules_tick.proofs.Looked.{looked-settings, looked-outcomes}
 use Rattle.rules_tick.proofs.TickFrames.{arrived-sized}
 use Rattle.history.specs.View.{InputView, Tick, tickOf}
 use Rattle.history.specs.Events.{after}
-use Rattle.third_demand.proofs.Lifted.{viewOf}
+use Rattle.third_demand.proofs.Lifted.{viewOf, viewFor}
 use Rattle.third_demand.proofs.Ends.{pushedView, Seeded, seeded-none, seeded-once}
-
--- the view of input i, where this is its slot
-abbrev viewFor : Inputs → Lists → ℕ → Slot → InputView
-viewFor s l i slot = record { window = windowFor s l i slot; held = heldFor l i slot; delay = slot .delay }
 
 -- ---- the lags are pushed, and a late event counts
 module _ (i : ℕ) (look : Look) (lags : List ℕ) (time : ℕ) (s : Inputs) (l : Lists) (low : i < 16) (sized : Sized s) where
@@ -81,23 +77,13 @@ module _ (i : ℕ) (look : Look) (lags : List ℕ) (time : ℕ) (s : Inputs) (l 
   })
 
 -- ---- it is opened or watched
-moved-delay : (slot : Slot) (head time : ℕ) → movedSlot slot head time .delay ≡ slot .delay
-unfolding movedSlot
-moved-delay slot head time = pick-all (λ (x : Slot). x .delay ≡ slot .delay) (eqb (stateNumber (slot .state)) 3) refl refl
-
-opened-delay : (slot : Slot) (inode head time : ℕ) → openedSlot slot inode head time .delay ≡ slot .delay
-unfolding openedSlot runningSlot
-opened-delay slot inode head time =
-    pick-all (λ (x : Slot). x .delay ≡ slot .delay) (eqb (stateNumber (slot .state)) 1)
-    (pick-all (λ (x : Slot). x .delay ≡ slot .delay) (eqb (stateNumber (slot .state)) 3) refl refl)
-    (pick-all (λ (x : Slot). x .delay ≡ slot .delay) (eqb (stateNumber (slot .state)) 3) refl refl)
 
 module _ (i : ℕ) (look : Look) (s : Inputs) (l : Lists) (tick : Tick) (input : i < 16) (sized : Sized s) (soon : tick .time ≤ timeLimit) where
   abbrev seen : Inputs
   seen = looked i look (tick .time) s .inputs
 
   -- an input that starts anew was Waiting
-  anew-rested : startsAnew (slotAt s i) ≡ true → eqb (stateNumber (slotAt s i .state)) 2 ≡ false
+  anew-rested : startsAnew (slotAt s i) ≡ true → isRunning (slotAt s i .state) ≡ false
   unfolding startsAnew
   anew-rested anew =
       let waiting : stateNumber (slotAt s i .state) ≡ 1 = eqb-true _ _ (both-true _ _ (both-true _ _ anew .1) .0) in
@@ -105,13 +91,13 @@ module _ (i : ℕ) (look : Look) (s : Inputs) (l : Lists) (tick : Tick) (input :
 
   module _ (view : InputView) (is : pushedView tick view ≡ viewOf s l i) where
     abbrev Begins : Slot → Type 0
-    Begins new = Seeded (s .policy) tick (eqb (stateNumber (slotAt s i .state)) 2) view (viewFor s l i new)
+    Begins new = Seeded (s .policy) tick (isRunning (slotAt s i .state)) view (viewFor s l i new)
 
     -- a slot whose seconds, hold and delay stay
     same : (new : Slot) → new .«lag_seconds» ≡ slotAt s i .«lag_seconds» → new .hold ≡ slotAt s i .hold → new .delay ≡ slotAt s i .delay → viewFor s l i new ≡ viewOf s l i
     same new seconds hold delay = λ t. record {
       window = partOf i (windowed (seconds t) (bucketsIn s) (s .width) (l .starts) (l .totals) (l .counts));
-      held = held (hold t) (part (i * 600) 600 (l .times)) (part (i * 600) 600 (l .lags));
+      held = held (hold t) (part (i * 600) 600 (l .times)) (part (i * 600) 600 (l .peaks));
       delay = delay t;
     }
 
@@ -126,7 +112,7 @@ module _ (i : ℕ) (look : Look) (s : Inputs) (l : Lists) (tick : Tick) (input :
         seeded-once (s .policy) tick _ view (viewFor s l i (startedSlot new delay (tick .time))) delay soon most (anew-rested anew)
         (λ t. record {
           window = (ap (λ (x : InputView). x .window) is ∙ (λ k. partOf i (windowed (sym seconds k) (bucketsIn s) (s .width) (l .starts) (l .totals) (l .counts)))) t;
-          held = (ap (λ (x : InputView). held (seededHold (x .held .hold) delay (tick .time)) (x .held .times) (x .held .lags)) is ∙ (λ k. held (seededHold (sym hold k) delay (tick .time)) (part (i * 600) 600 (l .times)) (part (i * 600) 600 (l .lags)))) t;
+          held = (ap (λ (x : InputView). held (seededHold (x .held .hold) delay (tick .time)) (x .held .times) (x .held .lags)) is ∙ (λ k. held (seededHold (sym hold k) delay (tick .time)) (part (i * 600) 600 (l .times)) (part (i * 600) 600 (l .peaks)))) t;
           delay = delay;
         })
 
@@ -164,5 +150,5 @@ module _ (i : ℕ) (look : Look) (s : Inputs) (l : Lists) (tick : Tick) (input :
     })
 
     -- it is seeded, or its view stays
-    pub looked-seeded : Seeded (s .policy) tick (eqb (stateNumber (slotAt s i .state)) 2) view (viewOf seen l i)
-    looked-seeded = subst (Seeded (s .policy) tick (eqb (stateNumber (slotAt s i .state)) 2) view) view-under begins
+    pub looked-seeded : Seeded (s .policy) tick (isRunning (slotAt s i .state)) view (viewOf seen l i)
+    looked-seeded = subst (Seeded (s .policy) tick (isRunning (slotAt s i .state)) view) view-under begins

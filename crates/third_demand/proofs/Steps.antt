@@ -4,12 +4,11 @@ use mathlib.Core.Bool.{false}
 use mathlib.Core.Path.{_≡_, sym, ap, subst, _∙_}
 use mathlib.Core.List.{List, [], _∷_, _++_}
 use native.Mathlib.Omega.{arith}
-use lib.Dec.{eqb}
 use lib.ListN.{length}
 use Rattle.base.proofs.Choices.{accepted-new}
 use Rattle.policy.specs.declared.DelayPolicy.{DelayPolicy}
 use Rattle.rules_record.specs.declared.ExtraDelay.{ExtraDelay}
-use Rattle.rules_record.specs.Slots.{stateNumber}
+use Rattle.rules_record.specs.States.{isRunning}
 use Rattle.rules_record.specs.Inputs.{slotAt}
 use Rattle.rules_routing.specs.declared.World.{World}
 use Rattle.rules_record.specs.Effects.{Effect}
@@ -197,11 +196,11 @@ module _ (settings : Settings) (n : ℕ) (r : Reply) (g : Sure settings n r) whe
           ∙ none i h
 
       tick-views : (i : ℕ) → i < settings .count
-          → TickLifted (policyOf settings) (tickOf time (lagsOf looks lags i)) (eqb (stateNumber (slotAt (r .inputs) i .state)) 2) (goesOn (slotAt (after-tick .inputs) i)) (seenAt r i) (seenAt after-tick i)
+          → TickLifted (policyOf settings) (tickOf time (lagsOf looks lags i)) (isRunning (slotAt (r .inputs) i .state)) (goesOn (slotAt (after-tick .inputs) i)) (seenAt r i) (seenAt after-tick i)
       tick-views i h =
-          subst (λ (policy : DelayPolicy). TickLifted policy (tickOf time (lagsOf looks lags i)) (eqb (stateNumber (slotAt (r .inputs) i .state)) 2) (goesOn (slotAt (after-tick .inputs) i)) (seenAt r i) (seenAt after-tick i))
+          subst (λ (policy : DelayPolicy). TickLifted policy (tickOf time (lagsOf looks lags i)) (isRunning (slotAt (r .inputs) i .state)) (goesOn (slotAt (after-tick .inputs) i)) (seenAt r i) (seenAt after-tick i))
           (given-policy settings (r .inputs) (g .same))
-          (subst (λ (x : Reply). TickLifted (r .inputs .policy) (tickOf time (lagsOf looks lags i)) (eqb (stateNumber (slotAt (r .inputs) i .state)) 2) (goesOn (slotAt (x .inputs) i)) (seenAt r i) (seenAt x i))
+          (subst (λ (x : Reply). TickLifted (r .inputs .policy) (tickOf time (lagsOf looks lags i)) (isRunning (slotAt (r .inputs) i .state)) (goesOn (slotAt (x .inputs) i)) (seenAt r i) (seenAt x i))
           (sym tick-reply)
           (tick-lifted (r .inputs) (r .lists) (length (r .commands)) looks lags time i (g .checked .sized) (g .checked) tick-passed off (none i h) (given-input settings (r .inputs) (g .same) i h)))
 

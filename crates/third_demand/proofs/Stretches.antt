@@ -4,17 +4,16 @@ use mathlib.Core.Bool.{Bool, true}
 use mathlib.Core.Path.{_≡_, refl, sym, ap, subst, _∙_}
 use mathlib.Core.List.{List, [], _∷_, _++_}
 use native.Mathlib.Omega.{arith}
-use lib.Dec.{eqb}
 use lib.ListN.{length}
 use Rattle.base.specs.Limits.{nanos}
-use Rattle.base.proofs.Choices.{accepted-new, refused-old}
+use Rattle.base.proofs.Choices.{accepted-new, refused-old, by-zero}
 use Rattle.base.proofs.Points.{both-true}
 use Rattle.rules_record.specs.declared.Slot.{Slot}
 use Rattle.rules_record.specs.declared.Inputs.{Inputs}
-use Rattle.rules_record.specs.Slots.{stateNumber, isAuto}
+use Rattle.rules_record.specs.Slots.{isAuto}
+use Rattle.rules_record.specs.States.{isRunning}
 use Rattle.rules_record.specs.Inputs.{slotAt}
 use Rattle.rules_record.specs.Reply.{Reply}
-use Rattle.base.proofs.Choices.{by-zero}
 use Rattle.rules_tick.specs.AutoDelay.{goesOn}
 use Rattle.rules_calls.specs.declared.Settings.{Settings}
 use Rattle.rules_calls.specs.NewRecord.{policyOf}
@@ -36,7 +35,7 @@ pub record Steadily (settings : Settings) (L before : ℕ) (view next : InputVie
   pub passed : List Tick
   pub leads : history (rulesOf (policyOf settings)) view (runningTicks passed) ≡ next
   pub lawful : Lawful (rulesOf (policyOf settings)) before view (runningTicks passed)
-  pub stretch : stretches.Stretch L before passed
+  pub stretch : stretches.TickStretch L before passed
   pub ends : stretches.ending before passed ≡ end
 
 -- what a call of the stretch leaves, after which the stretch goes on from `last`
@@ -46,9 +45,9 @@ record Onward (settings : Settings) (i L before : ℕ) (view : InputView) (z : R
   prefix : {next : InputView} {end : ℕ} → Steadily settings L last (seenAt z i) next end → Steadily settings L before view next end
 
 -- an input that runs on automatic is Running
-ran-of : (slot : Slot) → goesOn slot ≡ true → eqb (stateNumber (slot .state)) 2 ≡ true
+ran-of : (slot : Slot) → goesOn slot ≡ true → isRunning (slot .state) ≡ true
 unfolding goesOn
-ran-of slot h = both-true (eqb (stateNumber (slot .state)) 2) (isAuto (slot .config .«extra_delay»)) h .0
+ran-of slot h = both-true (isRunning (slot .state)) (isAuto (slot .config .«extra_delay»)) h .0
 
 module _ (settings : Settings) (laws : Laws settings) (i L : ℕ) (h : i < settings .count) where
   abbrev rules : Rules

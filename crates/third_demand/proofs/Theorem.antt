@@ -4,19 +4,18 @@ use mathlib.Core.Bool.{Bool, true, false}
 use mathlib.Core.Path.{_≡_, refl, sym, ap, subst, _∙_}
 use mathlib.Core.List.{List, [], _∷_, _++_}
 use native.Mathlib.Omega.{arith}
-use lib.Dec.{eqb}
 use lib.ListN.{length}
 use Rattle.base.specs.Limits.{nanos}
 use Rattle.base.proofs.Choices.{accepted-new}
 use Rattle.policy.specs.Need.{needOf}
 use Rattle.delay_hold.specs.declared.Lag.the-variants.{Of}
 use Rattle.rules_record.specs.declared.Inputs.{Inputs}
-use Rattle.rules_record.specs.Slots.{stateNumber}
+use Rattle.rules_record.specs.States.{isRunning}
 use Rattle.rules_record.specs.Inputs.{slotAt}
 use Rattle.rules_record.specs.Reply.{Reply}
 use Rattle.rules_record.proofs.Facts.{of-whole}
 use Rattle.rules_record.specs.Checks as checks
-use Rattle.rules_tick.specs.Arrival.{largestOf}
+use Rattle.rules_tick.specs.Lags.{largestOf}
 use Rattle.rules_calls.specs.declared.Settings.{Settings}
 use Rattle.rules_calls.specs.NewRecord.{policyOf, blankFor, blank}
 use Rattle.rules_tick.specs.declared.Look.{Look}
@@ -27,13 +26,14 @@ use Rattle.history.specs.Events.{Event, freshView, history, Lawful, clock}
 use Rattle.history.specs.Events as events
 use Rattle.history.specs.Stretch.{Allowed, runningTicks, bucketEnd}
 use Rattle.history.proofs.Demand.{history-append, floor-after, ceiling-after}
-use Rattle.third_demand.specs.Calls.{Call, ticks, after, run, Accepted, clockAfter, Orderly, told, Night, fresh, left, delayOf}
+use Rattle.third_demand.specs.Calls.{Call, ticks, after, run, Accepted, clockAfter, Orderly, told, Night, fresh, leftBy, delayOf}
 use Rattle.third_demand.specs.Demand.{RunsOn, InStretch, Stretch, ending, StaysWhole, StaysWholeAlways, Floor, Ceiling, ThirdDemand}
 use Rattle.third_demand.proofs.Lifted.{TickLifted}
 use Rattle.third_demand.proofs.Good.{Sure, Good, most, seenAt, Laws}
-use Rattle.third_demand.proofs.Runs.{run-append, clocks, orderly-append, lawful-join, clock-append, Lived, sure-run, good-after, good-run, lived-run, told-run}
+use Rattle.third_demand.proofs.Runs.{run-append, clocks, orderly-append, clock-append, Lived, sure-run, good-after, good-run, lived-run, told-run}
 use Rattle.third_demand.proofs.Stretches.{Steadily, stretch-run}
 use Rattle.third_demand.proofs.Beyond.{beyond, takes}
+use Rattle.third_demand.proofs.Ends.{lawful-then}
 
 -- what an accepted `new` leaves, with confirmation or without
 pub record Born (night : Night) : Type 0 where
@@ -52,10 +52,10 @@ append-assoc (event ∷ a) b c = ap (λ (x : List Event). event ∷ x) (append-a
 -- the record stays whole, and a tick is refused only for what it brings
 pub whole-always : ((night : Night) → fresh night .number ≡ 0 → Born night) → StaysWholeAlways
 whole-always born night calls is-new few =
-    let g : Sure (night .settings) (length calls) (left night calls) =
-    subst (λ (x : ℕ). Sure (night .settings) x (left night calls)) (omega arith) (sure-run (night .settings) 0 (fresh night) calls (omega (arith, few)) (born night is-new .good .sure))
+    let g : Sure (night .settings) (length calls) (leftBy night calls) =
+    subst (λ (x : ℕ). Sure (night .settings) x (leftBy night calls)) (omega arith) (sure-run (night .settings) 0 (fresh night) calls (omega (arith, few)) (born night is-new .good .sure))
     in
-    record { record-whole = of-whole _ _ (g .checked .whole); beyond-six = beyond (night .settings) (length calls) (left night calls) g; takes-ticks = takes (night .settings) (length calls) (left night calls) g }
+    record { record-whole = of-whole _ _ (g .checked .whole); beyond-six = beyond (night .settings) (length calls) (leftBy night calls) g; takes-ticks = takes (night .settings) (length calls) (leftBy night calls) g }
 
 module _ (laws : (settings : Settings) → settings .confirm ≡ false → Laws settings) (born : (night : Night) → fresh night .number ≡ 0 → Born night) where
   module _ (night : Night) (is-new : fresh night .number ≡ 0) (unconfirmed : night .settings .confirm ≡ false) where
@@ -90,11 +90,11 @@ module _ (laws : (settings : Settings) → settings .confirm ≡ false → Laws 
           buckets-most = a .buckets-most;
         }
 
-    good-at : (calls : List Call) → length calls < most → Good settings (length calls) (left night calls)
-    good-at calls few = subst (λ (x : ℕ). Good settings x (left night calls)) (omega arith) (good-run settings law 0 (fresh night) calls (omega (arith, few)) (birth .good))
+    good-at : (calls : List Call) → length calls < most → Good settings (length calls) (leftBy night calls)
+    good-at calls few = subst (λ (x : ℕ). Good settings x (leftBy night calls)) (omega arith) (good-run settings law 0 (fresh night) calls (omega (arith, few)) (birth .good))
 
     -- the delay that the commands tell is the one in the record
-    told-at : (calls : List Call) (i : ℕ) → length calls < most → i < settings .count → delayOf i night calls ≡ slotAt (left night calls .inputs) i .delay
+    told-at : (calls : List Call) (i : ℕ) → length calls < most → i < settings .count → delayOf i night calls ≡ slotAt (leftBy night calls .inputs) i .delay
     unfolding delayOf
     told-at calls i few h = told-run settings 0 (fresh night) calls i _ (omega (arith, few)) h (birth .good .sure) (sym (birth .told i h))
 
@@ -102,7 +102,7 @@ module _ (laws : (settings : Settings) → settings .confirm ≡ false → Laws 
         (few : length (calls ++ (ticks looks lags first ∷ later)) < most)
         (orderly : Orderly 0 (fresh night) (calls ++ (ticks looks lags first ∷ later)))
         (h : i < settings .count)
-        (took : Accepted (left night calls) (ticks looks lags first)) where
+        (took : Accepted (leftBy night calls) (ticks looks lags first)) where
       abbrev call : Call
       call = ticks looks lags first
 
@@ -112,21 +112,21 @@ module _ (laws : (settings : Settings) → settings .confirm ≡ false → Laws 
       fewer : length calls + suc (length later) < most
       fewer = subst (λ (x : ℕ). x < most) (append-length calls call later) few
 
-      abbrev apart : Orderly 0 (fresh night) calls × Orderly (clocks 0 (fresh night) calls) (left night calls) (call ∷ later)
+      abbrev apart : Orderly 0 (fresh night) calls × Orderly (clocks 0 (fresh night) calls) (leftBy night calls) (call ∷ later)
       apart = orderly-append 0 (fresh night) calls (call ∷ later) orderly
 
-      good : Good settings (length calls) (left night calls)
+      good : Good settings (length calls) (leftBy night calls)
       good = good-at calls (omega (arith, fewer))
 
-      life : Lived settings (clocks 0 (fresh night) calls) (seenAt (left night calls) i)
+      life : Lived settings (clocks 0 (fresh night) calls) (seenAt (leftBy night calls) i)
       life = lived-run settings law 0 0 (fresh night) calls i (omega (arith, fewer)) h (birth .good) (apart .0) (birth .lived i h)
 
       -- the events before the tick's own, where the tick leaves the input running on automatic
-      module _ (runs : RunsOn i (after (left night calls) call)) where
-        lift : TickLifted (policyOf settings) tick (eqb (stateNumber (slotAt (left night calls .inputs) i .state)) 2) true (seenAt (left night calls) i) (seenAt (after (left night calls) call) i)
+      module _ (runs : RunsOn i (after (leftBy night calls) call)) where
+        lift : TickLifted (policyOf settings) tick (isRunning (slotAt (leftBy night calls .inputs) i .state)) true (seenAt (leftBy night calls) i) (seenAt (after (leftBy night calls) call) i)
         lift =
-            subst (λ (b : Bool). TickLifted (policyOf settings) tick (eqb (stateNumber (slotAt (left night calls .inputs) i .state)) 2) b (seenAt (left night calls) i) (seenAt (after (left night calls) call) i)) runs
-            (law .tick (length calls) (left night calls) looks lags first i (omega (arith, fewer)) good took h)
+            subst (λ (b : Bool). TickLifted (policyOf settings) tick (isRunning (slotAt (leftBy night calls .inputs) i .state)) b (seenAt (leftBy night calls) i) (seenAt (after (leftBy night calls) call) i)) runs
+            (law .tick (length calls) (leftBy night calls) looks lags first i (omega (arith, fewer)) good took h)
 
         past : List Event
         past = life .past ++ lift .seeding
@@ -138,7 +138,7 @@ module _ (laws : (settings : Settings) → settings .confirm ≡ false → Laws 
         soon : clock 0 (life .past) ≤ first
         soon = omega (arith, life .clocked, apart .1 .0 took)
 
-        past-leads : history rules start (past ++ (events.ticks tick ∷ [])) ≡ seenAt (after (left night calls) call) i
+        past-leads : history rules start (past ++ (events.ticks tick ∷ [])) ≡ seenAt (after (leftBy night calls) call) i
         past-leads =
             ap (history rules start) (sym is-past)
             ∙ history-append rules start (life .past) (lift .seeding ++ (lift .last ∷ []))
@@ -148,7 +148,7 @@ module _ (laws : (settings : Settings) → settings .confirm ≡ false → Laws 
         past-lawful : Lawful rules 0 start (past ++ (events.ticks tick ∷ []))
         past-lawful =
             subst (Lawful rules 0 start) is-past
-            (lawful-join rules 0 start (life .past) (lift .seeding ++ (lift .last ∷ [])) (life .lawful)
+            (lawful-then rules 0 start (life .past) (lift .seeding ++ (lift .last ∷ [])) (life .lawful)
             (subst (λ (x : InputView). Lawful rules (clock 0 (life .past)) x (lift .seeding ++ (lift .last ∷ []))) (sym (life .leads)) (lift .lawful _ soon)))
 
         past-clock : clock 0 (past ++ (events.ticks tick ∷ [])) ≡ first
@@ -156,25 +156,25 @@ module _ (laws : (settings : Settings) → settings .confirm ≡ false → Laws 
 
         -- ---- the floor
         floor-here : (lag : ℕ) → largestOf (lagsOf looks lags i) ≡ Of lag → lag ≤ policyOf settings .«read_offset» + policyOf settings .«delay_max»
-            → lag ≤ policyOf settings .«read_offset» + slotAt (after (left night calls) call .inputs) i .delay
+            → lag ≤ policyOf settings .«read_offset» + slotAt (after (leftBy night calls) call .inputs) i .delay
         floor-here lag e fits =
             subst (λ (x : InputView). lag ≤ policyOf settings .«read_offset» + x .delay) past-leads
             (floor-after (policyOf settings) (settings .width) allowed past tick lag past-lawful e fits)
 
         -- ---- the ceiling
-        module _ (L : ℕ) (in-it : InStretch i L first looks lags first (after (left night calls) call)) (stretch : Stretch i L first (after (left night calls) call) later) where
-          steady : Steadily settings L first (seenAt (after (left night calls) call) i) (seenAt (run (after (left night calls) call) later) i) (ending first (after (left night calls) call) later)
+        module _ (L : ℕ) (in-it : InStretch i L first looks lags first (after (leftBy night calls) call)) (stretch : Stretch i L first (after (leftBy night calls) call) later) where
+          steady : Steadily settings L first (seenAt (after (leftBy night calls) call) i) (seenAt (run (after (leftBy night calls) call) later) i) (ending first (after (leftBy night calls) call) later)
           unfolding clockAfter
           steady =
-              stretch-run settings law i L h (length calls + 1) (clockAfter (clocks 0 (fresh night) calls) (left night calls) call) first (after (left night calls) call) later
-              (omega (arith, fewer)) (good-after settings law (length calls) (left night calls) call (omega (arith, fewer)) good)
-              (subst (λ (x : ℕ). first ≤ x) (sym (accepted-new (after (left night calls) call .number) (clocks 0 (fresh night) calls) first took)) (omega arith))
+              stretch-run settings law i L h (length calls + 1) (clockAfter (clocks 0 (fresh night) calls) (leftBy night calls) call) first (after (leftBy night calls) call) later
+              (omega (arith, fewer)) (good-after settings law (length calls) (leftBy night calls) call (omega (arith, fewer)) good)
+              (subst (λ (x : ℕ). first ≤ x) (sym (accepted-new (after (leftBy night calls) call .number) (clocks 0 (fresh night) calls) first took)) (omega arith))
               runs (apart .1 .1) stretch
 
           all : past ++ runningTicks (tick ∷ steady .passed) ≡ (past ++ (events.ticks tick ∷ [])) ++ runningTicks (steady .passed)
           all = sym (append-assoc past (events.ticks tick ∷ []) (runningTicks (steady .passed)))
 
-          all-leads : history rules start (past ++ runningTicks (tick ∷ steady .passed)) ≡ seenAt (run (after (left night calls) call) later) i
+          all-leads : history rules start (past ++ runningTicks (tick ∷ steady .passed)) ≡ seenAt (run (after (leftBy night calls) call) later) i
           all-leads =
               ap (history rules start) all
               ∙ history-append rules start (past ++ (events.ticks tick ∷ [])) (runningTicks (steady .passed))
@@ -184,13 +184,13 @@ module _ (laws : (settings : Settings) → settings .confirm ≡ false → Laws 
           all-lawful : Lawful rules 0 start (past ++ runningTicks (tick ∷ steady .passed))
           all-lawful =
               subst (Lawful rules 0 start) (sym all)
-              (lawful-join rules 0 start (past ++ (events.ticks tick ∷ [])) (runningTicks (steady .passed)) past-lawful
+              (lawful-then rules 0 start (past ++ (events.ticks tick ∷ [])) (runningTicks (steady .passed)) past-lawful
               (subst (λ (x : InputView). Lawful rules (clock 0 (past ++ (events.ticks tick ∷ []))) x (runningTicks (steady .passed))) (sym past-leads)
-              (subst (λ (x : ℕ). Lawful rules x (seenAt (after (left night calls) call) i) (runningTicks (steady .passed))) (sym past-clock) (steady .lawful))))
+              (subst (λ (x : ℕ). Lawful rules x (seenAt (after (leftBy night calls) call) i) (runningTicks (steady .passed))) (sym past-clock) (steady .lawful))))
 
           ceiling-here :
-              first + (30 * nanos + policyOf settings .window + 3 * policyOf settings .hold) ≤ ending first (after (left night calls) call) later →
-              slotAt (run (after (left night calls) call) later .inputs) i .delay ≤ needOf (policyOf settings) (bucketEnd (policyOf settings) (settings .width) L) + 47
+              first + (30 * nanos + policyOf settings .window + 3 * policyOf settings .hold) ≤ ending first (after (leftBy night calls) call) later →
+              slotAt (run (after (leftBy night calls) call) later .inputs) i .delay ≤ needOf (policyOf settings) (bucketEnd (policyOf settings) (settings .width) L) + 47
           ceiling-here long =
               subst (λ (x : InputView). x .delay ≤ needOf (policyOf settings) (bucketEnd (policyOf settings) (settings .width) L) + 47) all-leads
               (ceiling-after (policyOf settings) (settings .width) allowed past tick (steady .passed) L all-lawful refl (in-it .lagged) (in-it .none-above) (steady .stretch)
@@ -200,7 +200,7 @@ module _ (laws : (settings : Settings) → settings .confirm ≡ false → Laws 
   whole-met night calls a = whole-always born night calls (a .new) (omega (arith, a .few))
 
   -- what is left by the calls and one more, and by later ones
-  left-tick : (night : Night) (calls : List Call) (call : Call) (later : List Call) → left night (calls ++ (call ∷ later)) ≡ run (after (left night calls) call) later
+  left-tick : (night : Night) (calls : List Call) (call : Call) (later : List Call) → leftBy night (calls ++ (call ∷ later)) ≡ run (after (leftBy night calls) call) later
   unfolding run
   left-tick night calls call later = run-append (fresh night) calls (call ∷ later)
 
@@ -208,10 +208,10 @@ module _ (laws : (settings : Settings) → settings .confirm ≡ false → Laws 
   unfolding run
   floor-met night calls looks lags time i lag a h took runs e fits =
       let call : Call = ticks looks lags time in
-      let here : left night (calls ++ (call ∷ [])) ≡ after (left night calls) call = left-tick night calls call [] in
-      let runs-here : RunsOn i (after (left night calls) call) = subst (RunsOn i) here runs in
+      let here : leftBy night (calls ++ (call ∷ [])) ≡ after (leftBy night calls) call = left-tick night calls call [] in
+      let runs-here : RunsOn i (after (leftBy night calls) call) = subst (RunsOn i) here runs in
       let bound = floor-here night (a .new) (a .unconfirmed) calls looks lags time i [] (omega (arith, a .few)) (a .orderly) h took runs-here lag e (omega (arith, fits)) in
-      let is-told : delayOf i night (calls ++ (call ∷ [])) ≡ slotAt (after (left night calls) call .inputs) i .delay =
+      let is-told : delayOf i night (calls ++ (call ∷ [])) ≡ slotAt (after (leftBy night calls) call .inputs) i .delay =
       told-at night (a .new) (a .unconfirmed) (calls ++ (call ∷ [])) i (omega (arith, a .few)) h ∙ ap (λ (r : Reply). slotAt (r .inputs) i .delay) here
       in
       omega (arith, bound, is-told)
@@ -219,9 +219,9 @@ module _ (laws : (settings : Settings) → settings .confirm ≡ false → Laws 
   ceiling-met : Ceiling
   ceiling-met night calls looks lags first i L later a h took in-it stretch long =
       let call : Call = ticks looks lags first in
-      let here : left night (calls ++ (call ∷ later)) ≡ run (after (left night calls) call) later = left-tick night calls call later in
+      let here : leftBy night (calls ++ (call ∷ later)) ≡ run (after (leftBy night calls) call) later = left-tick night calls call later in
       let bound = ceiling-here night (a .new) (a .unconfirmed) calls looks lags first i later (omega (arith, a .few)) (a .orderly) h took (in-it .runs) L in-it stretch (omega (arith, long)) in
-      let is-told : delayOf i night (calls ++ (call ∷ later)) ≡ slotAt (run (after (left night calls) call) later .inputs) i .delay =
+      let is-told : delayOf i night (calls ++ (call ∷ later)) ≡ slotAt (run (after (leftBy night calls) call) later .inputs) i .delay =
       told-at night (a .new) (a .unconfirmed) (calls ++ (call ∷ later)) i (omega (arith, a .few)) h ∙ ap (λ (r : Reply). slotAt (r .inputs) i .delay) here
       in
       omega (arith, bound, is-told)

@@ -2,7 +2,7 @@
 use Prim.Native.Nat.{_≤_}
 use mathlib.Core.List.{List}
 use Rattle.rules_record.proofs.CheckOrder.{own-beyond}
-use Rattle.third_demand.specs.Calls.{Call, after, Accepted, Night, left}
+use Rattle.third_demand.specs.Calls.{Call, after, Accepted, Night, leftBy}
 use Rattle.third_demand.specs.Demand as demand
 use Rattle.third_demand.proofs.Steps.{laws}
 use Rattle.third_demand.proofs.Birth.{born}
@@ -16,5 +16,5 @@ pub stays-whole : demand.StaysWholeAlways
 stays-whole = whole-always born
 
 -- no number from 1 to 6 refuses: `beyond-six` without the definition of the record's own numbers
-pub at-most-six : (night : Night) (calls : List Call) → demand.Whole night calls → (call : Call) → after (left night calls) call .number ≤ 6 → Accepted (left night calls) call
-at-most-six night calls whole call few = own-beyond (after (left night calls) call .number) (whole .beyond-six call) few
+pub at-most-six : (night : Night) (calls : List Call) → demand.Whole night calls → (call : Call) → after (leftBy night calls) call .number ≤ 6 → Accepted (leftBy night calls) call
+at-most-six night calls whole call few = own-beyond (after (leftBy night calls) call .number) (whole .beyond-six call) few

@@ -4,14 +4,13 @@ use mathlib.Core.Bool.{true, false}
 use mathlib.Core.Path.{_≡_, sym, ap, _∙_}
 use mathlib.Core.List.{List}
 use native.Mathlib.Omega.{arith}
-use lib.Dec.{eqb}
 use lib.ListN.{length}
 use Rattle.rules_window.specs.Checks.{roomFor}
 use Rattle.delay_hold.specs.Next.{held}
 use Rattle.rules_record.specs.declared.Proposal.the-variants.{Nothing}
 use Rattle.rules_record.specs.declared.Slot.{Slot}
 use Rattle.rules_record.specs.declared.Inputs.{Inputs}
-use Rattle.rules_record.specs.Slots.{stateNumber}
+use Rattle.rules_record.specs.States.{isRunning}
 use Rattle.rules_record.specs.Inputs.{slotAt}
 use Rattle.rules_record.specs.Sized.{Sized}
 use Rattle.rules_record.specs.Lent.{Lists, windowOf}
@@ -23,15 +22,14 @@ use Rattle.rules_tick.proofs.Readiness.{ready-low, ready-of}
 use Rattle.rules_tick.specs.declared.Look.{Look}
 use Rattle.rules_tick.specs.Looks.{lookAt, lagsOf}
 use Rattle.rules_tick.specs.TickChecks.{tickNumber}
-use Rattle.rules_tick.specs.Tick.{heard, looked, tickedInput, ticked}
+use Rattle.rules_tick.specs.Tick.{tickedInput, ticked}
 use Rattle.rules_tick.proofs.TickSame.{SameInput}
 use Rattle.rules_tick.proofs.TickFrames.{turn, turn-inputs, turn-lists, below-settings, below-sized, turn-ready, turn-room, Turn, turns, ticked-input}
 use Rattle.rules_tick.proofs.TickAccepted.{Accepted, tick-accepted, accepted-room}
-use Rattle.rules_tick.proofs.TickProposals.{ticked-proposed}
 use Rattle.history.specs.View.{Tick, tickOf}
 use Rattle.third_demand.proofs.Lifted.{viewOf, TickLifted}
 use Rattle.third_demand.proofs.Ends.{lifted-as}
-use Rattle.third_demand.proofs.InputViews.{input-state, input-config, input-lifted}
+use Rattle.third_demand.proofs.InputViews.{input-config, input-lifted}
 
 -- an input that stays, with its lists, has the same view
 view-same : (s z : Inputs) (l m : Lists) (i : ℕ) → SameInput s l z m i → viewOf z m i ≡ viewOf s l i
@@ -84,10 +82,6 @@ module _ (s : Inputs) (l : Lists) (words : ℕ) (looks : List Look) (lags : List
         coe 0 1 (k. SameInput (turn-inputs looks lags time s l i k) (turn-lists looks lags time s l i k) after left i)
         (ticked-input looks lags time s l (c .fitting) sized (facts .timely) (ready-of s l c) room i h)
 
-    -- the state is as looking at the input in its turn left it, and the kind stays
-    pub tick-state : slotAt after i .state ≡ slotAt (looked i (lookAt looks i) time (heard i (lookAt looks i) (lagsOf looks lags i) time at lists .inputs) .inputs) i .state
-    tick-state = ap (λ (x : Slot). x .state) (same-after .slot) ∙ input-state i (lookAt looks i) (lagsOf looks lags i) time at lists (ready-low at lists i ready) at-sized
-
     pub tick-config : slotAt after i .config ≡ slotAt s i .config
     tick-config =
         ap (λ (x : Slot). x .config) (same-after .slot)
@@ -95,23 +89,19 @@ module _ (s : Inputs) (l : Lists) (words : ℕ) (looks : List Look) (lags : List
         ∙ ap (λ (x : Slot). x .config) (same-before .slot)
 
     module _ (off : s .confirm ≡ false) where
-      -- the proposal stays
-      pub tick-proposed : slotAt after i .proposed ≡ slotAt s i .proposed
-      tick-proposed = ticked-proposed looks lags time s l c facts off i
-
       module _ (none : slotAt s i .proposed ≡ Nothing) where
-        turn-lifted : TickLifted (at .policy) tick (eqb (stateNumber (slotAt at i .state)) 2) (goesOn (slotAt (own .inputs) i)) (viewOf at lists i) (viewOf (own .inputs) (own .lists) i)
+        turn-lifted : TickLifted (at .policy) tick (isRunning (slotAt at i .state)) (goesOn (slotAt (own .inputs) i)) (viewOf at lists i) (viewOf (own .inputs) (own .lists) i)
         turn-lifted =
             input-lifted i (lookAt looks i) (lagsOf looks lags i) time at lists ready at-sized (facts .timely)
             (turn-room looks lags time s l (c .fitting) sized (facts .timely) (ready-of s l c) room i turned h)
             (ap (λ (x : Inputs). x .confirm) (below-settings looks lags time s l i) ∙ off)
             (ap (λ (x : Slot). x .proposed) (same-before .slot) ∙ none)
 
-        own-lifted : TickLifted (s .policy) tick (eqb (stateNumber (slotAt s i .state)) 2) (goesOn (slotAt after i)) (viewOf s l i) (viewOf after left i)
+        own-lifted : TickLifted (s .policy) tick (isRunning (slotAt s i .state)) (goesOn (slotAt after i)) (viewOf s l i) (viewOf after left i)
         own-lifted =
             lifted-as
             (ap (λ (x : Inputs). x .policy) (below-settings looks lags time s l i))
-            (ap (λ (x : Slot). eqb (stateNumber (x .state)) 2) (same-before .slot))
+            (ap (λ (x : Slot). isRunning (x .state)) (same-before .slot))
             (sym (ap goesOn (same-after .slot)))
             (view-same s at l lists i same-before)
             (sym (view-same (own .inputs) after (own .lists) left i same-after))
@@ -120,6 +110,6 @@ module _ (s : Inputs) (l : Lists) (words : ℕ) (looks : List Look) (lags : List
 -- an accepted tick, without confirmation: input i is seeded, at most, and then its lags are an event
 pub tick-lifted : (s : Inputs) (l : Lists) (words : ℕ) (looks : List Look) (lags : List ℕ) (time i : ℕ) → Sized s → Checked s l → tickNumber s l words looks lags time ≡ 0 → s .confirm ≡ false
     → slotAt s i .proposed ≡ Nothing → i < s .count
-    → TickLifted (s .policy) (tickOf time (lagsOf looks lags i)) (eqb (stateNumber (slotAt s i .state)) 2) (goesOn (slotAt (ticked looks lags time s l .inputs) i)) (viewOf s l i)
+    → TickLifted (s .policy) (tickOf time (lagsOf looks lags i)) (isRunning (slotAt s i .state)) (goesOn (slotAt (ticked looks lags time s l .inputs) i)) (viewOf s l i)
     (viewOf (ticked looks lags time s l .inputs) (ticked looks lags time s l .lists) i)
 tick-lifted s l words looks lags time i sized c passed off none h = own-lifted s l words looks lags time i sized c passed h off none

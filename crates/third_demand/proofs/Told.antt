@@ -5,7 +5,8 @@ use Rattle.rules_record.specs.Inputs.{slotAt}
 use Rattle.rules_record.specs.Sized.{Sized}
 use Rattle.rules_record.specs.Reply.{Reply}
 use Rattle.sent_delays.specs.Last.{lastDelay}
-use Rattle.sent_delays.proofs.Calls.{Told, accepted-told, route-told, update-told, tick-told, new-delays}
+use Rattle.sent_delays.specs.Delays.{Told}
+use Rattle.sent_delays.proofs.Calls.{accepted-told, route-told, update-told, tick-told, new-delays}
 use Rattle.third_demand.specs.Calls.{Call, routes, updates, ticks, after, Accepted, Night, fresh}
 
 -- accepted or refused

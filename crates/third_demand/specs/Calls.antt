@@ -85,8 +85,8 @@ pub record Admitted (night : Night) (calls : List Call) : Type 0 where
   pub orderly : Orderly 0 (fresh night) calls
 
 -- what the calls leave
-abbrev pub left : (night : Night) (calls : List Call) → Reply
-left night calls = run (fresh night) calls
+abbrev pub leftBy : (night : Night) (calls : List Call) → Reply
+leftBy night calls = run (fresh night) calls
 
 -- "An input's delay: the samples of the last SetDelay to it from `new` on, 0 before any."
 unfoldable pub delayOf : (i : ℕ) (night : Night) (calls : List Call) → ℕ

@@ -11,16 +11,16 @@ use Rattle.policy.specs.Need.{needOf}
 use Rattle.delay_hold.specs.declared.Lag.the-variants.{Of}
 use Rattle.rules_record.specs.Inputs.{slotAt}
 use Rattle.rules_record.specs.Checks.{ownNumber}
-use Rattle.rules_record.specs.Record.{wholeRecord}
+use Rattle.rules_record.specs.WholeRecord.{wholeRecord}
 use Rattle.rules_record.specs.Reply.{Reply}
-use Rattle.rules_tick.specs.Arrival.{largestOf}
+use Rattle.rules_tick.specs.Lags.{largestOf}
 use Rattle.rules_tick.specs.AutoDelay.{goesOn}
 use Rattle.rules_calls.specs.NewRecord.{policyOf}
 use Rattle.rules_tick.specs.declared.Look.{Look}
 use Rattle.rules_tick.specs.Looks.{lagsOf}
 use Rattle.rules_tick.specs.TickChecks.{looksFit, lagsFit, roomsFit}
 use Rattle.history.specs.Stretch.{NonEmpty, NoneAbove, bucketEnd}
-use Rattle.third_demand.specs.Calls.{Call, routes, updates, ticks, after, Accepted, Night, fresh, Admitted, left, delayOf}
+use Rattle.third_demand.specs.Calls.{Call, routes, updates, ticks, after, Accepted, Night, fresh, Admitted, leftBy, delayOf}
 
 abbrev pub policyIn : Night → DelayPolicy
 policyIn night = policyOf (night .settings)
@@ -33,12 +33,12 @@ RunsOn i r = goesOn (slotAt (r .inputs) i) ≡ true
 -- the answers are those of the definitions (Calls.after); the record is whole after every list of calls, and no call is refused by a check of the
 -- record, its settings and its lists (1 to 6); a tick is refused only for what it brings
 pub record Whole (night : Night) (calls : List Call) : Type 0 where
-  pub record-whole : wholeRecord (left night calls .inputs) (left night calls .lists) ≡ true
-  pub beyond-six : (call : Call) → ownNumber (after (left night calls) call .number) ≡ false
+  pub record-whole : wholeRecord (leftBy night calls .inputs) (leftBy night calls .lists) ≡ true
+  pub beyond-six : (call : Call) → ownNumber (after (leftBy night calls) call .number) ≡ false
   -- a tick whose time, looks, lag counts and rooms fit (8, 10, 11) is accepted
   pub takes-ticks :
-      (looks : List Look) (lags : List ℕ) (time : ℕ) → time ≤ timeLimit → looksFit (left night calls .inputs) looks ≡ true → lagsFit (left night calls .inputs) looks lags ≡ true →
-      roomsFit (left night calls .inputs) (left night calls .lists) looks time ≡ true → Accepted (left night calls) (ticks looks lags time)
+      (looks : List Look) (lags : List ℕ) (time : ℕ) → time ≤ timeLimit → looksFit (leftBy night calls .inputs) looks ≡ true → lagsFit (leftBy night calls .inputs) looks lags ≡ true →
+      roomsFit (leftBy night calls .inputs) (leftBy night calls .lists) looks time ≡ true → Accepted (leftBy night calls) (ticks looks lags time)
 
 abbrev pub StaysWhole : Type 0
 StaysWhole = (night : Night) (calls : List Call) → Admitted night calls → Whole night calls
@@ -54,8 +54,8 @@ Floor =
     (night : Night) (calls : List Call) (looks : List Look) (lags : List ℕ) (time i lag : ℕ) →
     Admitted night (calls ++ (ticks looks lags time ∷ [])) →
     i < night .settings .count →
-    Accepted (left night calls) (ticks looks lags time) →
-    RunsOn i (left night (calls ++ (ticks looks lags time ∷ []))) →
+    Accepted (leftBy night calls) (ticks looks lags time) →
+    RunsOn i (leftBy night (calls ++ (ticks looks lags time ∷ []))) →
     largestOf (lagsOf looks lags i) ≡ Of lag →
     lag ≤ policyIn night .«read_offset» + policyIn night .«delay_max» →
     lag ≤ delayOf i night (calls ++ (ticks looks lags time ∷ [])) + policyIn night .«read_offset»
@@ -101,10 +101,10 @@ Ceiling =
     (night : Night) (calls : List Call) (looks : List Look) (lags : List ℕ) (first i L : ℕ) (later : List Call) →
     Admitted night (calls ++ (ticks looks lags first ∷ later)) →
     i < night .settings .count →
-    Accepted (left night calls) (ticks looks lags first) →
-    InStretch i L first looks lags first (after (left night calls) (ticks looks lags first)) →
-    Stretch i L first (after (left night calls) (ticks looks lags first)) later →
-    first + (30 * nanos + policyIn night .window + 3 * policyIn night .hold) ≤ ending first (after (left night calls) (ticks looks lags first)) later →
+    Accepted (leftBy night calls) (ticks looks lags first) →
+    InStretch i L first looks lags first (after (leftBy night calls) (ticks looks lags first)) →
+    Stretch i L first (after (leftBy night calls) (ticks looks lags first)) later →
+    first + (30 * nanos + policyIn night .window + 3 * policyIn night .hold) ≤ ending first (after (leftBy night calls) (ticks looks lags first)) later →
     delayOf i night (calls ++ (ticks looks lags first ∷ later)) ≤ needOf (policyIn night) (bucketEnd (policyIn night) (night .settings .width) L) + 47
 
 -- the third demand, "one claim about its list"

@@ -24,7 +24,7 @@ returns-2 : tie.Need-returns-2
 returns-2 c = c .remember .ensures ∙ sym (for-automatic _ _ _ (c .before .before .before .before .to .given .1) (sym (c .before .before .automatic .ensures) ∙ c .before .if1 .taken))
 
 returns-3 : tie.Need-returns-3
-returns-3 c = sym (for-manual _ _ _ (c .before .before .before .to .given .1) (sym (c .before .automatic .ensures) ∙ c .if1 .left))
+returns-3 c = sym (for-manual _ _ _ (sym (c .before .automatic .ensures) ∙ c .if1 .left))
 
 pub remember-for-spec : {M : Type 1} → statement M
 remember-for-spec =

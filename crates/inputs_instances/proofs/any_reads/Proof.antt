@@ -7,7 +7,7 @@ use lib.ListN.{getD}
 use Rattle.base.proofs.Any.{any-none, any-more, any-stop, any-end}
 use Rattle.base.specs.Any.{any}
 use Rattle.rules_record.specs.declared.Extra.the-variants.{Nothing}
-use Rattle.rules_record.specs.Instances.{isExtra}
+use Rattle.rules_record.specs.Prune.{isExtra}
 use Rattle.inputs_instances.proofs.any_reads.Statement.{statement}
 use Rattle.inputs_instances.proofs.any_reads.Tie as tie
 

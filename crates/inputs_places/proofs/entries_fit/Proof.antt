@@ -6,7 +6,7 @@ use native.Mathlib.Omega.{arith}
 use Rattle.base.proofs.All.{all-end, all-more, all-none, all-stop, told-no, told-yes}
 use Rattle.base.specs.Lists.{all}
 use Rattle.rules_record.specs.Flows.{emptyEntry}
-use Rattle.rules_record.specs.Places.{entriesFit, entryFits}
+use Rattle.rules_record.specs.WholePlaces.{entriesFit, entryFits}
 use Rattle.rules_record.proofs.RecordCases.{told-entry}
 use Rattle.inputs_places.proofs.entries_fit.Statement.{statement}
 use Rattle.inputs_places.proofs.entries_fit.Tie as tie

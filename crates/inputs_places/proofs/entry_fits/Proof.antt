@@ -4,7 +4,7 @@ use borrow.Author.Tests.{eq-eqb, ne-eqb, lt-ltb, le-ltb}
 use borrow.Author.Needs.{needs}
 use Rattle.base.proofs.All.{both-no, both-yes}
 use Rattle.base.proofs.Choices.{yes-pick, no-pick}
-use Rattle.rules_record.specs.Places.{unusedEntry}
+use Rattle.rules_record.specs.WholePlaces.{unusedEntry}
 use Rattle.inputs_places.proofs.entry_fits.Statement.{statement}
 use Rattle.inputs_places.proofs.entry_fits.Tie as tie
 

@@ -3,7 +3,7 @@ use mathlib.Core.Path.{sym, _∙_, refl}
 use borrow.Author.Tests.{eq-eqb, ne-eqb, lt-ltb, le-ltb}
 use Rattle.base.proofs.All.{both-no, both-yes}
 use Rattle.base.proofs.Choices.{yes-pick, no-pick}
-use Rattle.rules_record.specs.Places.{unusedKey}
+use Rattle.rules_record.specs.WholePlaces.{unusedKey}
 use Rattle.inputs_places.proofs.key_fits.Statement.{statement}
 use Rattle.inputs_places.proofs.key_fits.Tie as tie
 

@@ -6,7 +6,7 @@ use native.Mathlib.Omega.{arith}
 use Rattle.base.proofs.All.{all-end, all-more, all-none, all-stop, told-no, told-yes}
 use Rattle.base.specs.Lists.{all}
 use Rattle.rules_record.specs.Instances.{noKey}
-use Rattle.rules_record.specs.Places.{keyFits, keysFit}
+use Rattle.rules_record.specs.WholePlaces.{keyFits, keysFit}
 use Rattle.rules_record.proofs.RecordCases.{told-key}
 use Rattle.inputs_places.proofs.keys_fit.Statement.{statement}
 use Rattle.inputs_places.proofs.keys_fit.Tie as tie

@@ -4,7 +4,7 @@ use mathlib.Core.Path.{ap}
 use borrow.Author.Tests.{eq-eqb, ne-eqb}
 use borrow.Author.Needs.{needs}
 use Rattle.base.proofs.All.{both-no, both-yes, told-no, told-yes}
-use Rattle.rules_record.specs.Places.{unusedHold}
+use Rattle.rules_record.specs.WholePlaces.{unusedHold}
 use Rattle.inputs_places.proofs.unused_hold.Statement.{statement}
 use Rattle.inputs_places.proofs.unused_hold.Tie as tie
 

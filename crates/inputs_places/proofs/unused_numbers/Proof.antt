@@ -2,7 +2,7 @@
 use mathlib.Core.Path.{refl}
 use borrow.Author.Tests.{eq-eqb, ne-eqb}
 use Rattle.base.proofs.All.{both-no, both-yes}
-use Rattle.rules_record.specs.Places.{unusedNumbers}
+use Rattle.rules_record.specs.WholePlaces.{unusedNumbers}
 use Rattle.inputs_places.proofs.unused_numbers.Statement.{statement}
 use Rattle.inputs_places.proofs.unused_numbers.Tie as tie
 

@@ -4,7 +4,7 @@ use mathlib.Core.Path.{_∙_, ap, sym}
 use borrow.Author.Tests.{eq-eqb, ne-eqb}
 use borrow.Author.Needs.{needs}
 use Rattle.base.proofs.All.{both-no, both-yes, told-no, told-yes}
-use Rattle.rules_record.specs.Places.{unusedParts}
+use Rattle.rules_record.specs.WholePlaces.{unusedParts}
 use Rattle.inputs_places.proofs.unused_parts.Statement.{statement}
 use Rattle.inputs_places.proofs.unused_parts.Tie as tie
 

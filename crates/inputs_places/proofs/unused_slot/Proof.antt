@@ -1,7 +1,7 @@
 -- `inputs_places::unused_slot` meets its contract. Assumes nothing.
 use borrow.Author.Needs.{needs}
 use Rattle.base.proofs.All.{both-no, both-yes, told-no, told-yes}
-use Rattle.rules_record.specs.Places.{unusedSlot}
+use Rattle.rules_record.specs.WholePlaces.{unusedSlot}
 use Rattle.inputs_places.proofs.unused_slot.Statement.{statement}
 use Rattle.inputs_places.proofs.unused_slot.Tie as tie
 

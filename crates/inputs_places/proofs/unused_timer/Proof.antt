@@ -3,7 +3,7 @@ use mathlib.Core.Bool.{not}
 use mathlib.Core.Path.{ap, refl}
 use borrow.Author.Tests.{eq-eqb, ne-eqb}
 use Rattle.base.proofs.All.{both-no, both-yes}
-use Rattle.rules_record.specs.Places.{unusedTimer}
+use Rattle.rules_record.specs.WholePlaces.{unusedTimer}
 use Rattle.inputs_places.proofs.unused_timer.Statement.{statement}
 use Rattle.inputs_places.proofs.unused_timer.Tie as tie
 

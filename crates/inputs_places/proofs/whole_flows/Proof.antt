@@ -2,7 +2,7 @@
 use borrow.Author.Tests.{le-leb, lt-leb}
 use borrow.Author.Needs.{needs}
 use Rattle.base.proofs.All.{both-no, both-yes, told-no, told-yes}
-use Rattle.rules_record.specs.Places.{wholeFlows}
+use Rattle.rules_record.specs.WholePlaces.{wholeFlows}
 use Rattle.inputs_places.proofs.whole_flows.Statement.{statement}
 use Rattle.inputs_places.proofs.whole_flows.Tie as tie
 

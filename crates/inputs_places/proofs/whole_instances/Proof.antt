@@ -2,7 +2,7 @@
 use borrow.Author.Tests.{le-leb, lt-leb}
 use borrow.Author.Needs.{needs}
 use Rattle.base.proofs.All.{both-no, both-yes, told-no, told-yes}
-use Rattle.rules_record.specs.Places.{wholeInstances}
+use Rattle.rules_record.specs.WholePlaces.{wholeInstances}
 use Rattle.inputs_places.proofs.whole_instances.Statement.{statement}
 use Rattle.inputs_places.proofs.whole_instances.Tie as tie
 

@@ -2,7 +2,7 @@
 use borrow.Author.Tests.{le-leb, le-ltb, lt-leb, lt-ltb}
 use borrow.Author.Needs.{needs}
 use Rattle.base.proofs.All.{both-no, both-yes, told-no, told-yes}
-use Rattle.rules_record.specs.Places.{wholeSlot}
+use Rattle.rules_record.specs.WholePlaces.{wholeSlot}
 use Rattle.inputs_places.proofs.whole_slot.Statement.{statement}
 use Rattle.inputs_places.proofs.whole_slot.Tie as tie
 

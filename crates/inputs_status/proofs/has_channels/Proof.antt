@@ -1,6 +1,6 @@
 -- `inputs_status::has_channels` meets its contract. Assumes nothing.
 use borrow.Author.Needs.{needs}
-use Rattle.rules_calls.specs.StatusAnswers.{hasChannelsReply}
+use Rattle.rules_calls.specs.HasChannels.{hasChannelsReply}
 use Rattle.rules_calls.proofs.StatusReplies.{answer-refused, answer-accepted, channels-idle, channels-running}
 use Rattle.inputs_status.proofs.has_channels.Statement.{statement}
 use Rattle.inputs_status.proofs.has_channels.Tie as tie

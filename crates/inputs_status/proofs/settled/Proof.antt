@@ -2,7 +2,7 @@
 use mathlib.Core.Path.{ap, _∙_}
 use borrow.Author.Needs.{needs}
 use Rattle.rules_record.specs.declared.Slot.{Slot}
-use Rattle.rules_calls.specs.StatusAnswers.{settledSlot, settledReply}
+use Rattle.rules_calls.specs.Settled.{settledSlot, settledReply}
 use Rattle.rules_calls.proofs.StatusReplies.{answer-refused, answer-accepted}
 use Rattle.inputs_status.proofs.settled.Statement.{statement}
 use Rattle.inputs_status.proofs.settled.Tie as tie

@@ -10,31 +10,24 @@ use Rattle.inputs_slots.proofs.with_head.Reads as with-head-reads
 use Rattle.inputs_slots.proofs.with_inode.Reads as with-inode-reads
 use Rattle.inputs_slots.proofs.with_state.Reads as with-state-reads
 
--- src/lib.rt:30:9
 with-inode-requires : tie.Need-with-inode-requires
 with-inode-requires c κs = search needs
 
--- src/lib.rt:32:8
 code-requires : tie.Need-code-requires
 code-requires c κs = search needs
 
--- src/lib.rt:33:9
 with-head-requires : tie.Need-with-head-requires
 with-head-requires c κs = search needs
 
--- src/lib.rt:33:9
 returns : tie.Need-returns
 returns c = running-stalled _ _ _ _ (c .before .before .code .ensures) (c .before .before .before .with-inode .ensures) (c .before .if1 .taken) (c .with-head .ensures)
 
--- src/lib.rt:35:9
 with-state-requires : tie.Need-with-state-requires
 with-state-requires c κs = search needs
 
--- src/lib.rt:36:5
 with-head-requires-2 : tie.Need-with-head-requires-2
 with-head-requires-2 c κs = search needs
 
--- src/lib.rt:27:1
 returns-2 : tie.Need-returns-2
 returns-2 c = running-now _ _ _ _ (c .before .before .before .code .ensures) (c .before .before .before .before .with-inode .ensures) (c .before .before .if1 .left) (c .before .with-state .ensures) (c .with-head2 .ensures)
 

@@ -10,23 +10,18 @@ use Rattle.inputs_slots.proofs.put_slot.Reads as put-slot-reads
 use Rattle.inputs_slots.proofs.slot_at.Reads as slot-at-reads
 use Rattle.inputs_slots.proofs.with_hold.Reads as with-hold-reads
 
--- src/lib.rt:57:9
 slot-at-requires : tie.Need-slot-at-requires
 slot-at-requires c κs = search needs
 
--- src/lib.rt:59:9
 seed-requires : tie.Need-seed-requires
 seed-requires c κs = search needs
 
--- src/lib.rt:60:9
 with-hold-requires : tie.Need-with-hold-requires
 with-hold-requires c κs = search needs
 
--- src/lib.rt:61:5
 put-slot-requires : tie.Need-put-slot-requires
 put-slot-requires c κs = search needs
 
--- src/lib.rt:54:1
 returns : tie.Need-returns
 returns c = seeded-by _ _ _ _ (c .before .before .before .before .slot-at .ensures) (c .before .before .seed .ensures) (c .before .with-hold .ensures) (c .put-slot .ensures)
 

@@ -10,23 +10,18 @@ use Rattle.inputs_try_open.proofs.starts.Lts as lts
 use Rattle.inputs_slots.proofs.automatic.Reads as automatic-reads
 use Rattle.inputs_slots.proofs.code.Reads as code-reads
 
--- src/lib.rt:43:9
 automatic-requires : tie.Need-automatic-requires
 automatic-requires c κs = search needs
 
--- src/lib.rt:44:9
 returns : tie.Need-returns
 returns c = starts-manual _ (sym (c .before .automatic .ensures) ∙ not-true (c .before .automatic .result) (c .if1 .taken))
 
--- src/lib.rt:47:8
 code-requires : tie.Need-code-requires
 code-requires c κs = search needs
 
--- src/lib.rt:48:9
 returns-2 : tie.Need-returns-2
 returns-2 c = starts-other _ (sym (c .before .before .before .automatic .ensures) ∙ not-false (c .before .before .before .automatic .result) (c .before .before .if1 .left)) (c .before .code .ensures) (c .if2 .taken)
 
--- src/lib.rt:40:1
 returns-3 : tie.Need-returns-3
 returns-3 c = starts-waiting _ (sym (c .before .before .before .before .automatic .ensures) ∙ not-false (c .before .before .before .before .automatic .result) (c .before .before .before .if1 .left)) (c .before .before .code .ensures) (c .before .if2 .left)
 

@@ -9,23 +9,18 @@ use Rattle.inputs_slots.proofs.code.Reads as code-reads
 use Rattle.inputs_slots.proofs.with_head.Reads as with-head-reads
 use Rattle.inputs_slots.proofs.with_state.Reads as with-state-reads
 
--- src/lib.rt:13:9
 with-head-requires : tie.Need-with-head-requires
 with-head-requires c κs = search needs
 
--- src/lib.rt:15:8
 code-requires : tie.Need-code-requires
 code-requires c κs = search needs
 
--- src/lib.rt:16:9
 with-state-requires : tie.Need-with-state-requires
 with-state-requires c κs = search needs
 
--- src/lib.rt:16:9
 returns : tie.Need-returns
 returns c = moved-stalled _ _ _ (c .before .before .code .ensures) (c .before .before .before .with-head .ensures) (c .before .if1 .taken) (c .with-state .ensures)
 
--- src/lib.rt:10:1
 returns-2 : tie.Need-returns-2
 returns-2 c = moved-other _ _ _ (c .before .code .ensures) (c .before .before .with-head .ensures) (c .if1 .left)
 

@@ -8,19 +8,15 @@ use Rattle.inputs_watch.proofs.stalls.Lts as lts
 use Rattle.base.proofs.age.Reads as age-reads
 use Rattle.inputs_slots.proofs.code.Reads as code-reads
 
--- src/lib.rt:26:8
 code-requires : tie.Need-code-requires
 code-requires c κs = search needs
 
--- src/lib.rt:27:9
 returns : tie.Need-returns
 returns c = stalls-other _ _ _ (c .before .code .ensures) (c .if1 .taken)
 
--- src/lib.rt:29:14
 age-requires : tie.Need-age-requires
 age-requires c κs = search needs
 
--- src/lib.rt:22:1
 returns-2 : tie.Need-returns-2
 returns-2 c = stalls-running _ _ _ (c .before .before .code .ensures) (c .before .if1 .left) (c .age .ensures)
 

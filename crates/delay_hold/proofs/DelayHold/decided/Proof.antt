@@ -1,8 +1,9 @@
 -- `delay_hold::DelayHold::decided` meets its contract. Assumes nothing.
 use mathlib.Core.Bool.{and-false}
 use Rattle.delay_hold.proofs.Bounds.{larger-up}
-use Rattle.delay_hold.specs.Decide.{decide, missing}
+use Rattle.delay_hold.specs.Steps5To8.{decide, missing}
 use borrow.Author.Needs.{needs}
+use Rattle.delay_hold.specs.Whole.{peakLimit}
 use Rattle.delay_hold.proofs.DelayHold.decided.Statement.{statement}
 use Rattle.delay_hold.proofs.DelayHold.decided.Tie as tie
 
@@ -12,7 +13,7 @@ larger-requires c κs = search needs
 decided-for-requires : tie.Need-decided-for-requires
 decided-for-requires c κs =
     let c2 = c .before .before in
-    (c2 .pre .0, rw (c .larger .ensures) (larger-up (c2 .args .p999) (c2 .args .peak) 196800 (c2 .pre .1) (c2 .pre .2)), c2 .pre .3, c2 .pre .4)
+    (c2 .pre .0, rw (c .larger .ensures) (larger-up (c2 .args .p999) (c2 .args .peak) peakLimit (c2 .pre .1) (c2 .pre .2)), c2 .pre .3, c2 .pre .4, c2 .pre .5)
 
 returns : tie.Need-returns
 unfolding decide
@@ -34,7 +35,7 @@ larger-requires-2 c κs = search needs
 decided-for-requires-2 : tie.Need-decided-for-requires-2
 decided-for-requires-2 c κs =
     let c4 = c .before .before .before .before in
-    (c4 .pre .0, rw (c .larger2 .ensures) (larger-up (c4 .args .p999) (c4 .args .peak) 196800 (c4 .pre .1) (c4 .pre .2)), c4 .pre .3, c4 .pre .4)
+    (c4 .pre .0, rw (c .larger2 .ensures) (larger-up (c4 .args .p999) (c4 .args .peak) peakLimit (c4 .pre .1) (c4 .pre .2)), c4 .pre .3, c4 .pre .4, c4 .pre .5)
 
 returns-3 : tie.Need-returns-3
 unfolding decide

@@ -1,5 +1,5 @@
 -- `delay_hold::DelayHold::decided_at` meets its contract. Assumes nothing.
-use Rattle.delay_hold.specs.Decide.{decideAt}
+use Rattle.delay_hold.specs.Steps5To8.{decideAt}
 use Rattle.policy.proofs.Laws.{need-at-most}
 use native.Mathlib.Omega.{arith}
 use borrow.Author.Needs.{needs}
@@ -23,7 +23,7 @@ weighed-requires c κs =
     let c2 = c .before .before in
     let c3 = c2 .before in
     let c4 = c3 .before in
-    omega (arith, c .before .most .ensures, c2 .floor .ensures, c3 .need .ensures, need-at-most (c4 .args .policy) (c4 .args .worst), c4 .pre .0 .maximum, c4 .pre .3)
+    (omega (arith, c .before .most .ensures, c2 .floor .ensures, c3 .need .ensures, need-at-most (c4 .args .policy) (c4 .args .worst), c4 .pre .0 .maximum, c4 .pre .3), c4 .pre .4)
 
 returns : tie.Need-returns
 unfolding decideAt

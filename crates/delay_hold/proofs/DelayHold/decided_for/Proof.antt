@@ -16,7 +16,7 @@ returns c = rw (c .enum-told .given .1)
 decided-at-requires : tie.Need-decided-at-requires
 decided-at-requires c κs =
     let c3 = c .before .before .before in
-    let w = leb-true _ _ (rw (c .before .worst .given .1) at (c3 .pre .1)) in (c3 .pre .0, w, c3 .pre .2, c3 .pre .3)
+    let w = leb-true _ _ (rw (c .before .worst .given .1) at (c3 .pre .1)) in (c3 .pre .0, w, c3 .pre .2, c3 .pre .3, c3 .pre .4)
 
 returns-2 : tie.Need-returns-2
 returns-2 c = simp (c .before .before .worst .given .1, c .decided-at .ensures)

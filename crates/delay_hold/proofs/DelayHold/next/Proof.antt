@@ -44,7 +44,7 @@ use denote.Triple.Table.{entered, cited}
 use denote.Triple.Walked.{says, Stays, stay-ref, stay-none, gave-slice, walkOf, goes-none, goes-ref, goes-gave-slice, Walks, ends-at, walked, walk-meets}
 use denote.Exit.{yes}
 use Rattle.delay_hold.specs.Next.{held}
-use Rattle.delay_hold.specs.Checks.{left, nextReply}
+use Rattle.delay_hold.specs.Checks.{leftHold, nextReply}
 use Rattle.delay_hold.specs.declared.DelayHold.{DelayHold}
 use Rattle.delay_hold.specs.declared.Answered.{Answered}
 use Rattle.delay_hold.specs.declared.Answer.{Answer}
@@ -162,7 +162,7 @@ module _ {M : Type 1} (𝓤 : URA M) (H : Heap 𝓤) (A : Atoms 𝓤) (W : Given
 
   -- what the core ensures, at its answer and the lists' last values
   abbrev Ens : Answered → Last → Type 0
-  Ens r zs = left (r .answer) (r .hold) (zs .1 .0) (zs .1 .1 .0) ≡ nextReply pol wd (held h ts ls) p m c t
+  Ens r zs = leftHold (r .answer) (r .hold) (zs .1 .0) (zs .1 .1 .0) ≡ nextReply pol wd (held h ts ls) p m c t
 
   exits : (r : Answered) (zs : Last) → Ens r zs → length (zs .1 .0) ≡ length ts → length (zs .1 .1 .0) ≡ length ls → Is An.the-row (r .answer) (machA (r .answer) ∷ [])
       → ent 𝓤 (⋆ 𝓤 H A (‵ (fobs γ (T.the-row .coded .code (r .hold))) ∷ ‵ (fbor κ (Body (mem T.the-row) b o γ)) ∷ ‵ (flft κ q) ∷ (‵ (flft κ₁ q₁) ⊛ ‵ (flft κ₂ q₂) ⊛ ‵ ftrue) ∷ ‵ (finally u32 γ₂ (zs .1 .1 .0)) ∷ ‵ (finally u64 γ₁ (zs .1 .0)) ∷ []))

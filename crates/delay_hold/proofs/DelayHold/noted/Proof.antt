@@ -1,5 +1,5 @@
 -- `delay_hold::DelayHold::noted` meets its contract. Assumes nothing.
-use Rattle.delay_hold.specs.Steps.{noted}
+use Rattle.delay_hold.specs.Steps1To3.{noted}
 use borrow.Author.Needs.{needs}
 use Rattle.delay_hold.proofs.DelayHold.noted.Statement.{statement}
 use Rattle.delay_hold.proofs.DelayHold.noted.Tie as tie

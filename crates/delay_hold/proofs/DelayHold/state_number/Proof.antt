@@ -1,6 +1,6 @@
 -- `delay_hold::DelayHold::state_number` meets its contract. Assumes nothing.
 use Rattle.delay_hold.proofs.Gate.{lists-long}
-use Rattle.delay_hold.specs.Checks.{stateNumber}
+use Rattle.delay_hold.specs.Checks.{heldNumber}
 use Rattle.base.proofs.Choices.{yes-ask, no-ask}
 use mathlib.Core.Path.{sym, _∙_}
 use Rattle.base.proofs.All.{told-yes, told-no}
@@ -13,7 +13,7 @@ lists-fit-requires : tie.Need-lists-fit-requires
 lists-fit-requires c κs = search needs
 
 returns : tie.Need-returns
-unfolding stateNumber
+unfolding heldNumber
 returns c = sym (no-ask 5 _ (told-no _ _ (c .before .lists-fit .ensures (c .before .before .before .before .args .self)) (c .if1 .taken)))
 
 whole-requires : tie.Need-whole-requires
@@ -22,7 +22,7 @@ whole-requires c κs =
     let l = lists-long _ (told-yes _ _ (c .before .lists-fit .ensures (c4 .args .self)) (c .if1 .left)) in (c4 .pre, l .0, l .1)
 
 returns-2 : tie.Need-returns-2
-unfolding stateNumber
+unfolding heldNumber
 returns-2 c =
     let c2 = c .before .before in
     let c3 = c2 .before in
@@ -30,7 +30,7 @@ returns-2 c =
     sym (yes-ask 5 _ (told-yes _ _ (c3 .lists-fit .ensures (c6 .args .self)) (c2 .if1 .left)) ∙ no-ask 6 _ (told-no _ _ (c .before .whole .ensures) (c .if2 .taken)))
 
 returns-3 : tie.Need-returns-3
-unfolding stateNumber
+unfolding heldNumber
 returns-3 c =
     let c2 = c .before .before in
     let c3 = c2 .before in
@@ -39,7 +39,7 @@ returns-3 c =
     sym (yes-ask 5 _ (told-yes _ _ (c4 .lists-fit .ensures (c7 .args .self)) (c3 .if1 .left)) ∙ yes-ask 6 _ (told-yes _ _ (c2 .whole .ensures) (c .before .if2 .left)) ∙ no-ask 8 _ (lt-leb _ _ (c .if3 .taken)))
 
 returns-4 : tie.Need-returns-4
-unfolding stateNumber
+unfolding heldNumber
 returns-4 c =
     let c2 = c .before .before in
     let c3 = c2 .before in
@@ -59,7 +59,7 @@ up-to-requires : tie.Need-up-to-requires
 up-to-requires c κs = search needs
 
 returns-5 : tie.Need-returns-5
-unfolding stateNumber
+unfolding heldNumber
 returns-5 c =
     let c3 = c .before .before .before in
     let c5 = c3 .before .before in
@@ -71,7 +71,7 @@ returns-5 c =
     sym (yes-ask 5 _ (told-yes _ _ (c9 .lists-fit .ensures (c12 .args .self)) (c8 .if1 .left)) ∙ yes-ask 6 _ (told-yes _ _ (c7 .whole .ensures) (c6 .if2 .left)) ∙ yes-ask 8 _ (le-leb _ _ (c5 .if3 .left)) ∙ yes-ask 15 _ (le-leb _ _ (c3 .if4 .left)) ∙ no-ask 15 _ (told-no _ _ (c .before .up-to .ensures) (c .if5 .taken)))
 
 returns-6 : tie.Need-returns-6
-unfolding stateNumber
+unfolding heldNumber
 returns-6 c =
     let c3 = c .before .before .before in
     let c5 = c3 .before .before in

@@ -1,5 +1,5 @@
 -- `delay_hold::DelayHold::weighed` meets its contract. Assumes nothing.
-use Rattle.delay_hold.specs.Decide.{weighed}
+use Rattle.delay_hold.specs.Steps5To8.{weighed}
 use borrow.Author.Tests.{lt-ltb, le-ltb}
 use borrow.Author.Needs.{needs}
 use Rattle.delay_hold.proofs.DelayHold.weighed.Statement.{statement}

@@ -4,7 +4,7 @@ use Prim.Native.Nat.{_≤_, _-_, max}
 use mathlib.Core.Path.{_≡_, sym, _∙_, ap}
 use native.Mathlib.Omega.{arith}
 use lib.ListN.{take, drop, length-take}
-use Rattle.delay_hold.specs.Peaks.{greatest}
+use Rattle.delay_hold.specs.Step4Peaks.{greatest}
 use Rattle.delay_hold.specs.declared.Lag.the-variants.{Of}
 use Rattle.delay_hold.proofs.Loops.{greatest-more, greatest-none, worst-some}
 use Rattle.delay_hold.proofs.core.worst.Statement.{statement}

@@ -4,7 +4,7 @@ use native.Mathlib.Omega.{arith}
 use borrow.Author.Needs.{needs}
 use lib.Seq.{take-all}
 use lib.ListN.{length}
-use Rattle.delay_hold.specs.Peaks.{worstOf}
+use Rattle.delay_hold.specs.Step4Peaks.{worstOf}
 use Rattle.inputs_auto_delay.proofs.core.max_lag.Statement.{statement}
 use Rattle.inputs_auto_delay.proofs.core.max_lag.Tie as tie
 

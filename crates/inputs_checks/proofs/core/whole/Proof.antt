@@ -1,7 +1,7 @@
 -- `inputs_checks::core::whole` meets its contract. Assumes nothing.
 use borrow.Author.Needs.{needs}
 use Rattle.base.proofs.All.{both-no, both-yes, told-no, told-yes}
-use Rattle.rules_record.specs.Record.{wholeRecord}
+use Rattle.rules_record.specs.WholeRecord.{wholeRecord}
 use Rattle.inputs_checks.proofs.core.whole.Statement.{statement}
 use Rattle.inputs_checks.proofs.core.whole.Tie as tie
 

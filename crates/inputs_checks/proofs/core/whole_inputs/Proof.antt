@@ -7,7 +7,7 @@ use Rattle.base.proofs.All.{all-end, all-more, all-none, all-stop, told-no, tol
 use Rattle.base.specs.Lists.{all}
 use Rattle.rules_record.specs.Slots.{emptySlot}
 use Rattle.rules_record.proofs.SlotFrame.{slot-in}
-use Rattle.rules_record.specs.Record.{inputFits, wholeInputs}
+use Rattle.rules_record.specs.WholeRecord.{inputFits, wholeInputs}
 use Rattle.rules_record.specs.Lent.{lists}
 use Rattle.rules_record.proofs.RecordCases.{input-asks, told-input, told-unused}
 use Rattle.inputs_checks.proofs.core.whole_inputs.Statement.{statement}

@@ -1,15 +1,17 @@
 -- `inputs_clear::core::clear` meets its contract. Assumes nothing.
 use Rattle.rules_record.specs.Lent.{lists}
-use Rattle.inputs_clear.proofs.ClearParts.{window-held, cleared-by}
+use Rattle.inputs_clear.proofs.ClearParts.{before-held, cleared-by}
 use borrow.Author.Needs.{needs}
 use Rattle.inputs_clear.proofs.core.clear.Statement.{statement}
 use Rattle.inputs_clear.proofs.core.clear.Tie as tie
 
-buckets-of-requires : tie.Need-buckets-of-requires
-buckets-of-requires c κs = search needs
+window-in-requires : tie.Need-window-in-requires
+window-in-requires c κs = search needs
 
 clear-requires : tie.Need-clear-requires
-clear-requires c κs = window-held _ _ _ (c .before .before .before .buckets-of .ensures) (lists (c .before .before .before .before .before .before .before .before .before .before .args .starts .now) (c .before .before .before .before .before .before .before .before .before .before .args .totals .now) (c .before .before .before .before .before .before .before .before .before .before .args .counts .now) (c .before .before .before .before .before .before .before .before .before .before .args .times .now) (c .before .before .before .before .before .before .before .before .before .before .args .peaks .now)) (c .before .before .before .before .before .before .before .before .before .before .pre .0) (c .before .before .before .before .before .before .before .before .before .before .pre .1)
+clear-requires c κs =
+    let entry = c .before .before .before .before .before .before .before .before .before .before in
+    before-held _ _ (entry .args .slot) (c .before .before .before .window-in .ensures) (lists (entry .args .starts .now) (entry .args .totals .now) (entry .args .counts .now) (entry .args .times .now) (entry .args .peaks .now)) (entry .pre .0) (entry .pre .1)
 
 clear-hold-requires : tie.Need-clear-hold-requires
 clear-hold-requires c κs = search needs
@@ -39,13 +41,13 @@ same-length-5 : tie.Need-same-length-5
 same-length-5 c = search needs
 
 returns : tie.Need-returns
-returns c = cleared-by _ _ _ _ _ _ _ _ _ _ _ _ _ (c .before .before .before .before .before .before .before .before .before .before .before .before .before .before .before .before .before .before .before .before .buckets-of .ensures) (c .before .before .before .before .before .before .before .before .before .before .before .before .before .before .before .before .clear .ensures) (c .before .before .before .before .before .before .before .clear-hold .ensures) (c .before .before .with-lag-seconds .ensures) (c .before .with-hold .ensures) (c .put-slot .ensures)
+returns c = cleared-by _ _ _ _ _ _ _ _ _ _ _ _ _ (c .before .before .before .before .before .before .before .before .before .before .before .before .before .before .before .before .before .before .before .before .window-in .ensures) (c .before .before .before .before .before .before .before .before .before .before .before .before .before .before .before .before .clear .ensures) (c .before .before .before .before .before .before .before .clear-hold .ensures) (c .before .before .with-lag-seconds .ensures) (c .before .with-hold .ensures) (c .put-slot .ensures)
 
 pub clear-spec : {M : Type 1} → statement M
 clear-spec =
     tie.close
     (tie.spec
-    buckets-of-requires
+    window-in-requires
     clear-requires
     clear-hold-requires
     with-lag-seconds-requires

@@ -4,8 +4,9 @@ use mathlib.Core.Path.{_∙_}
 use native.Mathlib.Omega.{arith}
 use borrow.Author.Needs.{needs}
 use Rattle.rules_window.specs.Parts.{partOf}
+use Rattle.rules_window.proofs.Thousandths.{half-is, high-is, highest-is}
 use Rattle.lag_window.specs.Lent.{lent}
-use Rattle.rules_calls.proofs.StatusShows.{half-is, high-is, highest-is, arrival-by}
+use Rattle.rules_calls.proofs.StatusShows.{arrival-by}
 use Rattle.inputs_status.proofs.ShownCases.{quantile-asks}
 use Rattle.inputs_status.proofs.shown.arrival.Statement.{statement}
 use Rattle.inputs_status.proofs.shown.arrival.Tie as tie

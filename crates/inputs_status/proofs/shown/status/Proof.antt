@@ -20,13 +20,13 @@ arrival-requires : tie.Need-arrival-requires
 arrival-requires c κs = countable _ _ (c .before .before .before .before .before .before .before .before .before .before .pre .checked) _ (c .before .before .before .before .before .before .before .before .before .before .pre .input) (c .before .before .before .before .slot-at .ensures) (c .window-in .ensures)
 
 mul-from : tie.Need-mul-from
-mul-from c = search needs
+mul-from c = omega (arith, c .before .before .before .before .before .before .before .before .before .before .before .pre .input, c .before .before .before .before .before .before .before .before .before .before .before .pre .checked .fitting .allowed .most)
 
 add-end : tie.Need-add-end
-add-end c = search needs
+add-end c = omega (arith, c .before .before .before .before .before .before .before .before .before .before .before .pre .input, c .before .before .before .before .before .before .before .before .before .before .before .pre .checked .fitting .allowed .most)
 
 mul-worst-ms : tie.Need-mul-worst-ms
-mul-worst-ms c = search needs
+mul-worst-ms c = omega (arith, c .before .before .before .before .before .before .before .before .before .before .before .pre .input, c .before .before .before .before .before .before .before .before .before .before .before .pre .checked .fitting .allowed .most)
 
 sub-worst-ms : tie.Need-sub-worst-ms
 sub-worst-ms c = search needs

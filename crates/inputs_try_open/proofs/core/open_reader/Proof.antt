@@ -14,43 +14,33 @@ use Rattle.inputs_try_open.proofs.core.recall.Reads as recall-reads
 use Rattle.inputs_slots.proofs.put_slot.Reads as put-slot-reads
 use Rattle.inputs_slots.proofs.slot_at.Reads as slot-at-reads
 
--- src/core.rt:93:22
 enum-known-reader : tie.Need-enum-known-reader
 enum-known-reader c = search needs
 
--- src/core.rt:94:9
 enum-told : tie.Need-enum-told
 enum-told c = search needs
 
--- src/core.rt:94:9
 returns : tie.Need-returns
 returns c = did-by (reader-shut _ _ _ _ _ _ (c .enum-told .given .1)) (did-quiet refl)
 
--- src/core.rt:96:9
 slot-at-requires : tie.Need-slot-at-requires
 slot-at-requires c κs = search needs
 
--- src/core.rt:97:9
 send-requires : tie.Need-send-requires
 send-requires c κs = search needs
 
--- src/core.rt:98:9
 opened-requires : tie.Need-opened-requires
 opened-requires c κs = rw (c .before .before .before .before .slot-at .ensures) (c .before .before .before .before .before .before .before .before .before .pre .2)
 
--- src/core.rt:99:9
 put-slot-requires : tie.Need-put-slot-requires
 put-slot-requires c κs = search needs
 
--- src/core.rt:100:5
 recall-requires : tie.Need-recall-requires
 recall-requires c κs = (omega (arith, c .before .before .before .before .before .before .before .before .before .before .before .before .pre .0, c .before .before .before .before .before .send .ensures .0, c .before .before .before .before .before .send .kept .0), c .before .before .before .before .before .before .before .before .before .before .before .before .pre .1)
 
--- src/core.rt:79:1
 same-length : tie.Need-same-length
 same-length c = search needs
 
--- src/core.rt:79:1
 returns-2 : tie.Need-returns-2
 returns-2 c = did-by (reader-opens _ _ _ _ _ _ (c .before .before .before .before .before .before .before .before .before .before .before .before .reader .given .1) (c .before .before .before .before .before .before .before .before .before .before .slot-at .ensures) (c .before .before .before .before .before .opened .ensures) (c .before .before .before .before .put-slot .ensures)) (did-first _ _ _ (c .before .before .before .before .before .before .before .before .send .ensures .0) (c .before .before .before .before .before .before .before .before .send .ensures .1) (c .before .before .recall .ensures))
 

@@ -9,27 +9,21 @@ use Rattle.inputs_try_open.proofs.running.Reads as running-reads
 use Rattle.inputs_slots.proofs.code.Reads as code-reads
 use Rattle.inputs_slots.proofs.with_reopens.Reads as with-reopens-reads
 
--- src/core.rt:24:9
 running-requires : tie.Need-running-requires
 running-requires c κs = search needs
 
--- src/core.rt:26:8
 code-requires : tie.Need-code-requires
 code-requires c κs = search needs
 
--- src/core.rt:27:9
 returns : tie.Need-returns
 returns c = opened-waiting _ _ _ _ (c .before .code .ensures) (c .before .before .running .ensures) (c .if1 .taken)
 
--- src/core.rt:29:31
 add-with-reopens : tie.Need-add-with-reopens
 add-with-reopens c = search needs
 
--- src/core.rt:29:5
 with-reopens-requires : tie.Need-with-reopens-requires
 with-reopens-requires c κs = search needs
 
--- src/core.rt:20:1
 returns-2 : tie.Need-returns-2
 returns-2 c = opened-again _ _ _ _ (c .before .before .before .code .ensures) (c .before .before .before .before .running .ensures) (c .before .before .if1 .left) (c .with-reopens .ensures)
 

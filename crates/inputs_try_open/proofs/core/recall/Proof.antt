@@ -12,39 +12,30 @@ use Rattle.inputs_flows.proofs.recall.Reads as recall-reads
 use Rattle.inputs_try_open.proofs.core.start.Reads as start-reads
 use Rattle.inputs_try_open.proofs.starts.Reads as starts-reads
 
--- src/core.rt:68:9
 starts-requires : tie.Need-starts-requires
 starts-requires c κs = search needs
 
--- src/core.rt:69:9
 returns : tie.Need-returns
 returns c = did-by (recall-not _ _ _ _ _ (sym (c .before .starts .ensures) ∙ not-true (c .before .starts .result) (c .if1 .taken))) (did-quiet refl)
 
--- src/core.rt:71:9
 recall-requires : tie.Need-recall-requires
 recall-requires c κs = search needs
 
--- src/core.rt:72:27
 enum-known-remembered : tie.Need-enum-known-remembered
 enum-known-remembered c = search needs
 
--- src/core.rt:73:9
 enum-told : tie.Need-enum-told
 enum-told c = search needs
 
--- src/core.rt:73:9
 returns-2 : tie.Need-returns-2
 returns-2 c = did-by (recall-none _ _ _ _ _ (sym (c .before .before .before .before .starts .ensures) ∙ not-false (c .before .before .before .before .starts .result) (c .before .before .before .if1 .left)) (c .before .before .recall .ensures) (c .enum-told .given .1)) (did-quiet refl)
 
--- src/core.rt:75:5
 start-requires : tie.Need-start-requires
 start-requires c κs = search needs
 
--- src/core.rt:56:1
 same-length : tie.Need-same-length
 same-length c = search needs
 
--- src/core.rt:56:1
 returns-3 : tie.Need-returns-3
 returns-3 c = did-by (recall-last _ _ _ _ _ (sym (c .before .before .before .before .before .before .before .before .before .starts .ensures) ∙ not-false (c .before .before .before .before .before .before .before .before .before .starts .result) (c .before .before .before .before .before .before .before .before .if1 .left)) (c .before .before .before .before .before .before .before .recall .ensures) (c .before .before .before .before .before .remembered .given .1)) (c .before .before .start .ensures)
 

@@ -11,23 +11,18 @@ use Rattle.base.proofs.least.Reads as least-reads
 use Rattle.inputs_try_open.proofs.seed.Reads as seed-reads
 use Rattle.inputs_set_delay.proofs.core.set_delay.Reads as set-delay-reads
 
--- src/core.rt:45:9
 least-requires : tie.Need-least-requires
 least-requires c κs = search needs
 
--- src/core.rt:46:9
 set-delay-requires : tie.Need-set-delay-requires
 set-delay-requires c κs = search needs
 
--- src/core.rt:48:9
 seed-requires : tie.Need-seed-requires
 seed-requires c κs = search needs
 
--- src/core.rt:33:1
 same-length : tie.Need-same-length
 same-length c = search needs
 
--- src/core.rt:33:1
 returns : tie.Need-returns
 unfolding startAt
 returns c = did-by (start-by _ _ _ _ (c .before .before .before .before .before .before .least .ensures)) (did-changed _ (c .before .before .before .before .set-delay .ensures) (c .seed .ensures))

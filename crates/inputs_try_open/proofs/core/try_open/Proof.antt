@@ -14,75 +14,57 @@ use Rattle.inputs_instances.proofs.prune_instances.Reads as prune-reads
 use Rattle.inputs_try_open.proofs.core.open_reader.Reads as open-reader-reads
 use Rattle.inputs_slots.proofs.slot_at.Reads as slot-at-reads
 
--- src/core.rt:115:9
 slot-at-requires : tie.Need-slot-at-requires
 slot-at-requires c κs = search needs
 
--- src/core.rt:117:20
 enum-known-to : tie.Need-enum-known-to
 enum-known-to c = search needs
 
--- src/core.rt:118:9
 enum-told : tie.Need-enum-told
 enum-told c = search needs
 
--- src/core.rt:118:9
 returns : tie.Need-returns
 returns c = did-by (open-nowhere _ _ _ _ (c .before .before .slot-at .ensures) (c .enum-told .given .1)) (did-quiet refl)
 
--- src/core.rt:121:19
 enum-known-found : tie.Need-enum-known-found
 enum-known-found c = search needs
 
--- src/core.rt:122:9
 enum-told-2 : tie.Need-enum-told-2
 enum-told-2 c = search needs
 
--- src/core.rt:122:9
 returns-2 : tie.Need-returns-2
 returns-2 c = did-by (open-gone _ _ _ _ (c .before .before .before .before .before .slot-at .ensures) (c .before .before .before .to .given .1) (c .enum-told2 .given .1)) (did-quiet refl)
 
--- src/core.rt:126:8
 found-requires : tie.Need-found-requires
 found-requires c κs = search needs
 
--- src/core.rt:127:13
 prune-instances-requires : tie.Need-prune-instances-requires
 prune-instances-requires c κs = search needs
 
--- src/core.rt:128:9
 open-reader-requires : tie.Need-open-reader-requires
 open-reader-requires c κs = (c .before .before .before .before .before .before .before .before .before .before .before .before .pre .0, c .before .before .before .before .before .before .before .before .before .before .before .before .pre .1, rw (c .before .prune-instances .ensures, slot-pruned) (c .before .before .before .before .before .before .before .before .before .before .before .before .pre .2))
 
--- src/core.rt:128:9
 same-length : tie.Need-same-length
 same-length c = search needs
 
--- src/core.rt:128:9
 returns-3 : tie.Need-returns-3
 returns-3 c = did-by (open-found _ _ _ _ (c .before .before .before .before .before .before .before .before .before .before .before .before .before .slot-at .ensures) (c .before .before .before .before .before .before .before .before .before .before .before .to .given .1) (c .before .before .before .before .before .before .before .before .found .given .1) (sym (c .before .before .before .before .before .before .found2 .ensures) ∙ c .before .before .before .before .before .if1 .taken) (c .before .before .before .before .prune-instances .ensures)) (c .before .before .open-reader .ensures)
 
--- src/core.rt:131:9
 returns-4 : tie.Need-returns-4
 returns-4 c = did-by (open-unmade _ _ _ _ (c .before .before .before .before .before .before .before .before .before .before .slot-at .ensures) (c .before .before .before .before .before .before .before .before .to .given .1) (c .before .before .before .before .before .found .given .1) (sym (c .before .before .before .found2 .ensures) ∙ c .before .before .if1 .left) (not-true (c .before .before .before .before .before .before .before .before .before .before .before .before .args .world .made) (c .if2 .taken))) (did-quiet refl)
 
--- src/core.rt:133:9
 make-requires : tie.Need-make-requires
 make-requires c κs = search needs
 
--- src/core.rt:134:9
 prune-instances-requires-2 : tie.Need-prune-instances-requires-2
 prune-instances-requires-2 c κs = search needs
 
--- src/core.rt:135:5
 open-reader-requires-2 : tie.Need-open-reader-requires-2
 open-reader-requires-2 c κs = (c .before .before .before .before .before .before .before .before .before .before .before .before .before .before .before .pre .0, c .before .before .before .before .before .before .before .before .before .before .before .before .before .before .before .pre .1, rw (c .before .prune-instances2 .ensures, slot-pruned, c .before .before .make .ensures, slot-made) (c .before .before .before .before .before .before .before .before .before .before .before .before .before .before .before .pre .2))
 
--- src/core.rt:104:1
 same-length-2 : tie.Need-same-length-2
 same-length-2 c = search needs
 
--- src/core.rt:104:1
 returns-5 : tie.Need-returns-5
 returns-5 c = did-by (open-made _ _ _ _ (c .before .before .before .before .before .before .before .before .before .before .before .before .before .before .before .before .slot-at .ensures) (c .before .before .before .before .before .before .before .before .before .before .before .before .before .before .to .given .1) (c .before .before .before .before .before .before .before .before .before .before .before .found .given .1) (sym (c .before .before .before .before .before .before .before .before .before .found2 .ensures) ∙ c .before .before .before .before .before .before .before .before .if1 .left) (not-false (c .before .before .before .before .before .before .before .before .before .before .before .before .before .before .before .before .before .before .args .world .made) (c .before .before .before .before .before .before .if2 .left)) (c .before .before .before .before .before .make .ensures) (c .before .before .before .before .prune-instances2 .ensures)) (c .before .before .open-reader2 .ensures)
 

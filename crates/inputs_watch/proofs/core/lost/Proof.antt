@@ -8,19 +8,15 @@ use Rattle.inputs_watch.proofs.core.lost.Lts as lts
 use Rattle.inputs_slots.proofs.with_reopens.Reads as with-reopens-reads
 use Rattle.inputs_slots.proofs.with_state.Reads as with-state-reads
 
--- src/core.rt:21:9
 with-state-requires : tie.Need-with-state-requires
 with-state-requires c κs = search needs
 
--- src/core.rt:22:32
 add-with-reopens : tie.Need-add-with-reopens
 add-with-reopens c = search needs
 
--- src/core.rt:22:5
 with-reopens-requires : tie.Need-with-reopens-requires
 with-reopens-requires c κs = search needs
 
--- src/core.rt:17:1
 returns : tie.Need-returns
 returns c = lost-by _ (c .before .before .with-state .ensures) (c .with-reopens .ensures)
 

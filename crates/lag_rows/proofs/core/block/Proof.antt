@@ -1,8 +1,7 @@
 -- `lag_rows::core::block` meets its contract. Assumes nothing.
 use Prim.Native.Nat.{_≤_, _-_, _*_}
 use native.Mathlib.Omega.{arith}
-use Rattle.rules_window.proofs.Reaching.{row-part, row-short, part-fits}
-use Rattle.rules_window.proofs.Reaching.{rows-none, rows-more, rows-end}
+use Rattle.rules_window.proofs.Reaching.{row-part, row-short, part-fits, rows-none, rows-more, rows-end}
 use Rattle.base.proofs.Flat.{row-fits}
 use Rattle.rules_window.specs.InPlace.{rowsFrom}
 use mathlib.Core.Path.{_≡_}

@@ -1,7 +1,6 @@
 -- `lag_rows::core::buckets_of` meets its contract. Assumes nothing.
 use borrow.Author.Needs.{needs}
 use Rattle.lag_rows.proofs.Divisions.{buckets-cast, buckets-fit}
-use Rattle.lag_rows.proofs.Divisions.{buckets-fit}
 use Rattle.rules_window.specs.Window.{bucketsOf}
 use Rattle.lag_rows.proofs.core.buckets_of.Statement.{statement}
 use Rattle.lag_rows.proofs.core.buckets_of.Tie as tie

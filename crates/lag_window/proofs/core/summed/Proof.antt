@@ -4,7 +4,7 @@ use native.Mathlib.Omega.{arith}
 use borrow.Author.Needs.{needs}
 use Rattle.rules_window.proofs.Checking.{summed-none, summed-more, summed-stop-total, summed-stop-row, summed-end}
 use Rattle.base.proofs.Flat.{row-fits, row-within}
-use Rattle.rules_window.specs.Whole.{summed}
+use Rattle.rules_window.specs.WholeWindow.{summed}
 use mathlib.Core.Path.{_≡_}
 use mathlib.Core.Bool.{true}
 use Rattle.lag_window.proofs.core.summed.Statement.{statement}

@@ -1,7 +1,7 @@
 -- `state::Coalesce::whole` meets its contract. Assumes nothing.
 use mathlib.Core.Path.{sym, ap}
 use borrow.Author.Needs.{needs}
-use Rattle.state.specs.Coalesces.{wholeDue, wholeCoalesce}
+use Rattle.state.specs.Coalesce.{wholeDue, wholeCoalesce}
 use Rattle.state.proofs.Coalesce.whole.Statement.{statement}
 use Rattle.state.proofs.Coalesce.whole.Tie as tie
 

@@ -1,0 +1,2 @@
+-- How the code of `watch` orders its tests: no rules.
+pub mod WatchInPlace

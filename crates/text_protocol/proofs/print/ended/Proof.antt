@@ -1,7 +1,0 @@
--- `text_protocol::print::ended` meets its contract. Assumes nothing.
-use Rattle.text_protocol.proofs.Printing.{spells-last, spells-more}
-use Rattle.text_protocol.proofs.print.ended.Statement.{statement}
-use Rattle.text_protocol.proofs.print.ended.Tie as tie
-
-pub ended-spec : {M : Type 1} → statement M
-ended-spec = tie.close (tie.spec (λ c. search spells-last) (λ c. search spells-more))

@@ -1,4 +1,0 @@
-pub mod Fields
-pub mod Print
-pub mod Scan
-pub mod Words

@@ -1,0 +1,2 @@
+pub mod Supervisor
+pub mod Table

@@ -1,0 +1,4 @@
+pub mod Loads
+pub mod Loops
+pub mod Sixteen
+pub mod Told
