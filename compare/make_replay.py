@@ -7,7 +7,7 @@ Usage: compare/make_replay.py             needs the oracle: compare/oracle/build
        compare/make_replay.py --print     the calls, to standard output
 
 The list is fixed. It has every line form of the protocol, every refusal for every call
-that it concerns, with two reasons at once in places (the smaller number wins), both
+that it concerns, with two reasons at once in places (the first in order answers), both
 sides of each edge of document 01's rules, its examples, and the readings of
 docs/DECISIONS.md under the name "Reading N". No line depends on a random number."""
 import pathlib

@@ -110,7 +110,12 @@ def window():
         "wnew 96001 0 4800", "wnew 0 96001 4800", "wnew 480 4800 0", "wnew 480 4800 4801", "wnew 480 4800 2",
         "wnew 0 11580 4",
     )
-    say(short("wnew 480 4800 2"), short("wnew 480 4800 48"), f"wnew {U32} {U32} 1")  # 2 before 5; 5; 2
+    # Document 02, 1: 2, 17, 18 in this order, each alone and with the others, before 5.
+    say(
+        "wnew 96001 0 0", "wnew 0 96001 4801", "wnew 96001 96001 1", "wnew 96000 96000 0", "wnew 96000 96000 1",
+        f"wnew 0 0 {U32}", f"wnew {U32} {U32} 4801", short("wnew 480 96001 48"), short("wnew 480 4800 0"), short("wnew 480 4800 2"),
+        short("wnew 480 4800 48"), f"wnew {U32} {U32} 1",
+    )
     say("wnew 480 4800 48", "wpush 1 5")
     half = bits(0.5)
     say(short("wpush 1 5"), short("wclear"), short("wspan"), short(f"wquant {half} 5"))
@@ -314,6 +319,12 @@ def hold():
     say(
         nxt(5, offset=96001), nxt(5, maximum=96001), nxt(5, w=0), nxt(5, w=4801),
         nxt(5, p999=480, w=1, offset=96000, maximum=96000),
+    )
+    # Document 02, 1: 2, 17, 18 in this order, each alone and with the others, before 3; 4,096 buckets and 4,097
+    say(
+        nxt(5, offset=96001, w=0), nxt(5, maximum=96001, w=2), nxt(5, maximum=96001, w=4801), nxt(5, w=0, offset=96000),
+        nxt(5, w=4801, offset=U32, maximum=U32), nxt(5, w=U32, hold=U64), nxt(5, w=2, hold=U64), nxt(5, w=0, percent=NAN), short(nxt(5, w=2)),
+        nxt(5, w=4, offset=11579, maximum=0), nxt(5, w=4, offset=11580, maximum=0),
     )
     say(
         nxt(5, hold=600 * S + 1), nxt(5, window=S - 1), nxt(5, window=600 * S + 1), nxt(5, hold=U64),

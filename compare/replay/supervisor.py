@@ -95,9 +95,15 @@ def making():
     say(*(new_line(**r) for r in refused), short(new_line()))
     # Two reasons: the earlier one answers.
     say(
-        new_line(n=17, w=0), new_line(offset=96001, hold=U64), new_line(stall=U64, margin=U32),
+        new_line(n=17, w=0), new_line(n=0, w=2), new_line(offset=96001, hold=U64), new_line(stall=U64, margin=U32),
         short(new_line(percent=NAN)), short(new_line(now=U64)), new_line(now=U64, loaded=flows + [("40", 9)]),
         new_line(n=0, now=U64),
+    )
+    # Document 02, 1: 2, 17, 18 in this order, with one another, and before 3
+    say(
+        new_line(offset=96001, w=0), new_line(maximum=96001, w=2), new_line(offset=96001, maximum=96001, w=4801),
+        new_line(w=0, hold=U64), new_line(w=U32, margin=U32), new_line(w=2, stall=U64), new_line(offset=96000, maximum=96000, w=1),
+        short(new_line(w=0)), short(new_line(w=2)), new_line(w=2, now=U64), new_line(offset=U32, maximum=U32, w=4801),
     )
     say("dump")  # the supervisor of the last accepted `new` is still there
     say(

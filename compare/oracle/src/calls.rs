@@ -276,7 +276,27 @@ impl Calls {
         }
     }
 
-    /// A `new` that document 01 refuses, for one reason or several.
+    /// Offset, maximum and W, one of them beyond its range (2, 17), or with too many buckets (18); called again, with
+    /// two or three of these faults at once.
+    fn refused_reach(&mut self, reach: [u32; 3]) -> [u32; 3] {
+        let [mut offset, mut max, mut w] = reach;
+        match self.r.below(6) {
+            0 => offset = self.r.pick(&[96_001, u32::MAX]),
+            1 => max = self.r.pick(&[96_001, u32::MAX]),
+            2 | 3 => w = self.r.pick(&[0, 0, 4801, u32::MAX]),
+            4 => w = 1,
+            _ => {
+                // 4,097 buckets, the fewest that are too many (4,802 with W 1)
+                w = self.r.pick(&[1, 1, 2, 4, 40]);
+                let sum = 4095 * w - 4800.min(4095 * w);
+                offset = sum.min(96_000);
+                max = sum - offset;
+            }
+        }
+        [offset, max, w]
+    }
+
+    /// A `new` that the checks refuse, for one reason or several.
     fn refused_new(&mut self) -> String {
         let mut new = self.settings();
         let mut short = false;
@@ -286,18 +306,7 @@ impl Calls {
                     new.n = self.r.pick(&[0, 0, 17, 17, 18, 255, 256, 272]);
                     new.kinds = vec!["A".into(); new.n as usize];
                 }
-                1 => match self.r.below(5) {
-                    0 => new.offset = self.r.pick(&[96_001, u32::MAX]),
-                    1 => new.max = self.r.pick(&[96_001, u32::MAX]),
-                    2 => new.w = self.r.pick(&[0, 0, 4801, u32::MAX]),
-                    _ => {
-                        // 4,097 buckets, the fewest that are too many
-                        new.w = self.r.pick(&[1, 1, 2, 4, 40]);
-                        let sum = 4095 * new.w - 4800.min(4095 * new.w);
-                        new.offset = sum.min(96_000);
-                        new.max = sum - new.offset;
-                    }
-                },
+                1 => [new.offset, new.max, new.w] = self.refused_reach([new.offset, new.max, new.w]),
                 2 => match self.r.below(3) {
                     0 => new.hold = self.r.pick(&[600 * SECOND + 1, u64::MAX]),
                     1 => new.stall = self.r.pick(&[600 * SECOND + 1, u64::MAX]),
@@ -910,7 +919,11 @@ impl Calls {
                     format!("{short}wquant {} {limit}", bits(q))
                 }
                 10 if self.r.chance(30) => {
-                    let (o, m, w) = (self.r.pick(&[0, 96_001]), self.r.pick(&[0, 96_001, u32::MAX]), self.r.pick(&[0, 1, 1, 4801]));
+                    let mut reach = [offset, max, w];
+                    for _ in 0..self.r.pick(&[1, 1, 2, 3]) {
+                        reach = self.refused_reach(reach);
+                    }
+                    let [o, m, w] = reach;
                     let line = format!("{short}wnew {o} {m} {w}");
                     if self.call(line) {
                         return;
@@ -1003,11 +1016,7 @@ impl Calls {
         let (mut p999, mut current, mut short) = (None, 0, false);
         for _ in 0..self.r.pick(&[1, 1, 2, 3]) {
             match self.r.below(7) {
-                0 => match self.r.below(3) {
-                    0 => reach[0] = self.r.pick(&[96_001, u32::MAX]),
-                    1 => reach[1] = self.r.pick(&[96_001, u32::MAX]),
-                    _ => reach[2] = self.r.pick(&[0, 4801, u32::MAX]),
-                },
+                0 => reach = self.refused_reach(reach),
                 1 => match self.r.chance(50) {
                     true => times[0] = self.r.pick(&[600 * SECOND + 1, u64::MAX]),
                     false => times[1] = self.r.pick(&[0, SECOND - 1, 600 * SECOND + 1, u64::MAX]),

@@ -1,4 +1,4 @@
-//! Document 01's checks, written from its text: which calls are refused and with
+//! Document 01's checks with document 02's numbers, written from their text: which calls are refused and with
 //! which number, and which lines cannot be read. A call that passes goes to the
 //! Rust. So does a refused one where the Rust has an answer of its own for it (a
 //! missing input, a manual delay out of range, no proposal): it must refuse it too.
@@ -183,8 +183,15 @@ pub fn buckets(offset: u32, max: u32, w: u32) -> u64 {
 fn reaches(offset: u32, max: u32) -> bool {
     offset <= 96_000 && max <= 96_000
 }
+/// 17: W.
 fn width(w: u32) -> bool {
     (1..=4800).contains(&w)
+}
+/// 2, then 17, then 18: more than 4,096 buckets.
+fn ranges(offset: u32, max: u32, w: u32) -> Read<()> {
+    ask(2, reaches(offset, max))?;
+    ask(17, width(w))?;
+    ask(18, buckets(offset, max, w) <= 4096)
 }
 /// 3: hold and window.
 fn times(hold: u64, window: u64) -> bool {
@@ -340,7 +347,7 @@ impl Checked {
         ask(7, input < self.settings.n as u64)
     }
 
-    /// 5 and 6 of a supervisor (1 to 4 hold of a record that `new` made).
+    /// 5 and 6 of a supervisor (1 to 4, 17 and 18 hold of a record that `new` made).
     fn record(&self, short: bool) -> Read<()> {
         self.made()?;
         ask(5, !short)?;
@@ -372,7 +379,7 @@ impl Checked {
         }
         w.end()?;
         ask(1, (1..=16).contains(&n))?;
-        ask(2, reaches(offset, max) && width(bucket) && buckets(offset, max, bucket) <= 4096)?;
+        ranges(offset, max, bucket)?;
         ask(3, times(hold, window) && stall <= 600 * SECOND)?;
         ask(4, margins(margin, percent))?;
         ask(5, !short)?;
@@ -512,7 +519,7 @@ impl Checked {
             "wnew" => {
                 let (offset, max, bucket) = (w.u32()?, w.u32()?, w.u32()?);
                 w.end()?;
-                ask(2, reaches(offset, max) && width(bucket) && buckets(offset, max, bucket) <= 4096)?;
+                ranges(offset, max, bucket)?;
                 ask(5, !short)?;
                 self.window = (bucket, buckets(offset, max, bucket));
                 Ok(())
@@ -549,8 +556,7 @@ impl Checked {
                 maybe(w.word()?, small)?;
                 let (current, now) = (w.u32()?, w.u64()?);
                 w.end()?;
-                // A hold alone has no buckets to ask for.
-                ask(2, reaches(offset, max) && width(bucket))?;
+                ranges(offset, max, bucket)?;
                 ask(3, times(hold, window))?;
                 ask(4, margins(margin, percent))?;
                 ask(5, !short)?;
@@ -596,9 +602,10 @@ impl Checked {
         }
     }
 
-    /// 2 (it holds of a window that `wnew` made), 5 and 6 of the window alone.
+    /// 17 and 18 (they hold of a window that `wnew` made), 5 and 6 of the window alone.
     fn lone_window(&self, short: bool) -> Read<Vec<Second>> {
-        ask(2, width(self.window.0) && (2..=4096).contains(&self.window.1))?;
+        ask(17, width(self.window.0))?;
+        ask(18, (1..=4096).contains(&self.window.1))?;
         ask(5, !short)?;
         let seconds = self.driver.window.seconds();
         ask(6, whole_window(&seconds))?;

@@ -5,9 +5,10 @@ use mathlib.Core.Bool.{false}
 use lib.IntN.{pos, negsuc}
 use lib.Ieee.{fin, binary64, round, mul, div, ofInt, le}
 use Rattle.base.specs.Choice.{ask, both}
+use Rattle.buckets.specs.Ranges.{reachesAllowed}
 use Rattle.doubles.specs.Doubles.{msOf, samplesOf, halfAway}
 use Rattle.policy.specs.declared.Need.the-variants as Need
-use Rattle.policy.specs.Settings.{reachesAllowed, marginsAllowed}
+use Rattle.policy.specs.Settings.{marginsAllowed}
 use Rattle.policy.specs.Need.{needOf, needNumber, needReply}
 use Rattle.answers.specs.Fifteen.{settings, Fifteen}
 use Rattle.answers.proofs.Windows.{limited-are, one-above-is, two-above-is}

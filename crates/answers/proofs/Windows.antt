@@ -6,10 +6,11 @@ use lib.ListN.{replicate, length-append, length-replicate}
 use Rattle.base.specs.Choice.{ask, both}
 use Rattle.base.specs.Lists.{padded, all, sum, blankFrom, sumFrom}
 use Rattle.base.specs.Rows.{apart, upTo}
+use Rattle.buckets.specs.Ranges.{reachesAllowed, widthAllowed, bucketsOf, bucketsFew, bucketsAllowed, rangesNumber}
 use Rattle.doubles.specs.Doubles.{ceilOf}
 use Rattle.doubles.specs.Quantile.{targetOf}
 use Rattle.rules_window.specs.declared.Quantile.the-variants.{End}
-use Rattle.rules_window.specs.Window.{bucketsOf, fresh, inUse, laid, opened, dropped, counted, pushed, pushedAll}
+use Rattle.rules_window.specs.Window.{fresh, inUse, laid, opened, dropped, counted, pushed, pushedAll}
 use Rattle.rules_window.specs.WholeWindow.{summed, wholeWindow, Sound}
 use Rattle.rules_window.specs.Quantile.{column, within, running, reach, quantileIn, thousandths}
 use Rattle.rules_window.specs.Checks.{checked, newestOf, fromZeroToOne, newNumber, pushNumber, quantileNumber, newReply, pushReply, quantileUptoReply, quantileReply, newest}
@@ -20,20 +21,20 @@ use native.Mathlib.Omega.{arith}
 use Rattle.answers.proofs.Pushes.{after-pushed}
 
 pub limited-are : quantileUptoReply one 95 (after (0 ∷ 100 ∷ []) made) ∷ quantileUptoReply one 96 (after (0 ∷ 100 ∷ []) made) ∷ [] ≡ End 48 ∷ End 144 ∷ []
-unfolding after ask both padded all sum blankFrom sumFrom apart upTo ceilOf targetOf bucketsOf fresh inUse laid opened dropped counted pushed pushedAll summed wholeWindow column within running reach quantileIn thousandths checked newestOf fromZeroToOne newNumber pushNumber quantileNumber newReply pushReply quantileUptoReply quantileReply round mul ofInt le
+unfolding after ask both padded all sum blankFrom sumFrom apart upTo ceilOf targetOf bucketsOf fresh inUse laid opened dropped counted pushed pushedAll summed wholeWindow column within running reach quantileIn thousandths reachesAllowed widthAllowed bucketsFew bucketsAllowed rangesNumber checked newestOf fromZeroToOne newNumber pushNumber quantileNumber newReply pushReply quantileUptoReply quantileReply round mul ofInt le
 limited-are = refl
 
 one-pushed : quantileReply (thousandths 999) (pushedAll 5 (replicate 999 0 ++ 48 ∷ []) made) ≡ End 48
-unfolding ask both padded all sum blankFrom sumFrom apart upTo ceilOf targetOf bucketsOf fresh inUse laid opened dropped counted pushed pushedAll summed wholeWindow column within running reach quantileIn thousandths checked newestOf fromZeroToOne newNumber pushNumber quantileNumber newReply pushReply quantileUptoReply quantileReply round mul ofInt le
+unfolding ask both padded all sum blankFrom sumFrom apart upTo ceilOf targetOf bucketsOf fresh inUse laid opened dropped counted pushed pushedAll summed wholeWindow column within running reach quantileIn thousandths reachesAllowed widthAllowed bucketsFew bucketsAllowed rangesNumber checked newestOf fromZeroToOne newNumber pushNumber quantileNumber newReply pushReply quantileUptoReply quantileReply round mul ofInt le
 one-pushed = refl
 
 two-pushed : quantileReply (thousandths 999) (pushedAll 5 (replicate 998 0 ++ 48 ∷ 48 ∷ []) made) ≡ End 96
-unfolding ask both padded all sum blankFrom sumFrom apart upTo ceilOf targetOf bucketsOf fresh inUse laid opened dropped counted pushed pushedAll summed wholeWindow column within running reach quantileIn thousandths checked newestOf fromZeroToOne newNumber pushNumber quantileNumber newReply pushReply quantileUptoReply quantileReply round mul ofInt le
+unfolding ask both padded all sum blankFrom sumFrom apart upTo ceilOf targetOf bucketsOf fresh inUse laid opened dropped counted pushed pushedAll summed wholeWindow column within running reach quantileIn thousandths reachesAllowed widthAllowed bucketsFew bucketsAllowed rangesNumber checked newestOf fromZeroToOne newNumber pushNumber quantileNumber newReply pushReply quantileUptoReply quantileReply round mul ofInt le
 two-pushed = refl
 
 -- ---- a thousand pushes
 made-is : made ≡ fresh (bucketsOf 0 0 48) 48
-unfolding newReply newNumber ask bucketsOf
+unfolding newReply newNumber ask both reachesAllowed widthAllowed bucketsOf bucketsFew rangesNumber
 made-is = refl
 
 made-sound : Sound made

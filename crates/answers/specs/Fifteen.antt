@@ -7,12 +7,13 @@ use mathlib.Core.List.{List, [], _∷_, _++_}
 use lib.IntN.{pos, negsuc}
 use lib.Ieee.{Float, fin, binary64, round}
 use lib.ListN.{replicate}
+use Rattle.buckets.specs.Ranges.{bucketsOf}
 use Rattle.doubles.specs.Doubles.{msOf, samplesOf}
 use Rattle.policy.specs.declared.DelayPolicy.{DelayPolicy}
 use Rattle.policy.specs.declared.Need.the-variants as Need
 use Rattle.policy.specs.Need.{needReply}
 use Rattle.rules_window.specs.declared.Quantile.the-variants.{End}
-use Rattle.rules_window.specs.Window.{Window, bucketsOf}
+use Rattle.rules_window.specs.Window.{Window}
 use Rattle.rules_window.specs.Quantile.{thousandths}
 use Rattle.rules_window.specs.Checks as window
 use Rattle.delay_hold.specs.declared.Lag.{Lag}

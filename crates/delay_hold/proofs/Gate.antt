@@ -10,6 +10,7 @@ use Rattle.base.specs.Limits.{nanos, spanLimit, timeLimit, widthLimit}
 use Rattle.base.specs.Choice.{accepted}
 use Rattle.base.proofs.Choices.{yes-ask, no-ask, asked, refused-old, accepted-new}
 use Rattle.base.proofs.Points.{both-true}
+use Rattle.buckets.proofs.Told.{reaches-yes, ranges-told}
 use Rattle.policy.specs.declared.DelayPolicy.{DelayPolicy}
 use Rattle.policy.specs.Settings.{Sound}
 use Rattle.policy.proofs.Checks.{allowed-sound, allowed-times}
@@ -48,7 +49,7 @@ module _ (times lags : List ℕ) where
   unfolding newNumber
   new-made h ts ls e a = ap (leaves 0) e ∙ new-by {n = 0} (yes-ask 5 _ a)
 
--- ---- checks 2 to 4 of next
+-- ---- checks 2, 17, 18, 3 and 4 of next
 pub record Settled (policy : DelayPolicy) (width : ℕ) : Type 0 where
   pub sound : Sound policy
   pub window-least : nanos ≤ policy .window
@@ -59,13 +60,12 @@ module _ (policy : DelayPolicy) (width : ℕ) where
   pub settled : settingsNumber policy width ≡ 0 → Settled policy width
   unfolding settingsNumber
   settled h =
-      let a = asked 1 _ _ h in
-      let b = asked 1 _ _ (a .1) in
-      let c = asked 1 _ _ (b .1) in
-      let d = asked 2 _ _ (c .1) in
+      let told = ranges-told (policy .«read_offset») (policy .«delay_max») width _ h in
+      let r = told .0 in
+      let d = asked 2 _ _ (told .1) in
       let e = asked 3 _ _ (d .1) in
       let t = allowed-times policy (d .0) in
-      record { sound = allowed-sound policy (a .0) (e .0); window-least = t .1; window-most = t .2; width-most = leb-true _ _ (c .0) }
+      record { sound = allowed-sound policy (reaches-yes _ _ (r .offset-most) (r .maximum-most)) (e .0); window-least = t .1; window-most = t .2; width-most = r .width-most }
 
   pub settings-most : settingsNumber policy width ≡ 0 → peakMost policy width < 2 ^ 32
   settings-most h = let s = settled h in omega (arith, s .sound .offset, s .sound .maximum, s .width-most)

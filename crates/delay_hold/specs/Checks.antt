@@ -1,4 +1,4 @@
--- Document 01's checks of `new` and of `next` alone, the answers, and what each call leaves. Assumes nothing.
+-- The checks of `new` and of `next` alone (document 01's, with document 02's 17 and 18), the answers, and what each call leaves. Assumes nothing.
 use Prim.Native.Nat.{ℕ, zero, suc, _≤_}
 use mathlib.Core.Path.{_≡_}
 use mathlib.Core.Bool.{Bool, true}
@@ -7,8 +7,9 @@ use lib.Dec.{leb, eqb}
 use lib.ListN.{length}
 use Rattle.base.specs.Choice.{ask, both, accepted}
 use Rattle.base.specs.Limits.{nanos, spanLimit, timely, widthLimit}
+use Rattle.buckets.specs.Ranges.{rangesNumber}
 use Rattle.policy.specs.declared.DelayPolicy.{DelayPolicy}
-use Rattle.policy.specs.Settings.{reachesAllowed, timesAllowed, marginsAllowed, Sound}
+use Rattle.policy.specs.Settings.{timesAllowed, marginsAllowed, Sound}
 use Rattle.delay_hold.specs.declared.Lag.{Lag}
 use Rattle.delay_hold.specs.declared.Lag.the-variants.{None, Of}
 use Rattle.delay_hold.specs.declared.Change.{Change}
@@ -48,14 +49,12 @@ abbrev pub lagUpTo : Lag → (limit : ℕ) → Bool
 lagUpTo None limit = true
 lagUpTo (Of lag) limit = leb lag limit
 
--- 2: "Are offset and maximum at most 96,000, W 1 to 4,800" 3. 4.
+-- 2 17 18 of offset, maximum and W, from which the buckets follow. 3. 4.
 unfoldable pub settingsNumber : (policy : DelayPolicy) (width : ℕ) → ℕ
 settingsNumber policy width =
-    ask 2 (reachesAllowed policy)
-    (ask 2 (leb 1 width)
-    (ask 2 (leb width widthLimit)
+    rangesNumber (policy .«read_offset») (policy .«delay_max») width
     (ask 3 (timesAllowed policy)
-    (ask 4 (marginsAllowed policy) 0))))
+    (ask 4 (marginsAllowed policy) 0))
 
 -- 5. 6. 8. 15: "current at most maximum, p999 at most offset + maximum + W"
 unfoldable pub heldNumber : (policy : DelayPolicy) (width : ℕ) (s : Held) (p999 : Lag) (current time : ℕ) → ℕ

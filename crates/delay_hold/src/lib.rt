@@ -108,18 +108,13 @@ fn lists_fit(times: &[u64], lags: &[u32]) -> bool
     lags.len() == DelayHold::PLACES
 }
 
-// Checks 2 to 4: the first that says no, or 0.
+// Checks 2, 17, 18, 3 and 4: the first that says no, or 0.
 fn settings_number(policy: DelayPolicy, width: u32) -> u32
     ensures { λ r. ⌜ r ≡ settingsNumber policy width ⌝ }
 {
-    if !policy.reaches_allowed() {
-        return 2;
-    }
-    if width < 1 {
-        return 2;
-    }
-    if base::WIDTH_LIMIT < width {
-        return 2;
+    let ranges = buckets::ranges_number(policy.read_offset, policy.delay_max, width);
+    if ranges != 0 {
+        return ranges;
     }
     if !policy.times_allowed() {
         return 3;

@@ -22,7 +22,8 @@ use policy::DelayPolicy;
 use policy::core::need;
 
 impl Moment {
-    fn held(self, hold: u64, time: u64) -> bool
+    // There was none, or it is at least hold old.
+    pub fn held(self, hold: u64, time: u64) -> bool
         ensures { λ r. ⌜ r ≡ heldSince self hold time ⌝ }
     {
         let Moment::At(t) = self else {

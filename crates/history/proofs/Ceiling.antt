@@ -9,10 +9,12 @@ use native.Mathlib.Omega.{arith}
 use lib.ListN.{length}
 use Rattle.base.specs.Limits.{nanos, timeLimit}
 use Rattle.base.proofs.Choices.{by-le}
+use Rattle.buckets.specs.Ranges.{bucketsOf, tenth}
+use Rattle.buckets.proofs.Told.{buckets-some}
 use Rattle.policy.specs.declared.DelayPolicy.{DelayPolicy}
 use Rattle.policy.specs.Need.{needOf}
 use Rattle.policy.proofs.Laws.{need-covers}
-use Rattle.rules_window.specs.Window.{Window, bucketsOf, bucketOf, pushedAll, tenth}
+use Rattle.rules_window.specs.Window.{Window, bucketOf, pushedAll}
 use Rattle.rules_record.specs.Lent.{bucketsFor}
 use Rattle.rules_window.specs.Checks.{roomFor}
 use Rattle.history.specs.View.{Rules, InputView, Tick, tickedView, rulesWith}
@@ -20,7 +22,7 @@ use Rattle.history.specs.Events.{ticks, after, history, Lawful}
 use Rattle.history.specs.Stretch.{Allowed, runningTicks, NonEmpty, NoneAbove, TickStretch, ending, bucketEnd}
 use Rattle.history.specs.Whole.{Kept}
 use Rattle.history.proofs.Phase.{early, phase-lower, at-last}
-use Rattle.history.proofs.Windows.{buckets-some, div-mono, Ready, Windowed, first-windowed, step-windowed}
+use Rattle.history.proofs.Windows.{div-mono, Ready, Windowed, first-windowed, step-windowed}
 use Rattle.history.proofs.Steady.{Steady, next-steady}
 use Rattle.history.proofs.Kept.{kept-ready, kept-peaks, kept-delay, kept-pushed, kept-ticked, kept-after}
 use Rattle.history.proofs.Sanity.{Sane, sane-later}
@@ -33,7 +35,7 @@ module _ (policy : DelayPolicy) (width : ℕ) (allowed : Allowed policy width) (
   buckets = bucketsFor policy width
 
   used : 0 < buckets
-  used = omega (arith, buckets-some policy width)
+  used = omega (arith, buckets-some (policy .«read_offset») (policy .«delay_max») width)
 
   -- ---- L is at most offset + maximum
   module _

@@ -9,11 +9,12 @@ use lib.IntN.{negsuc}
 use lib.Ieee.{fin, round, mul, ofInt, le}
 use Rattle.base.specs.Limits.{nanos}
 use Rattle.base.specs.Lists.{padded, sum}
+use Rattle.buckets.specs.Ranges.{bucketsOf}
 use Rattle.doubles.specs.Doubles.{halfAway, ceilOf}
 use Rattle.doubles.specs.Quantile.{targetOf}
 use Rattle.policy.specs.declared.DelayPolicy.{DelayPolicy}
 use Rattle.policy.specs.Need.{needOf, shareOf}
-use Rattle.rules_window.specs.Window.{fresh, bucketsOf, inUse, laid, opened, dropped, counted, pushed, pushedAll}
+use Rattle.rules_window.specs.Window.{fresh, inUse, laid, opened, dropped, counted, pushed, pushedAll}
 use Rattle.rules_window.specs.Checks.{newestOf}
 use Rattle.rules_window.specs.Quantile.{column, within, running, reach, quantileIn, thousandths}
 use Rattle.delay_hold.specs.Steps1To3.{noted}

@@ -9,9 +9,10 @@ use lib.ListN.{length, length-replicate}
 use Rattle.base.specs.Limits.{timeLimit}
 use Rattle.base.specs.Choice.{pick}
 use Rattle.base.proofs.Points.{both-true, true-both}
+use Rattle.buckets.proofs.Told.{buckets-some}
 use Rattle.policy.specs.declared.DelayPolicy.{DelayPolicy}
 use Rattle.base.specs.Rows.{spanOf}
-use Rattle.rules_window.specs.Window.{Window, fresh, pushedAll, bucketsOf}
+use Rattle.rules_window.specs.Window.{Window, fresh, pushedAll}
 use Rattle.rules_record.specs.Lent.{bucketsFor}
 use Rattle.rules_window.specs.Quantile.{quantileUpto}
 use Rattle.rules_window.specs.WholeWindow as windows
@@ -30,7 +31,7 @@ use Rattle.history.specs.View.{InputView, tickedView}
 use Rattle.history.specs.Events.{Event, ticks, rests, seeds, clears, sets, freshView, interrupted, after, timeOf, Fits, Room}
 use Rattle.history.specs.Stretch.{Allowed}
 use Rattle.history.specs.Whole.{wholeView, Kept}
-use Rattle.history.proofs.Windows.{Ready, ready-all, buckets-some}
+use Rattle.history.proofs.Windows.{Ready, ready-all}
 
 -- ---- the parts of a kept input
 
@@ -75,7 +76,7 @@ module _ (policy : DelayPolicy) (width : ℕ) (allowed : Allowed policy width) w
   unfolding freshView fresh
   kept-fresh =
       kept-of (freshView policy width)
-      (fresh-sound buckets width (allowed .width-least) (allowed .width-most) (buckets-some policy width) (allowed .buckets-most)) refl refl
+      (fresh-sound buckets width (allowed .width-least) (allowed .width-most) (omega (arith, buckets-some (policy .«read_offset») (policy .«delay_max») width)) (allowed .buckets-most)) refl refl
       (marks.fresh-whole policy width (omega (arith, allowed .window-least))) refl refl (omega arith)
 
   -- ---- the ticks
@@ -86,7 +87,7 @@ module _ (policy : DelayPolicy) (width : ℕ) (allowed : Allowed policy width) w
   module _ (time : ℕ) (soon : time ≤ timeLimit) (lags : List ℕ) (view : InputView) (k : Kept policy width view) (room : roomFor time (length lags) (view .window) ≡ true) where
     pub kept-pushed : Ready width buckets time 0 (pushedAll time lags (view .window))
     kept-pushed =
-        ready-all width buckets time (allowed .width-least) (omega (arith, buckets-some policy width)) soon lags (view .window)
+        ready-all width buckets time (allowed .width-least) (omega (arith, buckets-some (policy .«read_offset») (policy .«delay_max») width)) soon lags (view .window)
         (kept-ready view k time (length lags) room)
 
     kept-asked : AskedFor width policy (view .held) (p999Of policy (pushedAll time lags (view .window))) (view .delay)

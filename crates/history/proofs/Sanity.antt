@@ -6,6 +6,7 @@ use mathlib.Core.List.{List}
 use native.Mathlib.Omega.{arith}
 use lib.ListN.{length, replicate}
 use Rattle.base.specs.Limits.{timeLimit}
+use Rattle.buckets.proofs.Told.{buckets-some}
 use Rattle.policy.specs.declared.DelayPolicy.{DelayPolicy}
 use Rattle.rules_window.specs.Window.{fresh, pushedAll}
 use Rattle.rules_record.specs.Lent.{bucketsFor}
@@ -19,7 +20,7 @@ use Rattle.history.specs.Events.{Event, ticks, rests, seeds, clears, set
 use Rattle.history.specs.Stretch.{Allowed}
 use Rattle.history.specs.Whole.{Kept}
 use Rattle.history.proofs.Seconds.{StartsTill}
-use Rattle.history.proofs.Windows.{buckets-some, till-all}
+use Rattle.history.proofs.Windows.{till-all}
 use Rattle.history.proofs.Kept.{kept-ready, kept-peaks}
 
 -- no time of the input is past t
@@ -48,7 +49,7 @@ module _ (policy : DelayPolicy) (width : ℕ) (allowed : Allowed policy width) (
     where
       starts-pushed : StartsTill time (pushedAll time lags (view .window))
       starts-pushed =
-          till-all width (bucketsFor policy width) time (allowed .width-least) (omega (arith, buckets-some policy width)) soon
+          till-all width (bucketsFor policy width) time (allowed .width-least) (omega (arith, buckets-some (policy .«read_offset») (policy .«delay_max») width)) soon
           lags (view .window) (kept-ready policy width allowed view k time (length lags) room) (s .starts)
 
       sane-ticked : Sane time (tickedView rules view (record { time = time; lags = lags; mayLower = mayLower }))

@@ -9,10 +9,12 @@ use borrow.Author.Tests.{le-leb}
 use lib.ListN.{length}
 use Rattle.base.specs.Limits.{nanos}
 use Rattle.base.proofs.Choices.{by-le, le-rule}
+use Rattle.buckets.specs.Ranges.{bucketsOf, tenth}
+use Rattle.buckets.proofs.Told.{buckets-some}
 use Rattle.policy.specs.declared.DelayPolicy.{DelayPolicy}
 use Rattle.policy.specs.Need.{needOf}
 use Rattle.policy.proofs.Laws.{need-grows}
-use Rattle.rules_window.specs.Window.{Window, bucketsOf, bucketOf, tenth}
+use Rattle.rules_window.specs.Window.{Window, bucketOf}
 use Rattle.rules_record.specs.Lent.{bucketsFor}
 use Rattle.rules_window.specs.WholeWindow.{Sound}
 use Rattle.delay_hold.specs.declared.Lag.{Lag}
@@ -30,7 +32,7 @@ use Rattle.delay_hold.proofs.Later.{SeedTill, Each, HoldTill, seed-kept, seed-g
 use Rattle.rules_tick.specs.AutoDelay.{p999Of}
 use Rattle.history.specs.Stretch.{Allowed, NoneAbove, bucketEnd}
 use Rattle.history.proofs.Phase.{Phase, early, step-phase}
-use Rattle.history.proofs.Windows.{buckets-some, div-mono, bucket-start, Windowed, p999-windowed}
+use Rattle.history.proofs.Windows.{div-mono, bucket-start, Windowed, p999-windowed}
 
 -- ---- the end of L's bucket
 
@@ -107,7 +109,7 @@ module _
         -- past `began` + 10 s the quantile, and the lag that joins the peaks, are at most `edge`
         quantile-low : began + 10 * nanos < time → AtMost edge p999
         unfolding bucketEnd
-        quantile-low f = p999-windowed began L width buckets (allowed .width-least) (omega (arith, buckets-some policy width)) policy fits time w f sound widths k
+        quantile-low f = p999-windowed began L width buckets (allowed .width-least) (omega (arith, buckets-some (policy .«read_offset») (policy .«delay_max») width)) policy fits time w f sound widths k
 
         joined-low : began + 10 * nanos < time → lagUpTo (largerLag (lagOf policy largest) p999) edge ≡ true
         joined-low f =

@@ -11,8 +11,7 @@ use Rattle.base.proofs.Choices.{le-rule}
 use Rattle.policy.specs.declared.DelayPolicy.{DelayPolicy}
 use Rattle.delay_hold.specs.declared.Lag.the-variants.{None}
 use Rattle.base.specs.Rows.{spanOf}
-use Rattle.rules_window.specs.Window.{Window, bucketsOf, bucketOf, pushed, pushedAll}
-use Rattle.rules_record.specs.Lent.{bucketsFor}
+use Rattle.rules_window.specs.Window.{Window, bucketOf, pushed, pushedAll}
 use Rattle.rules_window.specs.Quantile.{quantileUpto, thousandths}
 use Rattle.rules_window.specs.Checks.{newest}
 use Rattle.rules_window.specs.WholeWindow.{Sound}
@@ -29,10 +28,6 @@ use Rattle.history.proofs.Quantiles.{HasLag, lag-more, quantile-low}
 use Rattle.history.proofs.Seconds.{StartsTill, Clean, Young, Recent, Newest, Near, till-pushed, young-pushed, clean-pushed, newest-pushed, lag-pushed, newest-near, till-near, till-clean, young-low}
 
 -- ---- buckets
-
-pub buckets-some : (policy : DelayPolicy) (width : ℕ) → 2 ≤ bucketsFor policy width
-unfolding bucketsOf
-buckets-some policy width = omega arith
 
 pub div-mono : (w a b : ℕ) → 1 ≤ w → a ≤ b → a / w ≤ b / w
 div-mono w a b h k = le-div-iff-mul-le h .1 (le-trans (div-mul-le-self a w) k)

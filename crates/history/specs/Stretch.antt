@@ -3,7 +3,7 @@ use Prim.Native.Nat.{ℕ, _+_, _*_, _≤_}
 use mathlib.Core.Path.{_≡_}
 use mathlib.Core.Bool.{true}
 use mathlib.Core.List.{List, [], _∷_}
-use Rattle.base.specs.Limits.{nanos, widthLimit}
+use Rattle.base.specs.Limits.{nanos, spanLimit, widthLimit, bucketsLimit}
 use Rattle.policy.specs.declared.DelayPolicy.{DelayPolicy}
 use Rattle.policy.specs.Settings as policies
 use Rattle.rules_window.specs.Window.{bucketOf}
@@ -11,15 +11,15 @@ use Rattle.rules_record.specs.Lent.{bucketsFor}
 use Rattle.history.specs.View.{Tick}
 use Rattle.history.specs.Events.{Event, ticks}
 
--- what checks 2, 3 and 4 of `new` let through
+-- what checks 2, 17, 18, 3 and 4 of `new` let through
 pub record Allowed (policy : DelayPolicy) (width : ℕ) : Type 0 where
   pub sound : policies.Sound policy
-  pub hold-most : policy .hold ≤ 600 * nanos
+  pub hold-most : policy .hold ≤ spanLimit
   pub window-least : nanos ≤ policy .window
-  pub window-most : policy .window ≤ 600 * nanos
+  pub window-most : policy .window ≤ spanLimit
   pub width-least : 1 ≤ width
   pub width-most : width ≤ widthLimit
-  pub buckets-most : bucketsFor policy width ≤ 4096
+  pub buckets-most : bucketsFor policy width ≤ bucketsLimit
 
 -- ticks that all leave the input running on automatic
 abbrev pub runningTicks : List Tick → List Event

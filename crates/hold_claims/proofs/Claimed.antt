@@ -4,8 +4,9 @@ use lib.Ieee.{round, mul, ofInt, le}
 use Rattle.base.specs.Choice.{ask, both}
 use Rattle.base.specs.Lists.{all, blankFrom}
 use Rattle.base.specs.Rows.{apart, upTo}
+use Rattle.buckets.specs.Ranges.{reachesAllowed, widthAllowed, bucketsOf, bucketsFew, rangesNumber}
 use Rattle.doubles.specs.Doubles.{halfAway}
-use Rattle.policy.specs.Settings.{reachesAllowed, timesAllowed, marginsAllowed}
+use Rattle.policy.specs.Settings.{timesAllowed, marginsAllowed}
 use Rattle.policy.specs.Need.{needOf}
 use Rattle.delay_hold.specs.Steps1To3.{noted}
 use Rattle.delay_hold.specs.Step4Peaks.{joinTimes, joinLags, oldCount, timesAfter, lagsAfter}
@@ -13,7 +14,7 @@ use Rattle.delay_hold.specs.Steps5To8.{lowering, weighed, decideAt, decide}
 use Rattle.delay_hold.specs.Next.{nextOf}
 use Rattle.delay_hold.specs.Whole.{timerFits, wholePeaks, wholeTimes, wholeHold}
 use Rattle.delay_hold.specs.Checks.{listsFit, newNumber, newReply, settingsNumber, heldNumber, nextNumber, nextReply}
-use Rattle.hold_claims.specs.Claims.{StartupUnder60Seconds, StartupUnderTwoLates, LateCountedInStartup, SeedEndsStartup, PeakJoinedUnder1Second, NothingToGoBy, TimerStartsOrKeeps, ChangeStored, StartupOf5Seconds, SeedByThePolicysHold, FarLagDropped, LateCountedOnce, HalfRoundedDown, TimerOffNearTheNeed, LoweredToTheHighest, LoweringLooksAtTheLastChange, CurrentAndP999Checked, PeaksSpanLessThanWindow, RefusalLeavesTheLists, NewZeroesBothLists, NewOf599Refused}
+use Rattle.hold_claims.specs.Claims.{StartupUnder60Seconds, StartupUnderTwoLates, LateCountedInStartup, SeedEndsStartup, PeakJoinedUnder1Second, NothingToGoBy, TimerStartsOrKeeps, ChangeStored, StartupOf5Seconds, SeedByThePolicysHold, FarLagDropped, LateCountedOnce, HalfRoundedDown, TimerOffNearTheNeed, LoweredToTheHighest, LoweringLooksAtTheLastChange, ReachesWidthBucketsChecked, CurrentAndP999Checked, PeaksSpanLessThanWindow, RefusalLeavesTheLists, NewZeroesBothLists, NewOf599Refused}
 
 pub startup-of-5-seconds : StartupOf5Seconds
 unfolding nextOf noted joinTimes joinLags oldCount timesAfter lagsAfter decide decideAt weighed lowering needOf halfAway round mul ofInt
@@ -47,16 +48,20 @@ pub lowering-looks-at-the-last-change : LoweringLooksAtTheLastChange
 unfolding nextOf noted joinTimes joinLags oldCount timesAfter lagsAfter decide decideAt weighed lowering needOf halfAway round mul ofInt
 lowering-looks-at-the-last-change = refl
 
+pub reaches-width-buckets-checked : ReachesWidthBucketsChecked
+unfolding nextNumber settingsNumber heldNumber listsFit wholeHold wholePeaks wholeTimes timerFits apart upTo all blankFrom ask both reachesAllowed widthAllowed bucketsOf bucketsFew rangesNumber timesAllowed marginsAllowed le
+reaches-width-buckets-checked = refl
+
 pub current-and-p999-checked : CurrentAndP999Checked
-unfolding nextNumber settingsNumber heldNumber listsFit wholeHold wholePeaks wholeTimes timerFits apart upTo all blankFrom ask both reachesAllowed timesAllowed marginsAllowed le
+unfolding nextNumber settingsNumber heldNumber listsFit wholeHold wholePeaks wholeTimes timerFits apart upTo all blankFrom ask both reachesAllowed widthAllowed bucketsOf bucketsFew rangesNumber timesAllowed marginsAllowed le
 current-and-p999-checked = refl
 
 pub peaks-span-less-than-window : PeaksSpanLessThanWindow
-unfolding nextNumber settingsNumber heldNumber listsFit wholeHold wholePeaks wholeTimes timerFits apart upTo all blankFrom ask both reachesAllowed timesAllowed marginsAllowed le
+unfolding nextNumber settingsNumber heldNumber listsFit wholeHold wholePeaks wholeTimes timerFits apart upTo all blankFrom ask both reachesAllowed widthAllowed bucketsOf bucketsFew rangesNumber timesAllowed marginsAllowed le
 peaks-span-less-than-window = refl
 
 pub refusal-leaves-the-lists : RefusalLeavesTheLists
-unfolding nextReply nextNumber settingsNumber heldNumber listsFit wholeHold wholePeaks wholeTimes timerFits apart upTo all blankFrom ask both reachesAllowed timesAllowed marginsAllowed le
+unfolding nextReply nextNumber settingsNumber heldNumber listsFit wholeHold wholePeaks wholeTimes timerFits apart upTo all blankFrom ask both reachesAllowed widthAllowed bucketsOf bucketsFew rangesNumber timesAllowed marginsAllowed le
 refusal-leaves-the-lists = refl
 
 pub new-zeroes-both-lists : NewZeroesBothLists

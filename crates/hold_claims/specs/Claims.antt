@@ -177,6 +177,17 @@ LoweringLooksAtTheLastChange =
     ∷ []
     ≡ Keep ∷ To 96 ∷ []
 
+-- "Number 17 is for W, asked straight after 2; 18 for buckets, asked straight after 17": of `next` alone too, before 3
+abbrev pub reaching : (offset maximum : ℕ) → DelayPolicy
+reaching offset maximum = record { «read_offset» = offset; «delay_max» = maximum; hold = 0; window = 0; margin = 96; «margin_share» = fin false 1 (negsuc 0) }
+
+abbrev pub numberFor : (offset maximum width : ℕ) → ℕ
+numberFor offset maximum width = nextNumber (reaching offset maximum) width fresh None 0 1_000_000_000
+
+abbrev pub ReachesWidthBucketsChecked : Type 0
+ReachesWidthBucketsChecked =
+    numberFor 96001 96000 0 ∷ numberFor 96000 96001 1 ∷ numberFor 96000 96000 0 ∷ numberFor 0 0 4801 ∷ numberFor 96000 95760 48 ∷ numberFor 96000 95759 48 ∷ [] ≡ 2 ∷ 2 ∷ 17 ∷ 17 ∷ 18 ∷ 3 ∷ []
+
 -- 15: "current at most maximum, p999 at most offset + maximum + W"
 abbrev pub CurrentAndP999Checked : Type 0
 CurrentAndP999Checked = numberOf (Of 480) 4800 ∷ numberOf (Of 480) 4801 ∷ numberOf (Of 5328) 0 ∷ numberOf (Of 5329) 0 ∷ [] ≡ 0 ∷ 15 ∷ 0 ∷ 15 ∷ []

@@ -322,6 +322,7 @@ fn refusals() {
     next(hold, &mut times, &mut lags, q, q, 0, far, 48, 1000);
     next(hold, &mut times, &mut lags, q, q, 0, p, 0, 1000);
     next(hold, &mut times, &mut lags, q, q, 0, p, 4801, 1000);
+    next(hold, &mut times, &mut lags, q, q, 0, p, 2, 1000);
     let short = DelayPolicy {
         window: 999_999_999,
         ..p

@@ -5,7 +5,7 @@ use mathlib.Core.Path.{_≡_, sym, ap, subst, _∙_}
 use mathlib.Core.List.{List, []}
 use lib.Ieee.{Float}
 use lib.ListN.{length}
-use Rattle.base.specs.Limits.{timeLimit}
+use Rattle.base.specs.Limits.{timeLimit, widthLimit, bucketsLimit}
 use Rattle.base.specs.Lists.{part}
 use Rattle.lag_window.specs.declared.LagWindow.{LagWindow}
 use Rattle.lag_window.specs.Lent.{lent}
@@ -49,13 +49,13 @@ module _ (s : Inputs) (slot : Slot) (i : ℕ) (starts counts : List ℕ) (asked 
   span-asks = subst (λ (x : LagWindow). (x .seconds ≤ 11) × (i * 11 + 11 ≤ length starts)) (sym is) (whole-of _ sound .few, asked .window .held .starts-in)
 
   pub quantile-asks : {q : Float} → q ≡ thousandths 999 → (limit : ℕ) →
-      ((w .seconds ≤ 11) × (w .buckets ≤ 4096) × (1 ≤ w .width) × (w .width ≤ 4800))
+      ((w .seconds ≤ 11) × (w .buckets ≤ bucketsLimit) × (1 ≤ w .width) × (w .width ≤ widthLimit))
       × ((i * (11 * w .buckets) + 11 * w .buckets ≤ length counts) × (Placeable q limit (parts.partOf i (lent w [] [] counts)) × ShortRows (w .buckets) (w .seconds) (part (i * (11 * w .buckets)) (11 * w .buckets) counts)))
   unfolding bucketsIn
   quantile-asks {q} is-q limit =
       subst
       (λ (x : LagWindow).
-      ((x .seconds ≤ 11) × (x .buckets ≤ 4096) × (1 ≤ x .width) × (x .width ≤ 4800))
+      ((x .seconds ≤ 11) × (x .buckets ≤ bucketsLimit) × (1 ≤ x .width) × (x .width ≤ widthLimit))
       × ((i * (11 * x .buckets) + 11 * x .buckets ≤ length counts) × (Placeable q limit (parts.partOf i (lent x [] [] counts)) × ShortRows (x .buckets) (x .seconds) (part (i * (11 * x .buckets)) (11 * x .buckets) counts))))
       (sym is) (
         (whole-of _ sound .few, asked .window .held .buckets-high, asked .window .held .width-low, asked .window .held .width-high),

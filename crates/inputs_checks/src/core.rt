@@ -2,6 +2,7 @@
 ghost use mathlib.Core.Path.{_≡_};
 ghost use Prim.Native.Nat.{_+_, _*_, _≤_};
 ghost use lib.ListN.{length};
+ghost use Rattle.base.specs.Limits.{bucketsLimit};
 ghost use Rattle.policy.specs.Settings.{Sound};
 ghost use Rattle.lag_window.specs.Lent.{lent};
 ghost use Rattle.rules_window.specs.Parts.{PartsIn};
@@ -28,7 +29,7 @@ pub fn lists_fit(
     times: &[u64],
     peaks: &[u32],
 ) -> bool
-    requires { ⌜ (n ≤ 16) × (buckets ≤ 4096) ⌝ }
+    requires { ⌜ (n ≤ 16) × (buckets ≤ bucketsLimit) ⌝ }
     ensures { λ r. ⌜ r ≡ listsFit n buckets (lists (now (starts .entry)) (now (totals .entry)) (now (counts .entry)) (now (times .entry)) (now (peaks .entry))) ⌝ }
 {
     if starts.len() != n * LagWindow::SECONDS {

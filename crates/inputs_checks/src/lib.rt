@@ -1,8 +1,8 @@
-// The whole record of a supervisor with the lists lent for it: checks 1 to 8 of the calls (document 01, "The gatekeeper's questions").
+// The whole record of a supervisor with the lists lent for it: checks 1 to 8 of the calls (document 01, "The gatekeeper's questions"), 17 and 18 straight after 2.
 ghost use mathlib.Core.Path.{_≡_};
 ghost use Rattle.rules_record.specs.Sized.{Sized};
 ghost use Rattle.rules_record.specs.Lent.{lists};
-ghost use Rattle.rules_record.specs.Checks.{inputsAllowed, bucketsAllowed, pausesAllowed, recordNumber, timedNumber};
+ghost use Rattle.rules_record.specs.Checks.{inputsAllowed, pausesAllowed, recordNumber, timedNumber};
 use policy::DelayPolicy;
 use rules_record::Commands;
 use rules_record::Inputs;
@@ -18,22 +18,6 @@ pub fn inputs_allowed(n: usize) -> bool
         return false;
     }
     n <= 16
-}
-
-// Are offset and maximum at most 96,000, W 1 to 4,800, buckets at most 4,096 (check 2)?
-pub fn buckets_allowed(policy: DelayPolicy, width: u32) -> bool
-    ensures { λ r. ⌜ r ≡ bucketsAllowed policy width ⌝ }
-{
-    if !policy.reaches_allowed() {
-        return false;
-    }
-    if width < 1 {
-        return false;
-    }
-    if base::WIDTH_LIMIT < width {
-        return false;
-    }
-    lag_rows::core::buckets_of(policy.read_offset, policy.delay_max, width) <= base::BUCKETS_LIMIT
 }
 
 // Are hold and stall at most 600 s, window 1 to 600 s (check 3)?
@@ -61,8 +45,9 @@ fn first_refused(
         return 1;
     }
     let policy = inputs.policy;
-    if !buckets_allowed(policy, inputs.width) {
-        return 2;
+    let ranges = buckets::ranges_number(policy.read_offset, policy.delay_max, inputs.width);
+    if ranges != 0 {
+        return ranges;
     }
     if !pauses_allowed(policy, inputs.stall) {
         return 3;
@@ -70,7 +55,7 @@ fn first_refused(
     if !policy.margins_allowed() {
         return 4;
     }
-    let buckets = lag_rows::core::buckets_of(policy.read_offset, policy.delay_max, inputs.width);
+    let buckets = buckets::core::buckets_of(policy.read_offset, policy.delay_max, inputs.width);
     if !core::lists_fit(inputs.count, buckets, starts, totals, counts, times, peaks) {
         return 5;
     }

@@ -132,17 +132,22 @@ fn settings_number(
     if !inputs_checks::inputs_allowed(settings.count) {
         return 1;
     }
-    let policy = policy_of(settings);
-    if !inputs_checks::buckets_allowed(policy, settings.width) {
-        return 2;
+    let ranges = buckets::ranges_number(settings.read_offset, settings.delay_max, settings.width);
+    if ranges != 0 {
+        return ranges;
     }
+    let policy = policy_of(settings);
     if !inputs_checks::pauses_allowed(policy, settings.stall) {
         return 3;
     }
     if !margin_fits(settings) {
         return 4;
     }
-    let buckets = lag_rows::core::buckets_of(policy.read_offset, policy.delay_max, settings.width);
+    let buckets = buckets::core::buckets_of(
+        settings.read_offset,
+        settings.delay_max,
+        settings.width,
+    );
     if !inputs_checks::core::lists_fit(
         settings.count,
         buckets,

@@ -1,9 +1,10 @@
 // The parts of the call: the route that is wanted beside the one that was, what changes in the slot, and what is sent.
 ghost use mathlib.Core.Path.{_≡_};
 ghost use mathlib.Core.List.{_++_};
-ghost use Prim.Native.Nat.{_+_, _<_, _≤_, _^_};
+ghost use Prim.Native.Nat.{_+_, _<_, _≤_};
 ghost use lib.ListN.{length};
 ghost use lib.Seq.{sets};
+ghost use Rattle.base.specs.Limits.{counterLimit};
 ghost use Rattle.rules_record.specs.declared.Routed.the-variants.{Nowhere};
 ghost use Rattle.rules_record.specs.Inputs.{slotAt};
 ghost use Rattle.rules_record.specs.Commands.{Did};
@@ -164,7 +165,7 @@ pub(crate) fn open_for(
     commands: &mut [u32],
     used: usize,
 ) -> Sent
-    requires { ⌜ (used + 6 ≤ length (now commands)) × (i < 16) × (slotAt inputs i .reopens < 2 ^ 63) ⌝ }
+    requires { ⌜ (used + 6 ≤ length (now commands)) × (i < 16) × (slotAt inputs i .reopens < counterLimit) ⌝ }
     ensures { λ r. ⌜ Did 6 (openedFor new i time world inputs) r (now (commands .entry)) (now (commands .exit)) used ⌝ }
 {
     let Routed::To(_) = new else {

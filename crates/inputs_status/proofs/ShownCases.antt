@@ -25,6 +25,7 @@ use Rattle.rules_record.specs.Inputs.{slotAt}
 use Rattle.rules_record.specs.Lent.{Lists, bucketsIn, windowOf, heldOf}
 use Rattle.inputs_window.specs.Windows.{windowIn}
 use Rattle.base.proofs.Blocks.{block-within}
+use Rattle.base.specs.Limits.{widthLimit, bucketsLimit}
 use Rattle.rules_record.specs.Facts.{Checked}
 use Rattle.rules_record.proofs.Shapes.{window-sound, window-held, held-lags}
 use Rattle.rules_calls.specs.declared.Sourced.{Sourced}
@@ -36,7 +37,7 @@ use Rattle.rules_calls.specs.Status.{sourceOf, channelsShown, proposedMs, arriv
 use Rattle.inputs_status.specs.StatusAsked.{Countable}
 
 pub quantile-asks : {w : LagWindow} {i : ℕ} {counts : List ℕ} → Countable w i counts → {q : Float} (k : ℕ) → q ≡ thousandths k → k ≤ 1000 →
-    ((w .seconds ≤ 11) × (w .buckets ≤ 4096) × (1 ≤ w .width) × (w .width ≤ 4800))
+    ((w .seconds ≤ 11) × (w .buckets ≤ bucketsLimit) × (1 ≤ w .width) × (w .width ≤ widthLimit))
     × ((i * (11 * w .buckets) + 11 * w .buckets ≤ length counts) × (Placeable q 4294967295 (partOf i (lent w [] [] counts)) × ShortRows (w .buckets) (w .seconds) (part (i * (11 * w .buckets)) (11 * w .buckets) counts)))
 quantile-asks {w} {i} {counts} c k is-q h =
     ((c .few, c .buckets-most, c .width-least, c .width-most), (c .counts-in, (subst (λ (x : Float). Placeable x 4294967295 (partOf i (lent w [] [] counts))) (sym is-q) (c .placeable (thousandths k) (thousandths-in k h)), c .short)))

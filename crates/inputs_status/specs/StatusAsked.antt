@@ -6,6 +6,7 @@ use mathlib.Core.List.{List, []}
 use lib.Ieee.{Float}
 use lib.ListN.{length}
 use Rattle.base.specs.Lists.{part}
+use Rattle.base.specs.Limits.{widthLimit, bucketsLimit}
 use Rattle.lag_window.specs.declared.LagWindow.{LagWindow}
 use Rattle.lag_window.specs.Lent.{lent}
 use Rattle.rules_window.specs.Parts.{partOf}
@@ -18,9 +19,9 @@ use Rattle.rules_record.specs.Facts.{Checked}
 -- a window whose quantiles without limit can be worked out from the counts of all inputs
 pub record Countable (w : LagWindow) (i : ℕ) (counts : List ℕ) : Type 0 where
   pub few : w .seconds ≤ 11
-  pub buckets-most : w .buckets ≤ 4096
+  pub buckets-most : w .buckets ≤ bucketsLimit
   pub width-least : 1 ≤ w .width
-  pub width-most : w .width ≤ 4800
+  pub width-most : w .width ≤ widthLimit
   pub counts-in : i * (11 * w .buckets) + 11 * w .buckets ≤ length counts
   pub placeable : (q : Float) → fromZeroToOne q ≡ true → Placeable q 4294967295 (partOf i (lent w [] [] counts))
   pub short : ShortRows (w .buckets) (w .seconds) (part (i * (11 * w .buckets)) (11 * w .buckets) counts)

@@ -6,10 +6,8 @@ ghost use Rattle.rules_record.specs.declared.Commands.the-variants.{Absent};
 ghost use Rattle.rules_record.specs.Checks.{inputNumber};
 ghost use Rattle.rules_calls.specs.StatusChecks.{statusNumber, channelsNumber, settledNumber};
 ghost use Rattle.rules_calls.specs.Status.{noStatus, statusReply};
-ghost use Rattle.delay_hold.specs.Steps5To8.{heldSince};
 ghost use Rattle.rules_calls.specs.HasChannels.{hasChannelsReply};
 ghost use Rattle.rules_calls.specs.Settled.{settledSlot, settledReply};
-use delay_hold::Moment;
 use rules_calls::Answer;
 use rules_calls::Arrival;
 use rules_calls::InputStatus;
@@ -238,16 +236,7 @@ pub fn has_channels(
     }
 }
 
-// No SetDelay within the last hold: age at least hold, or none ever.
-fn rested(last_set: Moment, hold: u64, time: u64) -> bool
-    ensures { λ r. ⌜ r ≡ heldSince «last_set» hold time ⌝ }
-{
-    let Moment::At(set) = last_set else {
-        return true;
-    };
-    hold <= base::age(time, set)
-}
-
+// Running, and no SetDelay within the last hold: it is at least hold old, or there never was one.
 fn settled_slot(slot: Slot, hold: u64, time: u64) -> bool
     ensures { λ r. ⌜ r ≡ settledSlot slot hold time ⌝ }
 {
@@ -256,7 +245,7 @@ fn settled_slot(slot: Slot, hold: u64, time: u64) -> bool
         return false;
     }
     let last_set = slot.last_set;
-    rested(last_set, hold, time)
+    last_set.held(hold, time)
 }
 
 // Is the input running, with no SetDelay sent to it within the last hold?

@@ -1,9 +1,9 @@
 // Over the whole record and the lists of all inputs, for the crate above, which has checked what is asked here.
 ghost use mathlib.Core.Bool.{true};
 ghost use mathlib.Core.Path.{_≡_};
-ghost use Prim.Native.Nat.{ℕ, _+_, _<_, _≤_, _^_};
+ghost use Prim.Native.Nat.{ℕ, _+_, _<_, _≤_};
 ghost use lib.ListN.{length};
-ghost use Rattle.base.specs.Limits.{timeLimit};
+ghost use Rattle.base.specs.Limits.{timeLimit, counterLimit};
 ghost use Rattle.rules_record.specs.declared.Inputs.{Inputs};
 ghost use Rattle.rules_record.specs.States.{stateNumber};
 ghost use Rattle.rules_record.specs.Inputs.{slotAt, putSlot};
@@ -31,7 +31,7 @@ fn look_at(
     commands: &mut [u32],
     used: usize,
 ) -> Sent
-    requires { ⌜ (used + 6 ≤ length (now commands)) × (i < 16) × (slotAt inputs i .reopens < 2 ^ 63) ⌝ }
+    requires { ⌜ (used + 6 ≤ length (now commands)) × (i < 16) × (slotAt inputs i .reopens < counterLimit) ⌝ }
     ensures { λ r. ⌜ Did 6 (looked i look time inputs) r (now (commands .entry)) (now (commands .exit)) used ⌝ }
 {
     let slot = inputs_slots::slot_at(inputs, i);

@@ -1,7 +1,8 @@
 // `try_open` over the whole record. Inner functions: they ask for room for two commands, and that reopens can be counted.
 ghost use mathlib.Core.Path.{_≡_};
-ghost use Prim.Native.Nat.{_+_, _<_, _≤_, _^_};
+ghost use Prim.Native.Nat.{_+_, _<_, _≤_};
 ghost use lib.ListN.{length};
+ghost use Rattle.base.specs.Limits.{counterLimit};
 ghost use Rattle.rules_record.specs.Inputs.{slotAt};
 ghost use Rattle.rules_record.specs.Commands.{Did};
 ghost use Rattle.rules_routing.specs.TryOpen.{openedSlot, startOf, recallOf, openReader, tryOpenOf};
@@ -18,7 +19,7 @@ use rules_routing::World;
 
 // The slot once its reader is open.
 fn opened(slot: Slot, inode: u64, head: u64, time: u64) -> Slot
-    requires { ⌜ slot .reopens < 2 ^ 63 ⌝ }
+    requires { ⌜ slot .reopens < counterLimit ⌝ }
     ensures { λ r. ⌜ r ≡ openedSlot slot inode head time ⌝ }
 {
     let runs = crate::running(slot, inode, head, time);
@@ -79,7 +80,7 @@ fn open_reader(
     commands: &mut [u32],
     used: usize,
 ) -> Sent
-    requires { ⌜ (used + 6 ≤ length (now commands)) × (i < 16) × (slotAt inputs i .reopens < 2 ^ 63) ⌝ }
+    requires { ⌜ (used + 6 ≤ length (now commands)) × (i < 16) × (slotAt inputs i .reopens < counterLimit) ⌝ }
     ensures { λ r. ⌜ Did 6 (openReader (world .reader) place inode inputs i time world) r (now (commands .entry)) (now (commands .exit)) used ⌝ }
 {
     let reader = world.reader;
@@ -108,7 +109,7 @@ pub fn try_open(
     commands: &mut [u32],
     used: usize,
 ) -> Sent
-    requires { ⌜ (used + 6 ≤ length (now commands)) × (i < 16) × (slotAt inputs i .reopens < 2 ^ 63) ⌝ }
+    requires { ⌜ (used + 6 ≤ length (now commands)) × (i < 16) × (slotAt inputs i .reopens < counterLimit) ⌝ }
     ensures { λ r. ⌜ Did 6 (tryOpenOf inputs i time world) r (now (commands .entry)) (now (commands .exit)) used ⌝ }
 {
     let slot = inputs_slots::slot_at(inputs, i);

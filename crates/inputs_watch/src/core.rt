@@ -1,7 +1,8 @@
 // `watch` over the whole record. Inner functions: they ask for room for two commands, and that reopens can be counted.
 ghost use mathlib.Core.Path.{_≡_};
-ghost use Prim.Native.Nat.{_+_, _<_, _≤_, _^_};
+ghost use Prim.Native.Nat.{_+_, _<_, _≤_};
 ghost use lib.ListN.{length};
+ghost use Rattle.base.specs.Limits.{counterLimit};
 ghost use Rattle.rules_record.specs.Inputs.{slotAt};
 ghost use Rattle.rules_record.specs.Commands.{Did};
 ghost use Rattle.rules_routing.specs.Watch.{lostSlot, watchOf};
@@ -17,7 +18,7 @@ use rules_routing::World;
 
 // The flow is gone: the input waits for it.
 fn lost(slot: Slot) -> Slot
-    requires { ⌜ slot .reopens < 2 ^ 63 ⌝ }
+    requires { ⌜ slot .reopens < counterLimit ⌝ }
     ensures { λ r. ⌜ r ≡ lostSlot slot ⌝ }
 {
     let waits = inputs_slots::with_state(slot, State::Waiting);
@@ -34,7 +35,7 @@ fn watch_still(
     commands: &mut [u32],
     used: usize,
 ) -> Sent
-    requires { ⌜ (used + 6 ≤ length (now commands)) × (i < 16) × (slotAt inputs i .reopens < 2 ^ 63) × (slot .reopens < 2 ^ 63) ⌝ }
+    requires { ⌜ (used + 6 ≤ length (now commands)) × (i < 16) × (slotAt inputs i .reopens < counterLimit) × (slot .reopens < counterLimit) ⌝ }
     ensures { λ r. ⌜ Did 6 (watchFound Still slot inputs i time world) r (now (commands .entry)) (now (commands .exit)) used ⌝ }
 {
     if crate::stalls(slot, time, inputs.stall) {
@@ -55,7 +56,7 @@ pub fn watch(
     commands: &mut [u32],
     used: usize,
 ) -> Sent
-    requires { ⌜ (used + 6 ≤ length (now commands)) × (i < 16) × (slotAt inputs i .reopens < 2 ^ 63) ⌝ }
+    requires { ⌜ (used + 6 ≤ length (now commands)) × (i < 16) × (slotAt inputs i .reopens < counterLimit) ⌝ }
     ensures { λ r. ⌜ Did 6 (watchOf inputs i time seen world) r (now (commands .entry)) (now (commands .exit)) used ⌝ }
 {
     let slot = inputs_slots::slot_at(inputs, i);

@@ -6,6 +6,7 @@ ghost use Prim.Native.Nat.{_+_, _*_, _≤_};
 ghost use lib.ListN.{length};
 ghost use Rattle.base.specs.Lists.{part};
 ghost use Rattle.base.specs.Rows.{spanOf};
+ghost use Rattle.base.specs.Limits.{timeLimit, widthLimit, bucketsLimit};
 ghost use Rattle.policy.specs.Settings.{Sound};
 ghost use Rattle.rules_window.specs.Window.{cleared, pushedAll};
 ghost use Rattle.lag_window.specs.Lent.{lent};
@@ -24,7 +25,7 @@ pub fn window_in(policy: DelayPolicy, width: u32, slot: Slot) -> LagWindow
     requires { ⌜ Sound policy × (1 ≤ width) ⌝ }
     ensures { λ r. ⌜ r ≡ windowIn policy width slot ⌝ }
 {
-    let buckets = lag_rows::core::buckets_of(policy.read_offset, policy.delay_max, width);
+    let buckets = buckets::core::buckets_of(policy.read_offset, policy.delay_max, width);
     LagWindow {
         seconds: slot.lag_seconds,
         buckets,
@@ -74,7 +75,7 @@ pub fn push_all(
 ) -> LagWindow
     requires { ⌜ PartsIn j (lent window (now starts) (now totals) (now counts)) ⌝ }
     requires { ⌜ wholeWindow (partOf j (lent window (now starts) (now totals) (now counts))) ≡ true ⌝ }
-    requires { ⌜ time ≤ 4000000000000000000 ⌝ }
+    requires { ⌜ time ≤ timeLimit ⌝ }
     requires { ⌜ roomFor time (length (now lags)) (partOf j (lent window (now starts) (now totals) (now counts))) ≡ true ⌝ }
     ensures { λ r. ⌜ lent r (now (starts .exit)) (now (totals .exit)) (now (counts .exit)) ≡ placed j (pushedAll time (now (lags .entry)) (partOf j (lent window (now (starts .entry)) (now (totals .entry)) (now (counts .entry))))) (lent window (now (starts .entry)) (now (totals .entry)) (now (counts .entry))) ⌝ }
 {
@@ -129,7 +130,7 @@ pub fn span(window: LagWindow, j: usize, starts: &[u64]) -> u64
 
 // The quantile q of the lags of input j up to limit.
 pub fn quantile_upto(window: LagWindow, j: usize, q: f64, limit: u32, counts: &[u32]) -> Quantile
-    requires { ⌜ (window .seconds ≤ 11) × (window .buckets ≤ 4096) × (1 ≤ window .width) × (window .width ≤ 4800) ⌝ }
+    requires { ⌜ (window .seconds ≤ 11) × (window .buckets ≤ bucketsLimit) × (1 ≤ window .width) × (window .width ≤ widthLimit) ⌝ }
     requires { ⌜ j * (11 * window .buckets) + 11 * window .buckets ≤ length (now counts) ⌝ }
     requires { ⌜ Placeable q limit (partOf j (lent window [] [] (now counts))) ⌝ }
     requires { ⌜ ShortRows (window .buckets) (window .seconds) (part (j * (11 * window .buckets)) (11 * window .buckets) (now counts)) ⌝ }

@@ -7,6 +7,7 @@ use native.Mathlib.Numerals.{add-one}
 use native.Mathlib.Omega.{arith}
 use lib.Bits.{bitOr}
 use lib.ListN.{getD}
+use Rattle.base.specs.Limits.{bucketsLimit}
 use Rattle.base.specs.Lists.{sumFrom}
 use Rattle.base.proofs.All.{from-none, from-more, le-or, le-or-second}
 
@@ -37,7 +38,7 @@ module _ (a : ℕ) (xs : List ℕ) where
   bits-end n b bits e h l = rw (← le-antisymm h l) e
 
   -- 4,096 numbers below 2^20 have a sum below 2^32, so that nothing wrapped
-  module _ (n sum bits : ℕ) (few : n ≤ 4096) (small : bits < 1048576) (e : sum ≡ sumFrom a n xs % 4294967296) (l : sumFrom a n xs ≤ n * bits) where
+  module _ (n sum bits : ℕ) (few : n ≤ bucketsLimit) (small : bits < 1048576) (e : sum ≡ sumFrom a n xs % 4294967296) (l : sumFrom a n xs ≤ n * bits) where
     pub tally-whole : (r : ℕ) → r ≡ sum → r ≡ sumFrom a n xs
     tally-whole r q =
         let k : bits ≤ 1048575 = omega arith in

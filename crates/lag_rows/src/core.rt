@@ -3,23 +3,13 @@ ghost use mathlib.Core.Path.{_≡_};
 ghost use mathlib.Core.List.{[]};
 ghost use Prim.Native.Nat.{_+_, _-_, _*_, _/_, _%_, _≤_, _<_, min};
 ghost use lib.ListN.{length};
+ghost use Rattle.base.specs.Limits.{widthLimit, bucketsLimit};
 ghost use Rattle.base.specs.Lists.{sumFrom};
-ghost use Rattle.rules_window.specs.Window.{windowed, bucketsOf};
+ghost use Rattle.rules_window.specs.Window.{windowed};
 ghost use Rattle.rules_window.specs.InPlace.{rowsFrom};
 ghost use Rattle.rules_window.specs.Quantile.{column, running, reach, quantileUpto, Placeable, ShortRows};
 use rules_window::Found;
 use rules_window::Quantile;
-
-// The samples of a tenth of a second: how far the buckets reach beyond offset and maximum.
-const TENTH: u32 = 4_800;
-
-// The buckets of a window for these settings.
-pub fn buckets_of(offset: u32, maximum: u32, width: u32) -> usize
-    requires { ⌜ (offset ≤ 96000) × (maximum ≤ 96000) × (1 ≤ width) ⌝ }
-    ensures { λ r. ⌜ r ≡ bucketsOf offset maximum width ⌝ }
-{
-    ((offset + maximum + TENTH) / width) as usize + 2
-}
 
 fn wide(x: u32) -> u64
     ensures { λ r. ⌜ (r ≡ x) × (r ≤ 4294967295) ⌝ }
@@ -35,7 +25,7 @@ struct Tally {
 
 // The n numbers from a on. To add in 32 bits takes half the work of 64 bits, but may wrap: no number is larger than the bits, which bound the sum.
 fn tally_from(s: &[u32], a: usize, n: usize) -> Tally
-    requires { ⌜ (a + n ≤ length (now s)) × (n ≤ 4096) ⌝ }
+    requires { ⌜ (a + n ≤ length (now s)) × (n ≤ bucketsLimit) ⌝ }
     ensures { λ r. ⌜ (r .sum ≡ sumFrom a n (now (s .entry)) % 4294967296) × (sumFrom a n (now (s .entry)) ≤ n * r .bits) ⌝ }
 {
     let mut sum: u32 = 0;
@@ -52,7 +42,7 @@ fn tally_from(s: &[u32], a: usize, n: usize) -> Tally
 
 // The sum of n numbers from a on, in 64 bits.
 fn long_sum(s: &[u32], a: usize, n: usize) -> u64
-    requires { ⌜ (a + n ≤ length (now s)) × (n ≤ 4096) ⌝ }
+    requires { ⌜ (a + n ≤ length (now s)) × (n ≤ bucketsLimit) ⌝ }
     ensures { λ r. ⌜ (r ≡ sumFrom a n (now (s .entry))) × (r ≤ n * 4294967295) ⌝ }
 {
     let mut total: u64 = 0;
@@ -66,7 +56,7 @@ fn long_sum(s: &[u32], a: usize, n: usize) -> u64
 
 // The sum of n numbers from a on. 4,096 numbers below 2^20 have a sum below 2^32, so that the one of 32 bits has not wrapped.
 pub fn sum_from(s: &[u32], a: usize, n: usize) -> u64
-    requires { ⌜ (a + n ≤ length (now s)) × (n ≤ 4096) ⌝ }
+    requires { ⌜ (a + n ≤ length (now s)) × (n ≤ bucketsLimit) ⌝ }
     ensures { λ r. ⌜ (r ≡ sumFrom a n (now (s .entry))) × (r ≤ n * 4294967295) ⌝ }
 {
     let t = tally_from(s, a, n);
@@ -92,7 +82,7 @@ fn short_sum(s: &[u32], a: usize, n: usize) -> u64
 
 // b times the width.
 fn edge(b: usize, width: u32) -> u32
-    requires { ⌜ (b ≤ 4096) × (width ≤ 4800) ⌝ }
+    requires { ⌜ (b ≤ bucketsLimit) × (width ≤ widthLimit) ⌝ }
     ensures { λ r. ⌜ r ≡ b * width ⌝ }
 {
     (b as u32) * width
@@ -124,7 +114,7 @@ fn shown(buckets: usize, width: u32, limit: u32) -> usize
 
 // The lags of k buckets from b on, in the n seconds.
 fn block(counts: &[u32], buckets: usize, b: usize, k: usize, n: usize) -> u64
-    requires { ⌜ (n ≤ 11) × (buckets ≤ 4096) × (b + k ≤ buckets) ⌝ }
+    requires { ⌜ (n ≤ 11) × (buckets ≤ bucketsLimit) × (b + k ≤ buckets) ⌝ }
     requires { ⌜ length (now counts) ≡ 11 * buckets ⌝ }
     requires { ⌜ ShortRows buckets n (now counts) ⌝ }
     ensures { λ r. ⌜ (r ≡ rowsFrom buckets b k n (now (counts .entry))) × (r ≤ 47244640245) ⌝ }
@@ -140,7 +130,7 @@ fn block(counts: &[u32], buckets: usize, b: usize, k: usize, n: usize) -> u64
 
 // The lags in buckets that start at most at limit.
 fn total_upto(n: usize, buckets: usize, width: u32, limit: u32, counts: &[u32]) -> u64
-    requires { ⌜ (n ≤ 11) × (buckets ≤ 4096) × (1 ≤ width) ⌝ }
+    requires { ⌜ (n ≤ 11) × (buckets ≤ bucketsLimit) × (1 ≤ width) ⌝ }
     requires { ⌜ length (now counts) ≡ 11 * buckets ⌝ }
     requires { ⌜ ShortRows buckets n (now counts) ⌝ }
     ensures { λ r. ⌜ r ≡ running limit width buckets n (now (counts .entry)) buckets ⌝ }
@@ -160,7 +150,7 @@ fn reached_from(
     before: u64,
     counts: &[u32],
 ) -> Found
-    requires { ⌜ (n ≤ 11) × (buckets ≤ 4096) × (1 ≤ width) ⌝ }
+    requires { ⌜ (n ≤ 11) × (buckets ≤ bucketsLimit) × (1 ≤ width) ⌝ }
     requires { ⌜ length (now counts) ≡ 11 * buckets ⌝ }
     requires { ⌜ (from ≤ min buckets (limit / width + 1)) × (before ≤ from * 47244640245) × (1 ≤ from → before < target) ⌝ }
     requires { ⌜ before ≡ running limit width buckets n (now counts) from ⌝ }
@@ -182,7 +172,7 @@ fn reached_from(
 // The first bucket where the running count reaches target: blocks of 64 buckets are summed along memory,
 // and only the block that reaches it is walked bucket by bucket.
 fn reached(n: usize, buckets: usize, width: u32, limit: u32, target: u64, counts: &[u32]) -> Found
-    requires { ⌜ (n ≤ 11) × (buckets ≤ 4096) × (1 ≤ width) ⌝ }
+    requires { ⌜ (n ≤ 11) × (buckets ≤ bucketsLimit) × (1 ≤ width) ⌝ }
     requires { ⌜ length (now counts) ≡ 11 * buckets ⌝ }
     requires { ⌜ ShortRows buckets n (now counts) ⌝ }
     ensures { λ r. ⌜ r ≡ reach target limit width buckets n (now (counts .entry)) buckets 0 ⌝ }
@@ -210,7 +200,7 @@ pub fn quantile_upto(
     limit: u32,
     counts: &[u32],
 ) -> Quantile
-    requires { ⌜ (n ≤ 11) × (buckets ≤ 4096) × (1 ≤ width) × (width ≤ 4800) ⌝ }
+    requires { ⌜ (n ≤ 11) × (buckets ≤ bucketsLimit) × (1 ≤ width) × (width ≤ widthLimit) ⌝ }
     requires { ⌜ length (now counts) ≡ 11 * buckets ⌝ }
     requires { ⌜ Placeable q limit (windowed n buckets width [] [] (now counts)) ⌝ }
     requires { ⌜ ShortRows buckets n (now counts) ⌝ }

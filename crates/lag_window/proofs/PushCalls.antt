@@ -6,7 +6,7 @@ use mathlib.Core.List.{List}
 use native.Mathlib.Omega.{arith}
 use lib.ListN.{length, getD}
 use Rattle.base.specs.Lists.{sumFrom, rowSum}
-use Rattle.base.specs.Limits.{timeLimit, windowReach}
+use Rattle.base.specs.Limits.{timeLimit, bucketsLimit, windowReach}
 use Rattle.base.proofs.Points.{sum-at-le}
 use Rattle.lag_window.specs.declared.LagWindow.{LagWindow}
 use Rattle.rules_window.specs.Window.{Window, opens, bucketOf, counted, pushed}
@@ -72,7 +72,7 @@ module _ (time : ℕ) (w : LagWindow) (s t c : List ℕ) (sound : Sound (lent w 
             at-most-row (w2 .buckets) c1 (w2 .seconds - 1) (bucketOf lag (w2 .width) (w2 .buckets)) (bucket-lt lag (w2 .width) (w2 .buckets) some),
           )
 
-      pub count-asks : ((0 < w2 .seconds) × (w2 .seconds ≤ 11)) × (((0 < w2 .width) × (0 < w2 .buckets) × (w2 .buckets ≤ 4096)) × ((length t1 ≡ 11) × ((length c1 ≡ 11 * w2 .buckets) × ((getD t1 (w2 .seconds - 1) 0 < 4294967295) × (getD c1 ((w2 .seconds - 1) * w2 .buckets + bucketOf lag (w2 .width) (w2 .buckets)) 0 < 4294967295)))))
+      pub count-asks : ((0 < w2 .seconds) × (w2 .seconds ≤ 11)) × (((0 < w2 .width) × (0 < w2 .buckets) × (w2 .buckets ≤ bucketsLimit)) × ((length t1 ≡ 11) × ((length c1 ≡ 11 * w2 .buckets) × ((getD t1 (w2 .seconds - 1) 0 < 4294967295) × (getD c1 ((w2 .seconds - 1) * w2 .buckets + bucketOf lag (w2 .width) (w2 .buckets)) 0 < 4294967295)))))
       count-asks = (
         (pos-is, opened-is .few),
         (

@@ -11,7 +11,7 @@ use mir.Val.{Fits}
 use lib.Dec.{leb}
 use lib.ListN.{length, getD, set}
 use Rattle.base.specs.Lists.{shifted}
-use Rattle.base.specs.Limits.{nanos}
+use Rattle.base.specs.Limits.{nanos, bucketsLimit}
 use Rattle.base.proofs.Choices.{by-le}
 use Rattle.base.proofs.Flat.{row-le, flat-lt}
 use Rattle.base.proofs.Toward.{shifted-zero}
@@ -55,10 +55,10 @@ unfolding openedInPlace
 opened-no w time s r e h t c = rw (← e, h)
 
 -- ---- a lag counts
-pub place-fits : (r B : ℕ) → r < 11 → B ≤ 4096 → Fits w64 (r * B)
+pub place-fits : (r B : ℕ) → r < 11 → B ≤ bucketsLimit → Fits w64 (r * B)
 place-fits r B h k = omega (arith, row-le r 11 B (omega arith))
 
-pub place-add-fits : (r B b : ℕ) → r < 11 → B ≤ 4096 → b < B → Fits w64 (r * B + b)
+pub place-add-fits : (r B b : ℕ) → r < 11 → B ≤ bucketsLimit → b < B → Fits w64 (r * B + b)
 place-add-fits r B b h k l = omega (arith, flat-lt r 11 B b h l)
 
 pub place-lt : (r B b : ℕ) → r < 11 → b < B → r * B + b < 11 * B

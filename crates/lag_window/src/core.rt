@@ -5,6 +5,7 @@ ghost use mathlib.Core.List.{List};
 ghost use Prim.Native.Nat.{ℕ, _+_, _-_, _*_, _≤_, _<_};
 ghost use lib.Dec.{eqb};
 ghost use lib.ListN.{length, getD};
+ghost use Rattle.base.specs.Limits.{timeLimit, bucketsLimit};
 ghost use Rattle.base.specs.Lists.{sumFrom};
 ghost use Rattle.rules_window.specs.Window.{cleared, stale, opens, bucketOf, counted, pushed, pushedAll};
 ghost use Rattle.rules_window.specs.WholeWindow.{summed, wholeWindow, Shaped, Sound};
@@ -111,7 +112,7 @@ fn bucket(lag: u32, width: u32, buckets: usize) -> usize
 // Where a lag counts: its bucket in row r.
 fn place(r: usize, lag: u32, width: u32, buckets: usize) -> usize
     requires { ⌜ (r < 11) × (0 < width) ⌝ }
-    requires { ⌜ (0 < buckets) × (buckets ≤ 4096) ⌝ }
+    requires { ⌜ (0 < buckets) × (buckets ≤ bucketsLimit) ⌝ }
     ensures { λ p. ⌜ (p ≡ r * buckets + bucketOf lag width buckets) × (p < 11 * buckets) ⌝ }
 {
     let b = bucket(lag, width, buckets);
@@ -121,7 +122,7 @@ fn place(r: usize, lag: u32, width: u32, buckets: usize) -> usize
 // The lag counts in its bucket of the newest second.
 fn count(window: LagWindow, lag: u32, totals: &mut [u64], counts: &mut [u32])
     requires { ⌜ (0 < window .seconds) × (window .seconds ≤ 11) ⌝ }
-    requires { ⌜ (0 < window .width) × (0 < window .buckets) × (window .buckets ≤ 4096) ⌝ }
+    requires { ⌜ (0 < window .width) × (0 < window .buckets) × (window .buckets ≤ bucketsLimit) ⌝ }
     requires { ⌜ length (now totals) ≡ 11 ⌝ }
     requires { ⌜ length (now counts) ≡ 11 * window .buckets ⌝ }
     requires { ⌜ (getD (now totals) (window .seconds - 1) 0 < 4294967295) × (getD (now counts) ((window .seconds - 1) * window .buckets + bucketOf lag (window .width) (window .buckets)) 0 < 4294967295) ⌝ }
@@ -145,7 +146,7 @@ pub fn push(
     counts: &mut [u32],
 ) -> LagWindow
     requires { ⌜ Sound (lent window (now starts) (now totals) (now counts)) ⌝ }
-    requires { ⌜ time ≤ 4000000000000000000 ⌝ }
+    requires { ⌜ time ≤ timeLimit ⌝ }
     requires { ⌜ newest time (lent window (now starts) (now totals) (now counts)) < 4294967295 ⌝ }
     ensures { λ r. ⌜ lent r (now (starts .exit)) (now (totals .exit)) (now (counts .exit)) ≡ pushed lag time (lent window (now (starts .entry)) (now (totals .entry)) (now (counts .entry))) ⌝ }
 {
@@ -165,7 +166,7 @@ pub fn push_all(
     counts: &mut [u32],
 ) -> LagWindow
     requires { ⌜ Sound (lent window (now starts) (now totals) (now counts)) ⌝ }
-    requires { ⌜ time ≤ 4000000000000000000 ⌝ }
+    requires { ⌜ time ≤ timeLimit ⌝ }
     requires { ⌜ roomFor time (length (now lags)) (lent window (now starts) (now totals) (now counts)) ≡ true ⌝ }
     ensures { λ r. ⌜ lent r (now (starts .exit)) (now (totals .exit)) (now (counts .exit)) ≡ pushedAll time (now (lags .entry)) (lent window (now (starts .entry)) (now (totals .entry)) (now (counts .entry))) ⌝ }
 {
@@ -205,7 +206,7 @@ pub fn room(n: usize, time: u64, lags: usize, starts: &[u64], totals: &[u64]) ->
 // ---- whether a window is whole (check 6)
 // Whether the n counts from a on have the sum total. Where it is 0 all must be zero, as in each unused row, and nothing is added.
 fn row_sums(total: u64, counts: &[u32], a: usize, n: usize) -> bool
-    requires { ⌜ (a + n ≤ length (now counts)) × (n ≤ 4096) ⌝ }
+    requires { ⌜ (a + n ≤ length (now counts)) × (n ≤ bucketsLimit) ⌝ }
     ensures { λ r. ⌜ r ≡ eqb (sumFrom a n (now (counts .entry))) total ⌝ }
 {
     if total == 0 {
@@ -217,7 +218,7 @@ fn row_sums(total: u64, counts: &[u32], a: usize, n: usize) -> bool
 
 // Row sums equal to totals up to 4,294,967,295, in all 11 rows.
 fn summed(buckets: usize, totals: &[u64], counts: &[u32]) -> bool
-    requires { ⌜ buckets ≤ 4096 ⌝ }
+    requires { ⌜ buckets ≤ bucketsLimit ⌝ }
     requires { ⌜ length (now totals) ≡ 11 ⌝ }
     requires { ⌜ length (now counts) ≡ 11 * buckets ⌝ }
     ensures { λ r. ⌜ r ≡ summed 11 buckets (now (totals .entry)) (now (counts .entry)) ⌝ }

@@ -38,7 +38,7 @@ impl LagWindow {
     // The most lags that one second counts (check 11).
     pub(crate) const MOST: u64 = 4_294_967_295;
 
-    // The checks of `new`, 2 and 5: the number of the first that says no, or 0.
+    // The checks of `new`, 2, 17, 18 and 5: the number of the first that says no, or 0.
     fn new_number(
         offset: u32,
         maximum: u32,
@@ -49,21 +49,9 @@ impl LagWindow {
     ) -> u32
         ensures { λ r. ⌜ r ≡ newNumber offset maximum width starts totals counts ⌝ }
     {
-        if base::SAMPLES_LIMIT < offset {
-            return 2;
-        }
-        if base::SAMPLES_LIMIT < maximum {
-            return 2;
-        }
-        if width < 1 {
-            return 2;
-        }
-        if base::WIDTH_LIMIT < width {
-            return 2;
-        }
-        let buckets = lag_rows::core::buckets_of(offset, maximum, width);
-        if base::BUCKETS_LIMIT < buckets {
-            return 2;
+        let number = buckets::ranges_number(offset, maximum, width);
+        if number != 0 {
+            return number;
         }
         if starts != LagWindow::SECONDS {
             return 5;
@@ -71,7 +59,7 @@ impl LagWindow {
         if totals != LagWindow::SECONDS {
             return 5;
         }
-        if counts != LagWindow::SECONDS * buckets {
+        if counts != LagWindow::SECONDS * buckets::core::buckets_of(offset, maximum, width) {
             return 5;
         }
         0
@@ -106,7 +94,7 @@ impl LagWindow {
                 },
             };
         }
-        let buckets = lag_rows::core::buckets_of(offset, maximum, width);
+        let buckets = buckets::core::buckets_of(offset, maximum, width);
         let made = LagWindow {
             seconds: 0,
             buckets,
@@ -116,21 +104,15 @@ impl LagWindow {
         WindowAnswer { number, window }
     }
 
-    // The checks that every call on a window makes: 2, 5 and 6.
+    // The checks that every call on a window makes: 17, 18, 5 and 6.
     fn number(self, starts: &[u64], totals: &[u64], counts: &[u32]) -> u32
         ensures { λ r. ⌜ r ≡ checked (lent self (now (starts .entry)) (now (totals .entry)) (now (counts .entry))) 0 ⌝ }
     {
-        if self.width < 1 {
-            return 2;
+        if !buckets::width_allowed(self.width) {
+            return 17;
         }
-        if base::WIDTH_LIMIT < self.width {
-            return 2;
-        }
-        if self.buckets < 2 {
-            return 2;
-        }
-        if base::BUCKETS_LIMIT < self.buckets {
-            return 2;
+        if !buckets::buckets_allowed(self.buckets) {
+            return 18;
         }
         if starts.len() != LagWindow::SECONDS {
             return 5;

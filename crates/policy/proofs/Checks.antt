@@ -9,22 +9,24 @@ use Rattle.base.specs.Choice.{accepted}
 use Rattle.base.specs.Limits.{nanos, spanLimit}
 use Rattle.base.proofs.Choices.{yes-ask, no-ask}
 use Rattle.base.proofs.Points.{both-true}
+use Rattle.buckets.specs.Ranges.{reachesAllowed}
+use Rattle.buckets.proofs.Told.{reaches-told}
 use Rattle.doubles.proofs.Values.{is}
 use Rattle.policy.specs.declared.DelayPolicy.{DelayPolicy}
 use Rattle.policy.specs.declared.Need.the-variants.{Of, Refused}
 use Rattle.policy.specs.declared.Share.{Share}
 use Rattle.policy.specs.declared.Share.the-variants as Share
-use Rattle.policy.specs.Settings.{reachesAllowed, timesAllowed, marginsAllowed, Sound, percentAllowed, shareOfPercent, shareNumber, shareAnswer, shareReply, shareNumberOf, shareValueOf}
+use Rattle.policy.specs.Settings.{timesAllowed, marginsAllowed, Sound, percentAllowed, shareOfPercent, shareNumber, shareAnswer, shareReply, shareNumberOf, shareValueOf}
 use Rattle.policy.specs.Need.{needOf, needNumber, needAnswer, needReply, numberOf, valueOf}
 
 -- checks 2 and 4 make a policy sound
-pub allowed-sound : (p : DelayPolicy) → reachesAllowed p ≡ true → marginsAllowed p ≡ true → Sound p
-unfolding reachesAllowed marginsAllowed
+pub allowed-sound : (p : DelayPolicy) → reachesAllowed (p .«read_offset») (p .«delay_max») ≡ true → marginsAllowed p ≡ true → Sound p
+unfolding marginsAllowed
 allowed-sound p a b =
-    let r = both-true _ _ a in
+    let r = reaches-told _ _ a in
     let m = both-true _ _ b in
     let s = both-true _ _ (m .1) in
-    record { offset = leb-true _ _ (r .0); maximum = leb-true _ _ (r .1); margins = leb-true _ _ (m .0); low = is (s .0); high = is (s .1) }
+    record { offset = r .0; maximum = r .1; margins = leb-true _ _ (m .0); low = is (s .0); high = is (s .1) }
 
 -- what check 3 says of a policy
 pub allowed-times : (p : DelayPolicy) → timesAllowed p ≡ true → (p .hold ≤ spanLimit) × (nanos ≤ p .window) × (p .window ≤ spanLimit)
@@ -40,15 +42,15 @@ module _ (p : DelayPolicy) (lag : ℕ) where
   unfolding needReply
   reply-by e = ap (λ (n : ℕ). needAnswer n (needOf p lag)) (sym e)
 
-  pub refused-two : reachesAllowed p ≡ false → Refused 2 ≡ needReply p lag
+  pub refused-two : reachesAllowed (p .«read_offset») (p .«delay_max») ≡ false → Refused 2 ≡ needReply p lag
   unfolding needNumber
   refused-two a = reply-by {n = 2} (no-ask 2 _ a)
 
-  pub refused-four : reachesAllowed p ≡ true → marginsAllowed p ≡ false → Refused 4 ≡ needReply p lag
+  pub refused-four : reachesAllowed (p .«read_offset») (p .«delay_max») ≡ true → marginsAllowed p ≡ false → Refused 4 ≡ needReply p lag
   unfolding needNumber
   refused-four a b = reply-by {n = 4} (yes-ask 2 _ a ∙ no-ask 4 _ b)
 
-  pub answered : reachesAllowed p ≡ true → marginsAllowed p ≡ true → {r : ℕ} → r ≡ needOf p lag → Of r ≡ needReply p lag
+  pub answered : reachesAllowed (p .«read_offset») (p .«delay_max») ≡ true → marginsAllowed p ≡ true → {r : ℕ} → r ≡ needOf p lag → Of r ≡ needReply p lag
   unfolding needNumber
   answered a b e = ap Of e ∙ reply-by {n = 0} (yes-ask 2 _ a ∙ yes-ask 4 _ b)
 

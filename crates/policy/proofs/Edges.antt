@@ -6,9 +6,10 @@ use mathlib.Core.List.{List, [], _∷_}
 use lib.IntN.{pos, negsuc}
 use lib.Ieee.{Float, nan, fin, binary64, round, div, le}
 use Rattle.base.specs.Choice.{both, ask}
+use Rattle.buckets.specs.Ranges.{reachesAllowed}
 use Rattle.policy.specs.declared.DelayPolicy.{DelayPolicy}
 use Rattle.policy.specs.declared.Share.the-variants.{Of, Refused}
-use Rattle.policy.specs.Settings.{reachesAllowed, timesAllowed, marginsAllowed, percentAllowed, shareOfPercent, shareNumber, shareReply}
+use Rattle.policy.specs.Settings.{timesAllowed, marginsAllowed, percentAllowed, shareOfPercent, shareNumber, shareReply}
 use Rattle.policy.specs.Need.{needNumber}
 
 -- 4: "percent 0 to 1,000 and no NaN": the doubles next to 0 and 1,000 on the outer side are not

@@ -2,11 +2,12 @@
 use Prim.Native.Nat.{ℕ, zero, suc, _+_, _-_, min}
 use lib.Ieee.{binary64, mul}
 use Rattle.base.specs.Choice.{ask}
+use Rattle.buckets.specs.Ranges.{reachesAllowed}
 use Rattle.doubles.specs.Doubles.{double, halfAway}
 use Rattle.policy.specs.declared.DelayPolicy.{DelayPolicy}
 use Rattle.policy.specs.declared.Need.{Need}
 use Rattle.policy.specs.declared.Need.the-variants.{Of, Refused}
-use Rattle.policy.specs.Settings.{reachesAllowed, marginsAllowed}
+use Rattle.policy.specs.Settings.{marginsAllowed}
 
 -- "above times share, rounded as before": the product as a double, rounded once, then to a whole number with halves away from zero
 unfoldable pub shareOf : (p : DelayPolicy) (above : ℕ) → ℕ
@@ -19,7 +20,7 @@ needOf p lag = let above = lag - p .«read_offset» in min (p .«delay_max») (a
 
 -- the first check that says no, or 0
 unfoldable pub needNumber : DelayPolicy → ℕ
-needNumber p = ask 2 (reachesAllowed p) (ask 4 (marginsAllowed p) 0)
+needNumber p = ask 2 (reachesAllowed (p .«read_offset») (p .«delay_max»)) (ask 4 (marginsAllowed p) 0)
 
 -- the answer for a number and a value
 abbrev pub needAnswer : ℕ → (value : ℕ) → Need

@@ -1,4 +1,4 @@
--- Document 01's checks 2, 3 and 4, as far as they read a policy, and a percent as a share. Assumes nothing.
+-- Document 01's checks 3 and 4, as far as they read a policy, and a percent as a share. Assumes nothing.
 use Prim.Native.Nat.{ℕ, zero, suc, _≤_}
 use mathlib.Core.Bool.{Bool, false}
 use lib.Dec.{T, leb}
@@ -10,10 +10,6 @@ use Rattle.doubles.specs.Doubles.{thousand}
 use Rattle.policy.specs.declared.DelayPolicy.{DelayPolicy}
 use Rattle.policy.specs.declared.Share.{Share}
 use Rattle.policy.specs.declared.Share.the-variants.{Of, Refused}
-
--- 2: "Are offset and maximum at most 96,000"
-unfoldable pub reachesAllowed : DelayPolicy → Bool
-reachesAllowed p = both (leb (p .«read_offset») samplesLimit) (leb (p .«delay_max») samplesLimit)
 
 -- 3: "Are hold and stall at most 600 s, window 1 to 600 s" (a policy has no stall)
 unfoldable pub timesAllowed : DelayPolicy → Bool

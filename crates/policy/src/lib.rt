@@ -1,7 +1,7 @@
 // The settings of the automatic delay, in samples and nanoseconds, and the delay that covers a lag (document 01, "Need").
 ghost use mathlib.Core.Path.{_≡_};
 ghost use Rattle.policy.specs.Need.{needReply};
-ghost use Rattle.policy.specs.Settings.{reachesAllowed, timesAllowed, marginsAllowed, shareReply};
+ghost use Rattle.policy.specs.Settings.{timesAllowed, marginsAllowed, shareReply};
 
 // Functions that ask something of their caller; the crates above use them after their checks.
 pub mod core;
@@ -33,16 +33,6 @@ pub enum Share {
 }
 
 impl DelayPolicy {
-    // Offset and maximum are at most 96,000 (check 2).
-    pub fn reaches_allowed(self) -> bool
-        ensures { λ r. ⌜ r ≡ reachesAllowed self ⌝ }
-    {
-        if self.read_offset > base::SAMPLES_LIMIT {
-            return false;
-        }
-        self.delay_max <= base::SAMPLES_LIMIT
-    }
-
     // Hold is at most 600 s, and window 1 to 600 s (check 3).
     pub fn times_allowed(self) -> bool
         ensures { λ r. ⌜ r ≡ timesAllowed self ⌝ }
@@ -73,7 +63,7 @@ impl DelayPolicy {
     pub fn need_of(self, lag: u32) -> Need
         ensures { λ r. ⌜ r ≡ needReply self lag ⌝ }
     {
-        if !self.reaches_allowed() {
+        if !buckets::reaches_allowed(self.read_offset, self.delay_max) {
             return Need::Refused(2);
         }
         if !self.margins_allowed() {

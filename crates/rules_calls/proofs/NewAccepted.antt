@@ -50,12 +50,12 @@ pub record Fit (settings : Settings) (bytes delays : ℕ) (l : Lists) (words : �
 
 module _ (settings : Settings) (l : Lists) (words : ℕ) where
   pub fit-of : (bytes delays rest : ℕ) → settingsNumber settings bytes delays l words rest ≡ 0 → Fit settings bytes delays l words × (rest ≡ 0)
-  unfolding marginFits
+  unfolding marginFits policyOf
   fit-of bytes delays rest h =
       let a = settings-asked settings bytes delays l words rest h in
       let m = both-true _ _ (a .3) in (
         record {
-          allowed = allowed-of _ _ _ _ (a .0) (a .1) (a .2) (shared-margins settings (leb-true _ _ (m .0)) (m .1));
+          allowed = allowed-of (settings .count) (policyOf settings) (settings .width) (settings .stall) (a .0) (a .1) (a .2) (shared-margins settings (leb-true _ _ (m .0)) (m .1));
           long = long-of _ _ l (a .4);
           commands-long = eqb-true _ _ (a .5);
           bytes-long = eqb-true _ _ (a .6);

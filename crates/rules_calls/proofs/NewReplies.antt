@@ -9,20 +9,21 @@ use lib.ListN.{length, replicate, length-replicate}
 use lib.Seq.{sets}
 use borrow.Author.Tests.{leb-true, not-false}
 use Rattle.base.specs.Choice.{ask}
-use Rattle.base.specs.Limits.{timeLimit, samplesLimit}
+use Rattle.base.specs.Limits.{timeLimit, bucketsLimit}
 use Rattle.base.proofs.All.{told-no, told-yes}
 use Rattle.base.proofs.Choices.{yes-ask, no-ask}
 use Rattle.base.proofs.Points.{both-true}
 use Rattle.base.proofs.Words.{laid}
+use Rattle.buckets.specs.Ranges.{bucketsOf, rangesNumber, Ranged}
+use Rattle.buckets.proofs.Told.{ranges-passed, ranges-stop}
 use Rattle.policy.specs.declared.DelayPolicy.{DelayPolicy}
-use Rattle.policy.specs.Settings.{reachesAllowed}
 use Rattle.rules_record.specs.declared.ExtraDelay.{ExtraDelay}
 use Rattle.rules_record.specs.declared.Inputs.{Inputs}
 use Rattle.rules_record.specs.declared.Sent.{Sent}
 use Rattle.rules_record.specs.Commands.{Did}
 use Rattle.rules_record.specs.declared.Commands.the-variants.{Words}
-use Rattle.rules_record.specs.Lent.{Lists, bucketsIn, bucketsFor}
-use Rattle.rules_record.specs.Checks.{inputsAllowed, bucketsAllowed, pausesAllowed, listsFit, commandsFit}
+use Rattle.rules_record.specs.Lent.{Lists, bucketsIn}
+use Rattle.rules_record.specs.Checks.{inputsAllowed, pausesAllowed, listsFit, commandsFit}
 use Rattle.rules_record.specs.Effects.{beside}
 use Rattle.rules_record.specs.Reply.{Reply}
 use Rattle.rules_record.proofs.Replies.{reply-refused, reply-accepted}
@@ -41,63 +42,50 @@ module _ (settings : Settings) (bytes delays : ℕ) (l : Lists) (words : ℕ) wh
   unfolding settingsNumber
   refused-one h = sym (no-ask 1 _ h)
 
-  module _ (one : inputsAllowed (settings .count) ≡ true) {policy : DelayPolicy} (is-policy : policy ≡ policyOf settings) where
-    two-is : {b : Bool} → bucketsAllowed policy (settings .width) ≡ b → bucketsAllowed (policyOf settings) (settings .width) ≡ b
-    two-is h = ap (λ (p : DelayPolicy). bucketsAllowed p (settings .width)) (sym is-policy) ∙ h
-
-    three-is : {b : Bool} → pausesAllowed policy (settings .stall) ≡ b → pausesAllowed (policyOf settings) (settings .stall) ≡ b
-    three-is h = ap (λ (p : DelayPolicy). pausesAllowed p (settings .stall)) (sym is-policy) ∙ h
-
-    pub refused-two : bucketsAllowed policy (settings .width) ≡ false → 2 ≡ settingsNumber settings bytes delays l words 0
+  module _ (one : inputsAllowed (settings .count) ≡ true) where
+    -- the number of 2, 17 and 18
+    pub refused-ranges : {n : ℕ} → n ≡ rangesNumber (settings .«read_offset») (settings .«delay_max») (settings .width) 0 → (n ≡ 0 → ⊥) → n ≡ settingsNumber settings bytes delays l words 0
     unfolding settingsNumber
-    refused-two h = sym (yes-ask 1 _ one ∙ no-ask 2 _ (two-is h))
+    refused-ranges e h = sym (yes-ask 1 _ one ∙ ranges-stop _ _ _ e h _)
 
-    module _ (two : bucketsAllowed policy (settings .width) ≡ true) where
+    module _ (ranged : Ranged (settings .«read_offset») (settings .«delay_max») (settings .width)) {policy : DelayPolicy} (is-policy : policy ≡ policyOf settings) where
+      three-is : {b : Bool} → pausesAllowed policy (settings .stall) ≡ b → pausesAllowed (policyOf settings) (settings .stall) ≡ b
+      three-is h = ap (λ (p : DelayPolicy). pausesAllowed p (settings .stall)) (sym is-policy) ∙ h
+
       pub refused-three : pausesAllowed policy (settings .stall) ≡ false → 3 ≡ settingsNumber settings bytes delays l words 0
       unfolding settingsNumber
-      refused-three h = sym (yes-ask 1 _ one ∙ yes-ask 2 _ (two-is two) ∙ no-ask 3 _ (three-is h))
+      refused-three h = sym (yes-ask 1 _ one ∙ ranges-passed _ _ _ ranged _ ∙ no-ask 3 _ (three-is h))
 
       module _ (three : pausesAllowed policy (settings .stall) ≡ true) where
         pub refused-four : marginFits settings ≡ false → 4 ≡ settingsNumber settings bytes delays l words 0
         unfolding settingsNumber
-        refused-four h = sym (yes-ask 1 _ one ∙ yes-ask 2 _ (two-is two) ∙ yes-ask 3 _ (three-is three) ∙ no-ask 4 _ h)
-
-        pub buckets-asked : (policy .«read_offset» ≤ samplesLimit) × (policy .«delay_max» ≤ samplesLimit) × (1 ≤ settings .width)
-        unfolding bucketsAllowed reachesAllowed
-        buckets-asked =
-            let t = both-true _ _ two in
-            let r = both-true _ _ (t .0) in
-            (leb-true _ _ (r .0), leb-true _ _ (r .1), leb-true _ _ (both-true _ _ (t .1) .0))
+        refused-four h = sym (yes-ask 1 _ one ∙ ranges-passed _ _ _ ranged _ ∙ yes-ask 3 _ (three-is three) ∙ no-ask 4 _ h)
 
         pub count-asked : settings .count ≤ 16
         unfolding inputsAllowed
         count-asked = leb-true _ _ (both-true _ _ one .1)
 
-        module _ (four : marginFits settings ≡ true) {buckets : ℕ} (is-buckets : buckets ≡ bucketsFor policy (settings .width)) where
-          pub lists-asked : (settings .count ≤ 16) × (buckets ≤ 4096)
-          unfolding bucketsAllowed
-          lists-asked = (count-asked, rw is-buckets (leb-true _ _ (both-true _ _ (both-true _ _ (both-true _ _ two .1) .1) .1)))
+        module _ (four : marginFits settings ≡ true) {buckets : ℕ} (is-buckets : buckets ≡ bucketsOf (settings .«read_offset») (settings .«delay_max») (settings .width)) where
+          pub lists-asked : (settings .count ≤ 16) × (buckets ≤ bucketsLimit)
+          lists-asked = (count-asked, rw is-buckets (ranged .buckets-most))
 
           five-is : {b : Bool} → listsFit (settings .count) buckets l ≡ b → listsFit (settings .count) (bucketsIn (blankFor settings)) l ≡ b
-          unfolding bucketsIn blankFor blank
-          five-is h =
-              ap (λ (p : DelayPolicy). listsFit (settings .count) (bucketsFor p (settings .width)) l) (sym is-policy)
-              ∙ ap (λ (n : ℕ). listsFit (settings .count) n l) (sym is-buckets)
-              ∙ h
+          unfolding bucketsIn blankFor blank policyOf
+          five-is h = ap (λ (n : ℕ). listsFit (settings .count) n l) (sym is-buckets) ∙ h
 
           pub refused-lists : listsFit (settings .count) buckets l ≡ false → 5 ≡ settingsNumber settings bytes delays l words 0
           unfolding settingsNumber
-          refused-lists h = sym (yes-ask 1 _ one ∙ yes-ask 2 _ (two-is two) ∙ yes-ask 3 _ (three-is three) ∙ yes-ask 4 _ four ∙ no-ask 5 _ (five-is h))
+          refused-lists h = sym (yes-ask 1 _ one ∙ ranges-passed _ _ _ ranged _ ∙ yes-ask 3 _ (three-is three) ∙ yes-ask 4 _ four ∙ no-ask 5 _ (five-is h))
 
           module _ (five : listsFit (settings .count) buckets l ≡ true) where
             pub refused-words : commandsFit (settings .count) (Words words) ≡ false → 5 ≡ settingsNumber settings bytes delays l words 0
             unfolding settingsNumber
-            refused-words h = sym (yes-ask 1 _ one ∙ yes-ask 2 _ (two-is two) ∙ yes-ask 3 _ (three-is three) ∙ yes-ask 4 _ four ∙ yes-ask 5 _ (five-is five) ∙ no-ask 5 _ h)
+            refused-words h = sym (yes-ask 1 _ one ∙ ranges-passed _ _ _ ranged _ ∙ yes-ask 3 _ (three-is three) ∙ yes-ask 4 _ four ∙ yes-ask 5 _ (five-is five) ∙ no-ask 5 _ h)
 
             module _ (fit : commandsFit (settings .count) (Words words) ≡ true) where
               passed-words : (rest : ℕ) → settingsNumber settings bytes delays l words rest ≡ ask 5 (eqb bytes (delays * 16)) rest
               unfolding settingsNumber
-              passed-words rest = yes-ask 1 _ one ∙ yes-ask 2 _ (two-is two) ∙ yes-ask 3 _ (three-is three) ∙ yes-ask 4 _ four ∙ yes-ask 5 _ (five-is five) ∙ yes-ask 5 _ fit
+              passed-words rest = yes-ask 1 _ one ∙ ranges-passed _ _ _ ranged _ ∙ yes-ask 3 _ (three-is three) ∙ yes-ask 4 _ four ∙ yes-ask 5 _ (five-is five) ∙ yes-ask 5 _ fit
 
               pub refused-bytes : eqb bytes (delays * 16) ≡ false → 5 ≡ settingsNumber settings bytes delays l words 0
               refused-bytes h = sym (passed-words 0 ∙ no-ask 5 _ h)

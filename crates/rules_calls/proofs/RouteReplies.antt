@@ -1,5 +1,5 @@
 -- What `route` leaves, case by case, as the code goes. Assumes nothing.
-use Prim.Native.Nat.{ℕ, _+_, _*_, _<_, _≤_, _^_, zero-le}
+use Prim.Native.Nat.{ℕ, _+_, _*_, _<_, _≤_, zero-le}
 use mathlib.Core.Bool.{Bool, true, false}
 use mathlib.Core.Path.{_≡_, refl, sym, ap, subst, _∙_}
 use mathlib.Core.List.{List, [], _++_, append-assoc}
@@ -119,7 +119,7 @@ module _ (s : Inputs) (l : Lists) (commands : List ℕ) (input : ℕ) (wanted : 
         few-changed : changed .reopens < counterLimit
         few-changed = subst (λ (k : ℕ). k < counterLimit) (sym (ap (λ (x : Slot). x .reopens) is-changed ∙ routed-reopens new time slot)) few-here
 
-        pub open-asked : (used + 6 ≤ length between) × (input < 16) × (slotAt all input .reopens < 2 ^ 63)
+        pub open-asked : (used + 6 ≤ length between) × (input < 16) × (slotAt all input .reopens < counterLimit)
         unfolding cleared
         open-asked = (
           omega (arith, room, between-long, wrote .0, wrote .2),

@@ -6,8 +6,6 @@ use borrow.Author.Tests.{eq-eqb, ne-eqb}
 use lib.Dec.{leb}
 use Rattle.base.proofs.Choices.{refused-old, accepted-new}
 use Rattle.base.proofs.All.{both-yes, both-no}
-use Rattle.delay_hold.specs.declared.Moment.{Moment}
-use Rattle.delay_hold.specs.declared.Moment.the-variants.{At}
 use Rattle.delay_hold.specs.Steps5To8.{heldSince}
 use Rattle.rules_record.specs.declared.Slot.{Slot}
 use Rattle.rules_record.specs.States.{stateNumber}
@@ -55,8 +53,3 @@ module _ {slot other : Slot} (is-slot : other ≡ slot) {code : ℕ} (is-code : 
   pub settled-running : code ≡ 2 → (hold time : ℕ) {rested : Bool} → rested ≡ heldSince (slot .«last_set») hold time → rested ≡ settledSlot slot hold time
   unfolding settledSlot
   settled-running h hold time e = both-yes _ _ _ (eq-eqb _ _ (sym state-is ∙ h)) e
-
--- ---- the last SetDelay
-
-pub rested-since : (hold time : ℕ) {moment : Moment} {set age : ℕ} → moment ≡ At set → age ≡ time - set → leb hold age ≡ heldSince moment hold time
-rested-since hold time e is-age = ap (leb hold) is-age ∙ sym (ap (λ (x : Moment). heldSince x hold time) e)

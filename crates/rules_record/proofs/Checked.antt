@@ -6,35 +6,34 @@ use denote.Floats.{is-true}
 use borrow.Author.Tests.{leb-true, eqb-true, le-leb, eq-eqb}
 use Rattle.base.proofs.Choices.{yes-ask, asked, same-refusal}
 use Rattle.base.proofs.Points.{both-true, true-both}
+use Rattle.buckets.specs.Ranges.{Ranged}
+use Rattle.buckets.proofs.Told.{reaches-yes, ranges-told, ranges-passed, same-ranges}
 use Rattle.policy.specs.declared.DelayPolicy.{DelayPolicy}
-use Rattle.policy.specs.Settings.{reachesAllowed, timesAllowed, marginsAllowed}
+use Rattle.policy.specs.Settings.{timesAllowed, marginsAllowed}
 use Rattle.policy.proofs.Checks.{allowed-sound, allowed-times}
 use Rattle.rules_record.specs.declared.Inputs.{Inputs}
 use Rattle.rules_record.specs.Sized.{Sized}
 use Rattle.rules_record.specs.declared.Commands.{Commands}
 use Rattle.rules_record.specs.Lent.{Lists, bucketsIn}
-use Rattle.rules_record.specs.Checks.{inputsAllowed, bucketsAllowed, pausesAllowed, listsFit, commandsFit, recordNumber, Allowed, Long}
+use Rattle.rules_record.specs.Checks.{inputsAllowed, pausesAllowed, listsFit, commandsFit, recordNumber, Allowed, Long}
 use Rattle.rules_record.specs.Facts.{Whole, Checked}
 use Rattle.rules_record.proofs.Facts.{whole-of, of-whole}
 
 -- ---- 1 to 4
 module _ (n : ℕ) (policy : DelayPolicy) (width stall : ℕ) where
-  pub allowed-of : inputsAllowed n ≡ true → bucketsAllowed policy width ≡ true → pausesAllowed policy stall ≡ true → marginsAllowed policy ≡ true → Allowed n policy width stall
-  unfolding inputsAllowed bucketsAllowed pausesAllowed
-  allowed-of one two three four =
+  pub allowed-of : inputsAllowed n ≡ true → Ranged (policy .«read_offset») (policy .«delay_max») width → pausesAllowed policy stall ≡ true → marginsAllowed policy ≡ true → Allowed n policy width stall
+  unfolding inputsAllowed pausesAllowed
+  allowed-of one ranged three four =
       let a = both-true _ _ one in
-      let b = both-true _ _ two in
-      let b2 = both-true _ _ (b .1) in
-      let b3 = both-true _ _ (b2 .1) in
       let c = both-true _ _ three in
       let times = allowed-times policy (c .0) in
       record {
         least = leb-true _ _ (a .0);
         most = leb-true _ _ (a .1);
-        sound = allowed-sound policy (b .0) four;
-        width-least = leb-true _ _ (b2 .0);
-        width-most = leb-true _ _ (b3 .0);
-        buckets-most = leb-true _ _ (b3 .1);
+        sound = allowed-sound policy (reaches-yes _ _ (ranged .offset-most) (ranged .maximum-most)) four;
+        width-least = ranged .width-least;
+        width-most = ranged .width-most;
+        buckets-most = ranged .buckets-most;
         hold-most = times .0;
         window-least = times .1;
         window-most = times .2;
@@ -46,11 +45,15 @@ module _ (n : ℕ) (policy : DelayPolicy) (width stall : ℕ) where
     unfolding inputsAllowed
     one-yes = true-both _ _ (le-leb _ _ (f .least)) (le-leb _ _ (f .most))
 
-    pub two-yes : bucketsAllowed policy width ≡ true
-    unfolding bucketsAllowed reachesAllowed
-    two-yes =
-        true-both _ _ (true-both _ _ (le-leb _ _ (f .sound .offset)) (le-leb _ _ (f .sound .maximum)))
-        (true-both _ _ (le-leb _ _ (f .width-least)) (true-both _ _ (le-leb _ _ (f .width-most)) (le-leb _ _ (f .buckets-most))))
+    ranged-of : Ranged (policy .«read_offset») (policy .«delay_max») width
+    ranged-of =
+        record {
+          offset-most = f .sound .offset;
+          maximum-most = f .sound .maximum;
+          width-least = f .width-least;
+          width-most = f .width-most;
+          buckets-most = f .buckets-most;
+        }
 
     pub three-yes : pausesAllowed policy stall ≡ true
     unfolding pausesAllowed timesAllowed
@@ -102,13 +105,13 @@ module _ (s : Inputs) (l : Lists) (commands : Commands) where
   unfolding recordNumber
   settings-told rest h =
       let one = asked 0 _ _ h in
-      let two = asked 1 _ _ (one .1) in
-      let three = asked 2 _ _ (two .1) in
+      let ranges = ranges-told _ _ _ _ (one .1) in
+      let three = asked 2 _ _ (ranges .1) in
       let four = asked 3 _ _ (three .1) in
       let five = asked 4 _ _ (four .1) in
       let also-five = asked 4 _ _ (five .1) in
       let six = asked 5 _ _ (also-five .1) in
-      let allowed = allowed-of _ _ _ _ (one .0) (two .0) (three .0) (four .0) in
+      let allowed = allowed-of _ _ _ _ (one .0) (ranges .0) (three .0) (four .0) in
       (record { allowed = allowed; long = long-of _ _ l (five .0); commands-fit = also-five .0; whole = whole-of s l (allowed .most) (six .0) }, six .1)
 
   -- where they let it through, the number is that of the checks after them
@@ -116,7 +119,7 @@ module _ (s : Inputs) (l : Lists) (commands : Commands) where
   unfolding recordNumber
   passed-number p rest =
       yes-ask 1 _ (one-yes _ _ _ _ (p .allowed))
-      ∙ yes-ask 2 _ (two-yes _ _ _ _ (p .allowed))
+      ∙ ranges-passed _ _ _ (ranged-of _ _ _ _ (p .allowed)) _
       ∙ yes-ask 3 _ (three-yes _ _ _ _ (p .allowed))
       ∙ yes-ask 4 _ (four-yes _ _ _ _ (p .allowed))
       ∙ yes-ask 5 _ (five-yes _ _ _ (p .long))
@@ -141,4 +144,4 @@ module _ (s : Inputs) (l : Lists) (commands : Commands) where
 
   pub number-refused : (recordNumber s l commands 0 ≡ 0 → ⊥) → (rest : ℕ) → recordNumber s l commands rest ≡ recordNumber s l commands 0
   unfolding recordNumber
-  number-refused h rest = same-refusal 1 _ (same-refusal 2 _ (same-refusal 3 _ (same-refusal 4 _ (same-refusal 5 _ (same-refusal 5 _ (same-refusal 6 _ (λ none. absurd (none refl)))))))) h
+  number-refused h rest = same-refusal 1 _ (same-ranges _ _ _ (same-refusal 3 _ (same-refusal 4 _ (same-refusal 5 _ (same-refusal 5 _ (same-refusal 6 _ (λ none. absurd (none refl)))))))) h

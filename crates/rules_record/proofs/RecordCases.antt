@@ -11,14 +11,14 @@ use lib.Dec.{eqb, leb, ltb}
 use lib.ListN.{length, getD, take, drop}
 use borrow.Author.Tests.{leb-true, lt-ltb, le-ltb}
 use Rattle.base.specs.Choice.{pick}
-use Rattle.base.specs.Limits.{samplesLimit, timeLimit}
+use Rattle.base.specs.Limits.{timeLimit, bucketsLimit}
 use Rattle.base.proofs.All.{both-yes, both-no}
 use Rattle.base.proofs.Choices.{yes-pick, no-pick}
 use Rattle.base.proofs.Points.{both-true}
 use Rattle.base.proofs.Blocks.{block-within}
 use Rattle.policy.specs.declared.DelayPolicy.{DelayPolicy}
-use Rattle.policy.specs.Settings.{reachesAllowed, Sound}
-use Rattle.rules_window.specs.Window.{Window, windowed, bucketsOf}
+use Rattle.policy.specs.Settings.{Sound}
+use Rattle.rules_window.specs.Window.{Window, windowed}
 use Rattle.rules_window.specs.WholeWindow.{wholeWindow}
 use Rattle.rules_window.specs.Parts.{partOf, PartsIn}
 use Rattle.delay_hold.specs.declared.Moment.{Moment}
@@ -46,7 +46,7 @@ use Rattle.rules_record.specs.declared.Commands.the-variants.{Absent, Wo
 use Rattle.rules_record.specs.Lent.{Lists, lists, bucketsIn, windowOf, heldOf, bucketsFor}
 use Rattle.rules_record.specs.WholePlaces.{proposalFits, routeFits, wholeSlot, unusedEntry, entryFits, unusedKey, keyFits, unusedSlot}
 use Rattle.rules_record.specs.WholeRecord.{wholeInput, inputFits}
-use Rattle.rules_record.specs.Checks.{inputsAllowed, bucketsAllowed, listsFit, commandsFit, Fitting}
+use Rattle.rules_record.specs.Checks.{inputsAllowed, listsFit, commandsFit, Fitting}
 use Rattle.rules_record.proofs.Shapes.{window-held}
 
 -- ---- the parts of a slot
@@ -91,24 +91,12 @@ module _ (s : Inputs) (place : ℕ) where
   unfolding keyAt
   told-key l g = g ∙ ap (λ (x : Instance). pick (ltb place (s .«instance_count»)) (ltb (x .flow) (s .«flow_count»)) (unusedKey x)) (sym (yes-pick _ _ (lt-ltb _ _ l)))
 
--- ---- checks 2 and 5
-pub reaches-ask : (policy : DelayPolicy) (width : ℕ) → reachesAllowed policy ≡ true → 1 ≤ width → (policy .«read_offset» ≤ samplesLimit) × (policy .«delay_max» ≤ samplesLimit) × (1 ≤ width)
-unfolding reachesAllowed
-reaches-ask policy width h low = let t = both-true _ _ h in (leb-true _ _ (t .0), leb-true _ _ (t .1), low)
-
-pub buckets-ask : (policy : DelayPolicy) (width : ℕ) → bucketsAllowed policy width ≡ true → (policy .«read_offset» ≤ samplesLimit) × (policy .«delay_max» ≤ samplesLimit) × (1 ≤ width)
-unfolding bucketsAllowed
-buckets-ask policy width h = let t = both-true _ _ h in reaches-ask policy width (t .0) (leb-true _ _ (both-true _ _ (t .1) .0))
-
-pub buckets-few : (policy : DelayPolicy) (width : ℕ) {buckets : ℕ} → bucketsAllowed policy width ≡ true → buckets ≡ bucketsFor policy width → buckets ≤ 4096
-unfolding bucketsAllowed
-buckets-few policy width h e = rw e (leb-true _ _ (both-true _ _ (both-true _ _ (both-true _ _ h .1) .1) .1))
-
+-- ---- checks 1 and 5
 pub inputs-few : (n : ℕ) → inputsAllowed n ≡ true → n ≤ 16
 unfolding inputsAllowed
 inputs-few n h = leb-true _ _ (both-true _ _ h .1)
 
-pub counts-fit : (n buckets : ℕ) → n ≤ 16 → buckets ≤ 4096 → Fits w64 (n * (11 * buckets))
+pub counts-fit : (n buckets : ℕ) → n ≤ 16 → buckets ≤ bucketsLimit → Fits w64 (n * (11 * buckets))
 counts-fit n buckets h k = let rows : 11 * buckets ≤ 45056 = omega arith in omega (arith, mul-le-mul h rows)
 
 pub told-lists : (s : Inputs) (l : Lists) {buckets : ℕ} {r : Bool} → buckets ≡ bucketsFor (s .policy) (s .width) → r ≡ listsFit (s .count) buckets l → r ≡ listsFit (s .count) (bucketsIn s) l

@@ -11,7 +11,7 @@ use Rattle.base.specs.Limits.{nanos, windowReach}
 use Rattle.base.proofs.All.{all-none}
 use Rattle.base.proofs.Points.{true-both, blank-intro, zeros-at}
 use Rattle.policy.specs.declared.DelayPolicy.{DelayPolicy}
-use Rattle.rules_window.specs.Window.{bucketsOf, fresh}
+use Rattle.rules_window.specs.Window.{fresh}
 use Rattle.rules_window.specs.Parts as parts
 use Rattle.rules_window.specs.WholeWindow.{summed, wholeWindow, Shaped, Sound}
 use Rattle.delay_hold.specs.Next.{Held, freshHold, clearedHold}
@@ -23,6 +23,7 @@ use Rattle.rules_record.specs.Inputs.{slotAt}
 use Rattle.rules_record.specs.Lent.{Lists, bucketsIn, windowsOf, windowFor, windowOf}
 use Rattle.rules_record.specs.Checks.{Fitting}
 use Rattle.base.proofs.Blocks.{block-within, block-long}
+use Rattle.buckets.proofs.Told.{buckets-some}
 use Rattle.rules_record.specs.Facts.{Checked}
 
 pub zeros-blank : (k m : ℕ) → blankFrom k (replicate m 0) ≡ true
@@ -30,9 +31,9 @@ zeros-blank k m = blank-intro k (replicate m 0) (λ i h. zeros-at m i)
 
 -- ---- of a record that 1 to 5 let through
 module _ (s : Inputs) (l : Lists) (f : Fitting s l) where
-  pub buckets-least : 2 ≤ bucketsIn s
-  unfolding bucketsIn bucketsOf
-  buckets-least = omega arith
+  pub buckets-least : 1 ≤ bucketsIn s
+  unfolding bucketsIn
+  buckets-least = omega (arith, buckets-some (s .policy .«read_offset») (s .policy .«delay_max») (s .width))
 
   pub window-shaped : (i : ℕ) (slot : Slot) → i < s .count → Shaped (windowFor s l i slot)
   unfolding bucketsIn

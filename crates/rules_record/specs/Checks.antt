@@ -1,13 +1,15 @@
--- Document 01's checks 1 to 8, as the calls on a whole supervisor ask them. Assumes nothing.
+-- The checks that every call on a whole supervisor asks: document 01's 1 to 8, with document 02's 17 and 18 straight after 2. Assumes nothing.
+-- Where laws and functions speak of checks 1 to 4, 1 to 5 and so on, 17 and 18 are among them: 1 2 17 18 3 4 5 6 7 8.
 use Prim.Native.Nat.{ℕ, _*_, _≤_}
 use mathlib.Core.Bool.{Bool, true, _||_}
 use mathlib.Core.Path.{_≡_}
 use lib.Dec.{leb, ltb, eqb}
 use lib.ListN.{length}
 use Rattle.base.specs.Choice.{both, ask}
-use Rattle.base.specs.Limits.{nanos, spanLimit, timely, widthLimit}
+use Rattle.base.specs.Limits.{nanos, spanLimit, timely, widthLimit, bucketsLimit}
+use Rattle.buckets.specs.Ranges.{rangesNumber}
 use Rattle.policy.specs.declared.DelayPolicy.{DelayPolicy}
-use Rattle.policy.specs.Settings.{reachesAllowed, timesAllowed, marginsAllowed, Sound}
+use Rattle.policy.specs.Settings.{timesAllowed, marginsAllowed, Sound}
 use Rattle.rules_record.specs.declared.Inputs.{Inputs}
 use Rattle.rules_record.specs.declared.Commands.{Commands}
 use Rattle.rules_record.specs.declared.Commands.the-variants.{Absent, Words}
@@ -17,14 +19,6 @@ use Rattle.rules_record.specs.WholeRecord.{wholeRecord}
 -- 1: "Are there 1 to 16 inputs?"
 unfoldable pub inputsAllowed : ℕ → Bool
 inputsAllowed n = both (leb 1 n) (leb n 16)
-
--- 2: "Are offset and maximum at most 96,000, W 1 to 4,800, buckets at most 4,096?"
-unfoldable pub bucketsAllowed : (policy : DelayPolicy) (width : ℕ) → Bool
-bucketsAllowed policy width =
-    both (reachesAllowed policy)
-    (both (leb 1 width)
-    (both (leb width widthLimit)
-    (leb (bucketsFor policy width) 4096)))
 
 -- 3: "Are hold and stall at most 600 s, window 1 to 600 s?"
 unfoldable pub pausesAllowed : (policy : DelayPolicy) (stall : ℕ) → Bool
@@ -48,7 +42,7 @@ commandsFit n (Words words) = eqb words (n * 12)
 unfoldable pub recordNumber : (s : Inputs) (l : Lists) (commands : Commands) (rest : ℕ) → ℕ
 recordNumber s l commands rest =
     ask 1 (inputsAllowed (s .count))
-    (ask 2 (bucketsAllowed (s .policy) (s .width))
+    (rangesNumber (s .policy .«read_offset») (s .policy .«delay_max») (s .width)
     (ask 3 (pausesAllowed (s .policy) (s .stall))
     (ask 4 (marginsAllowed (s .policy))
     (ask 5 (listsFit (s .count) (bucketsIn s) l)
@@ -57,7 +51,7 @@ recordNumber s l commands rest =
 
 -- the number is that of a check that speaks of the record, its settings and its lists, whatever else a call brings
 unfoldable pub ownNumber : (number : ℕ) → Bool
-ownNumber number = eqb number 1 || eqb number 2 || eqb number 3 || eqb number 4 || eqb number 5 || eqb number 6
+ownNumber number = eqb number 1 || eqb number 2 || eqb number 17 || eqb number 18 || eqb number 3 || eqb number 4 || eqb number 5 || eqb number 6
 
 -- ---- a call on one input
 -- 1 to 6, and 7: "Does the input exist?"; `rest` is the number that the checks after these give
@@ -76,7 +70,7 @@ pub record Allowed (n : ℕ) (policy : DelayPolicy) (width stall : ℕ) : Type 0
   pub sound : Sound policy
   pub width-least : 1 ≤ width
   pub width-most : width ≤ widthLimit
-  pub buckets-most : bucketsFor policy width ≤ 4096
+  pub buckets-most : bucketsFor policy width ≤ bucketsLimit
   pub hold-most : policy .hold ≤ spanLimit
   pub window-least : nanos ≤ policy .window
   pub window-most : policy .window ≤ spanLimit

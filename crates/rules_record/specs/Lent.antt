@@ -2,8 +2,9 @@
 use Prim.Native.Nat.{ℕ, _*_}
 use mathlib.Core.List.{List}
 use Rattle.base.specs.Lists.{part, patched}
+use Rattle.buckets.specs.Ranges.{bucketsOf}
 use Rattle.policy.specs.declared.DelayPolicy.{DelayPolicy}
-use Rattle.rules_window.specs.Window.{Window, windowed, bucketsOf}
+use Rattle.rules_window.specs.Window.{Window, windowed}
 use Rattle.rules_window.specs.Parts.{partOf}
 use Rattle.delay_hold.specs.Next.{Held, held}
 use Rattle.rules_record.specs.declared.Slot.{Slot}

@@ -7,10 +7,11 @@ use lib.IntN.{pos}
 use lib.Ieee.{Float, fin, round, mul, ofInt}
 use lib.ListN.{replicate}
 use Rattle.base.specs.Lists.{padded, sum}
+use Rattle.buckets.specs.Ranges.{bucketsOf}
 use Rattle.doubles.specs.Doubles.{ceilOf}
 use Rattle.doubles.specs.Quantile.{targetOf}
 use Rattle.rules_window.specs.declared.Quantile.the-variants.{End}
-use Rattle.rules_window.specs.Window.{Window, bucketsOf, fresh, inUse, laid, opened, dropped, counted, pushed, pushedAll}
+use Rattle.rules_window.specs.Window.{Window, fresh, inUse, laid, opened, dropped, counted, pushed, pushedAll}
 use Rattle.rules_window.specs.Quantile.{column, within, running, reach, quantileIn, quantileUpto, quantileOf, thousandths}
 
 -- a window of W 48, fresh and then pushed these lags at one time

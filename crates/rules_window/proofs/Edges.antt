@@ -10,22 +10,16 @@ use lib.ListN.{replicate}
 use Rattle.base.specs.Choice.{both, ask}
 use Rattle.base.specs.Lists.{padded, sum, all, blankFrom, sumFrom}
 use Rattle.base.specs.Rows.{apart, upTo}
+use Rattle.buckets.specs.Ranges.{reachesAllowed, widthAllowed, bucketsOf, bucketsFew, bucketsAllowed, rangesNumber}
 use Rattle.doubles.specs.Doubles.{ceilOf}
 use Rattle.doubles.specs.Quantile.{targetOf}
 use Rattle.rules_window.specs.declared.Quantile.the-variants.{End, None, Refused}
-use Rattle.rules_window.specs.Window.{Window, windowed, bucketsOf, fresh, cleared, inUse, laid, opened, dropped, bucketOf, counted, pushed, pushedAll}
+use Rattle.rules_window.specs.Window.{Window, windowed, fresh, cleared, inUse, laid, opened, dropped, bucketOf, counted, pushed, pushedAll}
 use Rattle.rules_window.specs.WholeWindow.{summed, wholeWindow}
 use Rattle.rules_window.specs.Quantile.{column, within, running, reach, quantileIn, quantileUpto, quantileOf}
 use Rattle.rules_window.specs.Parts.{placed}
 use Rattle.rules_window.specs.Checks.{checked, fromZeroToOne, newNumber, quantileNumber, newReply, spanReply, answered, quantileReply, numberOf, valueOf}
 use Rattle.rules_window.proofs.Answers.{after, one}
-
--- "(offset + maximum + 4,800) / W + 2 buckets, division rounding down": 10,080, 10,127 and 10,128 samples in buckets of 48
-pub buckets-round-down :
-    bucketsOf 480 4800 48 ∷ bucketsOf 480 4847 48 ∷ bucketsOf 480 4848 48 ∷ bucketsOf 0 0 4800 ∷ []
-    ≡ 212 ∷ 212 ∷ 213 ∷ 3 ∷ []
-unfolding bucketsOf
-buckets-round-down = refl
 
 -- a window that is cleared keeps its buckets and their width
 pub cleared-keeps-buckets : (w : Window) → (cleared w) .buckets ≡ w .buckets
@@ -62,7 +56,7 @@ second-goes-after-10-s = refl
 pub span-to-the-newest :
     spanReply (fresh 3 4800) ∷ spanReply (twice 1000000004) ∷ spanReply (twice 1000000005) ∷ []
     ≡ record { number = 0; span = 0 } ∷ record { number = 0; span = 0 } ∷ record { number = 0; span = 1000000000 } ∷ []
-unfolding both ask padded sum all blankFrom sumFrom apart upTo fresh inUse laid opened dropped counted pushed summed wholeWindow checked spanReply
+unfolding both ask padded sum all blankFrom sumFrom apart upTo fresh inUse laid opened dropped counted pushed summed wholeWindow widthAllowed bucketsFew bucketsAllowed checked spanReply
 span-to-the-newest = refl
 
 -- "quantiles .. without limit": a lag of 9,600 counts, and one far beyond the last bucket, which ends at 212 times 48
@@ -92,44 +86,43 @@ pub q-from-0-to-1 :
 unfolding both fromZeroToOne round le
 q-from-0-to-1 = refl
 
--- the checks of every call on a window, in their order: 2, 5, 6
-pub window-asked-2-5-6 :
-    checked (windowed 12 3 0 [] [] []) 0
-    ∷ checked (windowed 12 3 4801 [] [] []) 0
-    ∷ checked (windowed 12 1 4800 [] [] []) 0
+-- the checks of every call on a window, in their order: 17, 18, 5, 6; a width of 0 is refused by 17 whatever the buckets are
+pub window-asked-17-18-5-6 :
+    checked (windowed 12 0 0 [] [] []) 0
+    ∷ checked (windowed 12 4097 4801 [] [] []) 0
+    ∷ checked (windowed 12 0 4800 [] [] []) 0
     ∷ checked (windowed 12 4097 4800 [] [] []) 0
     ∷ checked (windowed 12 3 4800 (replicate 10 0) (replicate 11 0) (replicate 33 0)) 0
     ∷ checked (windowed 12 3 4800 (replicate 11 0) (replicate 12 0) (replicate 33 0)) 0
     ∷ checked (windowed 12 3 4800 (replicate 11 0) (replicate 11 0) (replicate 32 0)) 0
     ∷ checked (windowed 12 3 4800 (replicate 11 0) (replicate 11 0) (replicate 33 0)) 0
     ∷ checked (windowed 0 3 4800 (replicate 11 0) (replicate 11 0) (replicate 33 0)) 14
+    ∷ checked (windowed 0 1 1 (replicate 11 0) (replicate 11 0) (replicate 11 0)) 14
     ∷ []
-    ≡ 2 ∷ 2 ∷ 2 ∷ 2 ∷ 5 ∷ 5 ∷ 5 ∷ 6 ∷ 14 ∷ []
-unfolding both ask sum all blankFrom sumFrom apart upTo summed wholeWindow checked
-window-asked-2-5-6 = refl
+    ≡ 17 ∷ 17 ∷ 18 ∷ 18 ∷ 5 ∷ 5 ∷ 5 ∷ 6 ∷ 14 ∷ 14 ∷ []
+unfolding both ask sum all blankFrom sumFrom apart upTo summed wholeWindow widthAllowed bucketsFew bucketsAllowed checked
+window-asked-17-18-5-6 = refl
 
--- those of `new`: offset and maximum at most 96,000, W 1 to 4,800, buckets at most 4,096, then the three lengths
-pub new-asked-2-5 :
+-- those of `new`: 2, 17 and 18 of offset, maximum and W before the three lengths
+pub new-asked-2-17-18-5 :
     newNumber 96000 95712 48 11 11 45056
     ∷ newNumber 96001 0 48 0 0 0
-    ∷ newNumber 0 96001 48 0 0 0
     ∷ newNumber 0 0 0 0 0 0
-    ∷ newNumber 0 0 4801 0 0 0
     ∷ newNumber 96000 95760 48 0 0 0
     ∷ newNumber 0 0 4800 10 11 33
     ∷ newNumber 0 0 4800 11 12 33
     ∷ newNumber 0 0 4800 11 11 32
     ∷ newNumber 0 0 4800 11 11 33
     ∷ []
-    ≡ 0 ∷ 2 ∷ 2 ∷ 2 ∷ 2 ∷ 2 ∷ 5 ∷ 5 ∷ 5 ∷ 0 ∷ []
-unfolding ask bucketsOf newNumber
-new-asked-2-5 = refl
+    ≡ 0 ∷ 2 ∷ 17 ∷ 18 ∷ 5 ∷ 5 ∷ 5 ∷ 0 ∷ []
+unfolding ask both reachesAllowed widthAllowed bucketsOf bucketsFew rangesNumber newNumber
+new-asked-2-17-18-5 = refl
 
 -- "a no ends it with that number, a zero value, and record and buffers unchanged"
 pub refused-new-is-zero :
     newReply 96001 0 48 (1 ∷ []) (2 ∷ []) (3 ∷ [])
     ≡ record { number = 2; window = record { seconds = 0; buckets = 0; width = 0; starts = 1 ∷ []; totals = 2 ∷ []; counts = 3 ∷ [] } }
-unfolding ask bucketsOf newNumber newReply
+unfolding ask both reachesAllowed rangesNumber newNumber newReply
 refused-new-is-zero = refl
 
 -- document 01's number and value of each answer of a quantile

@@ -22,7 +22,7 @@ use Rattle.rules_window.specs.declared.Quantile.the-variants.{End, None}
 use Rattle.rules_window.specs.declared.Found.{Found}
 use Rattle.rules_window.specs.declared.Found.the-variants.{At, Nowhere}
 use Rattle.base.specs.Rows.{spanOf}
-use Rattle.base.specs.Limits.{nanos, timeLimit, widthLimit, windowReach}
+use Rattle.base.specs.Limits.{nanos, timeLimit, widthLimit, bucketsLimit, windowReach}
 use Rattle.rules_window.specs.Window.{Window, fresh, cleared, opens, counted, pushed, pushedAll}
 use Rattle.rules_window.specs.WholeWindow.{Shaped, Sound}
 use Rattle.rules_window.specs.InPlace.{droppedInPlace, openedInPlace, pushedInPlace}
@@ -35,7 +35,7 @@ use Rattle.rules_window.proofs.Reaching.{running-none, found-below}
 use Rattle.rules_window.proofs.Ticks.{newest-pushed, push-keeps-sound}
 
 -- ---- a fresh window is sound
-pub fresh-sound : (B W : ℕ) → 1 ≤ W → W ≤ widthLimit → 2 ≤ B → B ≤ 4096 → Sound (fresh B W)
+pub fresh-sound : (B W : ℕ) → 1 ≤ W → W ≤ widthLimit → 1 ≤ B → B ≤ bucketsLimit → Sound (fresh B W)
 unfolding fresh
 fresh-sound B W wl wh bl bh =
     record {

@@ -4,7 +4,7 @@ use mathlib.Core.Bool.{Bool, true, false, not}
 use mathlib.Core.Path.{_≡_, refl, sym, ap, _∙_}
 use mathlib.Core.List.{List}
 use native.Mathlib.Omega.{arith}
-use borrow.Author.Tests.{le-leb, lt-leb, eq-eqb, ne-eqb, leb-true, eqb-true, not-true, not-false}
+use borrow.Author.Tests.{le-leb, lt-leb, leb-true, eqb-true, not-true, not-false}
 use lib.Ieee.{Float}
 use lib.ListN.{length}
 use Rattle.base.specs.Choice.{ask}
@@ -13,25 +13,18 @@ use Rattle.base.proofs.Points.{both-true}
 use Rattle.rules_window.specs.declared.Quantile.{Quantile}
 use Rattle.rules_window.specs.declared.Quantile.the-variants.{Refused}
 use Rattle.base.specs.Rows.{spanOf}
-use Rattle.base.specs.Limits.{samplesLimit, timeLimit, widthLimit}
-use Rattle.rules_window.specs.Window.{Window, windowed, bucketsOf, fresh, cleared, pushed}
-use Rattle.rules_window.specs.WholeWindow.{wholeWindow, Shaped, Sound}
+use Rattle.base.specs.Limits.{samplesLimit, timeLimit, widthLimit, bucketsLimit}
+use Rattle.buckets.specs.Ranges.{bucketsOf}
+use Rattle.buckets.proofs.Told.{width-told, buckets-told, buckets-some, ranges-told}
+use Rattle.rules_window.specs.Window.{Window, windowed, fresh, cleared, pushed}
+use Rattle.rules_window.specs.WholeWindow.{Shaped, Sound}
 use Rattle.rules_window.specs.Quantile.{quantileUpto, Placeable, ShortRows}
 use Rattle.rules_window.specs.Checks.{checked, newest, roomFor, fromZeroToOne, newNumber, pushNumber, quantileNumber, replied, nothing, newReply, pushReply, clearReply, spanReply, answered, quantileUptoReply}
 use Rattle.rules_window.proofs.WholeAt.{whole-of}
 use Rattle.rules_window.proofs.Totals.{total-few, rows-short}
 use Rattle.doubles.proofs.Values.{is}
 
-pub ruleset gate = (le-leb, lt-leb, eq-eqb, ne-eqb)
-
--- ---- the tests that a call tells, as rules to rewrite by
-pub told-whole : (r : Bool) (w : Window) → r ≡ wholeWindow w → not r ≡ false → wholeWindow w ≡ true
-told-whole r w e h = sym e ∙ not-false r h
-
-pub told-broken : (r : Bool) (w : Window) → r ≡ wholeWindow w → not r ≡ true → wholeWindow w ≡ false
-told-broken r w e h = sym e ∙ not-true r h
-
--- ---- 2, 5 and 6, and then the rest
+-- ---- 17, 18, 5 and 6, and then the rest
 -- the number 0 says that the window is sound, and that the rest is 0
 pub passed : (w : Window) (rest : ℕ) → checked w rest ≡ 0 → (Sound w) × (rest ≡ 0)
 unfolding checked
@@ -42,21 +35,21 @@ passed w rest h =
     let d = asked _ _ _ (c .1) in
     let e = asked _ _ _ (d .1) in
     let f = asked _ _ _ (e .1) in
-    let g = asked _ _ _ (f .1) in
-    let i = asked _ _ _ (g .1) in (
+    let wide = width-told _ (a .0) in
+    let some = buckets-told _ (b .0) in (
       record {
         shaped = record {
-          width-low = leb-true _ _ (a .0);
-          width-high = leb-true _ _ (b .0);
-          buckets-low = leb-true _ _ (c .0);
-          buckets-high = leb-true _ _ (d .0);
-          starts-long = eqb-true _ _ (e .0);
-          totals-long = eqb-true _ _ (f .0);
-          counts-long = eqb-true _ _ (g .0);
+          width-low = wide .0;
+          width-high = wide .1;
+          buckets-low = some .0;
+          buckets-high = some .1;
+          starts-long = eqb-true _ _ (c .0);
+          totals-long = eqb-true _ _ (d .0);
+          counts-long = eqb-true _ _ (e .0);
         };
-        whole = i .0;
+        whole = f .0;
       },
-      i .1,
+      f .1,
     )
 
 -- x is what the checks give alone, y what they give with the rest after them
@@ -72,9 +65,9 @@ ask-follows k false x y rest f = record { go-on = λ e. absurd (omega arith); st
 checked-follows : (w : Window) (rest : ℕ) → Follows (checked w 0) (checked w rest) rest
 unfolding checked
 checked-follows w rest =
-    ask-follows _ _ _ _ _ (ask-follows _ _ _ _ _ (ask-follows _ _ _ _ _ (ask-follows _ _ _ _ _
-    (ask-follows _ _ _ _ _ (ask-follows _ _ _ _ _ (ask-follows _ _ _ _ _ (ask-follows _ _ _ _ _
-    (record { go-on = λ e. refl; stop = λ e. absurd (e refl) }))))))))
+    ask-follows _ _ _ _ _ (ask-follows _ _ _ _ _ (ask-follows _ _ _ _ _
+    (ask-follows _ _ _ _ _ (ask-follows _ _ _ _ _ (ask-follows _ _ _ _ _
+    (record { go-on = λ e. refl; stop = λ e. absurd (e refl) }))))))
 
 module _ (w : Window) (n : ℕ) (e : n ≡ checked w 0) where
   pub checked-stops : (rest : ℕ) → (n ≡ 0 → ⊥) → n ≡ checked w rest
@@ -90,30 +83,25 @@ module _ (w : Window) (n : ℕ) (e : n ≡ checked w 0) where
 pub new-settings : (offset maximum width a b c n : ℕ) → n ≡ newNumber offset maximum width a b c → n ≡ 0 → (offset ≤ samplesLimit) × (maximum ≤ samplesLimit) × (1 ≤ width)
 unfolding newNumber
 new-settings offset maximum width a b c n e z =
-    let p = asked _ _ _ (sym e ∙ z) in
-    let q = asked _ _ _ (p .1) in
-    let r = asked _ _ _ (q .1) in
-    (leb-true _ _ (p .0), leb-true _ _ (q .0), leb-true _ _ (r .0))
+    let r = ranges-told offset maximum width _ (sym e ∙ z) .0 in
+    (r .offset-most, r .maximum-most, r .width-least)
 
 pub new-shaped : (offset maximum width : ℕ) (s t c : List ℕ) (n B : ℕ) → n ≡ newNumber offset maximum width (length s) (length t) (length c) → n ≡ 0 → B ≡ bucketsOf offset maximum width → Shaped (windowed 0 B width s t c)
-unfolding newNumber bucketsOf
+unfolding newNumber
 new-shaped offset maximum width s t c n B e z eb =
-    let h1 = asked _ _ _ (sym e ∙ z) in
-    let h2 = asked _ _ _ (h1 .1) in
-    let h3 = asked _ _ _ (h2 .1) in
-    let h4 = asked _ _ _ (h3 .1) in
-    let h5 = asked _ _ _ (h4 .1) in
-    let h6 = asked _ _ _ (h5 .1) in
-    let h7 = asked _ _ _ (h6 .1) in
-    let h8 = asked _ _ _ (h7 .1) in
+    let told = ranges-told offset maximum width _ (sym e ∙ z) in
+    let ranged = told .0 in
+    let a = asked _ _ _ (told .1) in
+    let b = asked _ _ _ (a .1) in
+    let d = asked _ _ _ (b .1) in
     record {
-      width-low = leb-true _ _ (h3 .0);
-      width-high = leb-true _ _ (h4 .0);
-      buckets-low = omega arith;
-      buckets-high = rw eb (leb-true _ _ (h5 .0));
-      starts-long = eqb-true _ _ (h6 .0);
-      totals-long = eqb-true _ _ (h7 .0);
-      counts-long = eqb-true _ _ (h8 .0) ∙ ap (λ (x : ℕ). 11 * x) (sym eb);
+      width-low = ranged .width-least;
+      width-high = ranged .width-most;
+      buckets-low = omega (arith, eb, buckets-some offset maximum width);
+      buckets-high = rw eb (ranged .buckets-most);
+      starts-long = eqb-true _ _ (a .0);
+      totals-long = eqb-true _ _ (b .0);
+      counts-long = eqb-true _ _ (d .0) ∙ ap (λ (x : ℕ). 11 * x) (sym eb);
     }
 
 -- ---- refused, or not
@@ -218,7 +206,7 @@ sound-placeable q limit w s h =
     let b = both-true _ _ h in
     record { few = total-few limit w s; low = is (b .0); high = is (b .1) }
 
-pub quantile-asks : (q : Float) (limit : ℕ) (w : Window) (n : ℕ) → n ≡ quantileNumber q w → n ≡ 0 → ((w .seconds ≤ 11) × (w .buckets ≤ 4096) × (1 ≤ w .width) × (w .width ≤ widthLimit)) × ((length (w .counts) ≡ 11 * w .buckets) × (Placeable q limit w × ShortRows (w .buckets) (w .seconds) (w .counts)))
+pub quantile-asks : (q : Float) (limit : ℕ) (w : Window) (n : ℕ) → n ≡ quantileNumber q w → n ≡ 0 → ((w .seconds ≤ 11) × (w .buckets ≤ bucketsLimit) × (1 ≤ w .width) × (w .width ≤ widthLimit)) × ((length (w .counts) ≡ 11 * w .buckets) × (Placeable q limit w × ShortRows (w .buckets) (w .seconds) (w .counts)))
 unfolding quantileNumber
 quantile-asks q limit w n e z =
     let a = passed w _ (sym e ∙ z) in

@@ -14,6 +14,7 @@ use Rattle.base.specs.Lists.{shifted}
 use Rattle.base.specs.Limits.{timeLimit}
 use Rattle.base.proofs.Points.{shifted-at}
 use Rattle.base.proofs.Choices.{yes-ask, accepted-new}
+use Rattle.buckets.proofs.Told.{width-yes, buckets-yes}
 use Rattle.rules_window.specs.Window.{Window, stale, opens, counted, pushed, pushedAll}
 use Rattle.rules_window.specs.WholeWindow.{Sound}
 use Rattle.rules_window.specs.InPlace.{droppedInPlace, openedInPlace, pushedInPlace}
@@ -125,14 +126,12 @@ module _ (time : ℕ) (lags : List ℕ) (last : Window) (i : ℕ) (w : Window) (
   going-end l = sym (g .is ∙ rw (drop-of-length-le lags l))
 
 -- ---- the call accepts a push of a sound window
--- 2, 5 and 6 let a sound window through
+-- 17, 18, 5 and 6 let a sound window through
 sound-checked : (w : Window) (rest : ℕ) → Sound w → checked w rest ≡ rest
 unfolding checked
 sound-checked w rest s =
-    yes-ask 2 _ (le-leb _ _ (s .shaped .width-low))
-    ∙ yes-ask 2 _ (le-leb _ _ (s .shaped .width-high))
-    ∙ yes-ask 2 _ (le-leb _ _ (s .shaped .buckets-low))
-    ∙ yes-ask 2 _ (le-leb _ _ (s .shaped .buckets-high))
+    yes-ask 17 _ (width-yes _ (s .shaped .width-low) (s .shaped .width-high))
+    ∙ yes-ask 18 _ (buckets-yes _ (s .shaped .buckets-low) (s .shaped .buckets-high))
     ∙ yes-ask 5 _ (eq-eqb _ _ (s .shaped .starts-long))
     ∙ yes-ask 5 _ (eq-eqb _ _ (s .shaped .totals-long))
     ∙ yes-ask 5 _ (eq-eqb _ _ (s .shaped .counts-long))

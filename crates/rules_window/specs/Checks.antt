@@ -1,4 +1,4 @@
--- Document 01's checks of the calls on one window, in their order, and what each call answers and leaves. Assumes nothing.
+-- The checks of the calls on one window, in their order (document 01's, with document 02's 17 and 18), and what each call answers and leaves. Assumes nothing.
 use Prim.Native.Nat.{ℕ, zero, suc, _+_, _-_, _*_}
 use mathlib.Core.Bool.{Bool, false}
 use mathlib.Core.List.{List}
@@ -10,24 +10,23 @@ use Rattle.base.specs.Choice.{pick, both, ask, accepted}
 use Rattle.rules_window.specs.declared.SpanAnswer.{SpanAnswer}
 use Rattle.rules_window.specs.declared.Quantile.{Quantile}
 use Rattle.rules_window.specs.declared.Quantile.the-variants.{End, None, Refused}
-use Rattle.base.specs.Limits.{timely, samplesLimit, widthLimit}
+use Rattle.base.specs.Limits.{timely}
 use Rattle.base.specs.Rows.{spanOf}
-use Rattle.rules_window.specs.Window.{Window, bucketsOf, fresh, cleared, opens, pushed}
+use Rattle.buckets.specs.Ranges.{widthAllowed, bucketsOf, bucketsAllowed, rangesNumber}
+use Rattle.rules_window.specs.Window.{Window, fresh, cleared, opens, pushed}
 use Rattle.rules_window.specs.WholeWindow.{wholeWindow}
 use Rattle.rules_window.specs.Quantile.{quantileUpto, quantileOf}
 
--- what every call on a window asks: 2 ("W 1 to 4,800, buckets at most 4,096", and at least the 2 that every window is made with),
+-- what every call on a window asks: 17 ("W outside 1 to 4,800"), 18 ("more than 4,096 buckets", or none),
 -- 5 ("each lent list its exact length") and 6; `rest` is the number that the checks after these give
 unfoldable pub checked : (w : Window) (rest : ℕ) → ℕ
 checked w rest =
-    ask 2 (leb 1 (w .width))
-    (ask 2 (leb (w .width) widthLimit)
-    (ask 2 (leb 2 (w .buckets))
-    (ask 2 (leb (w .buckets) 4096)
+    ask 17 (widthAllowed (w .width))
+    (ask 18 (bucketsAllowed (w .buckets))
     (ask 5 (eqb (length (w .starts)) 11)
     (ask 5 (eqb (length (w .totals)) 11)
     (ask 5 (eqb (length (w .counts)) (11 * w .buckets))
-    (ask 6 (wholeWindow w) rest)))))))
+    (ask 6 (wholeWindow w) rest)))))
 
 -- 11: "does the newest total (0 if its tick opens a second) plus its lags stay within 4,294,967,295"
 unfoldable pub newestOf : (time n : ℕ) (starts totals : List ℕ) → ℕ
@@ -46,17 +45,13 @@ roomFor time lags w = roomOf time lags (w .seconds) (w .starts) (w .totals)
 unfoldable pub fromZeroToOne : Float → Bool
 fromZeroToOne q = both (le (fin false 0 (pos 0)) q) (le q (fin false 1 (pos 0)))
 
--- the number of the first check that says no, or 0; of the lists `new` asks only the lengths
+-- 2 17 18 5: the number of the first check that says no, or 0; of the lists `new` asks only the lengths
 unfoldable pub newNumber : (offset maximum width starts totals counts : ℕ) → ℕ
 newNumber offset maximum width starts totals counts =
-    ask 2 (leb offset samplesLimit)
-    (ask 2 (leb maximum samplesLimit)
-    (ask 2 (leb 1 width)
-    (ask 2 (leb width widthLimit)
-    (ask 2 (leb (bucketsOf offset maximum width) 4096)
+    rangesNumber offset maximum width
     (ask 5 (eqb starts 11)
     (ask 5 (eqb totals 11)
-    (ask 5 (eqb counts (11 * bucketsOf offset maximum width)) 0)))))))
+    (ask 5 (eqb counts (11 * bucketsOf offset maximum width)) 0)))
 
 unfoldable pub pushNumber : (time : ℕ) (w : Window) → ℕ
 pushNumber time w = checked w (ask 8 (timely time) (ask 11 (roomFor time 1 w) 0))

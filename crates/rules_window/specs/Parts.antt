@@ -2,7 +2,7 @@
 use Prim.Native.Nat.{ℕ, _+_, _*_, _≤_}
 use lib.ListN.{length}
 use Rattle.base.specs.Lists.{part, patched}
-use Rattle.base.specs.Limits.{widthLimit}
+use Rattle.base.specs.Limits.{widthLimit, bucketsLimit}
 use Rattle.rules_window.specs.Window.{Window}
 
 -- the window of input j, of a window that holds the lists of all inputs
@@ -33,8 +33,8 @@ placed j v w =
 pub record PartsIn (j : ℕ) (w : Window) : Type 0 where
   pub width-low : 1 ≤ w .width
   pub width-high : w .width ≤ widthLimit
-  pub buckets-low : 2 ≤ w .buckets
-  pub buckets-high : w .buckets ≤ 4096
+  pub buckets-low : 1 ≤ w .buckets
+  pub buckets-high : w .buckets ≤ bucketsLimit
   pub starts-in : j * 11 + 11 ≤ length (w .starts)
   pub totals-in : j * 11 + 11 ≤ length (w .totals)
   pub counts-in : j * (11 * w .buckets) + 11 * w .buckets ≤ length (w .counts)

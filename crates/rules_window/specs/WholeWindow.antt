@@ -7,7 +7,7 @@ use lib.Dec.{leb, eqb}
 use lib.ListN.{length, getD}
 use Rattle.base.specs.Choice.{both}
 use Rattle.base.specs.Lists.{all, blankFrom, rowSum}
-use Rattle.base.specs.Limits.{nanos, timeLimit, widthLimit, windowReach}
+use Rattle.base.specs.Limits.{nanos, timeLimit, widthLimit, bucketsLimit, windowReach}
 use Rattle.base.specs.Rows.{apart, upTo, spanOf}
 use Rattle.rules_window.specs.Window.{Window}
 
@@ -27,17 +27,17 @@ wholeWindow w =
     (both (blankFrom (w .seconds * w .buckets) (w .counts))
     (upTo timeLimit (w .seconds) (w .starts))))))))
 
--- a window that 2 and 5 let through
+-- a window that 17, 18 and 5 let through
 pub record Shaped (w : Window) : Type 0 where
   pub width-low : 1 ≤ w .width
   pub width-high : w .width ≤ widthLimit
-  pub buckets-low : 2 ≤ w .buckets
-  pub buckets-high : w .buckets ≤ 4096
+  pub buckets-low : 1 ≤ w .buckets
+  pub buckets-high : w .buckets ≤ bucketsLimit
   pub starts-long : length (w .starts) ≡ 11
   pub totals-long : length (w .totals) ≡ 11
   pub counts-long : length (w .counts) ≡ 11 * w .buckets
 
--- a window that 2, 5 and 6 let through: what the inner functions ask
+-- a window that 17, 18, 5 and 6 let through: what the inner functions ask
 pub record Sound (w : Window) : Type 0 where
   pub shaped : Shaped w
   pub whole : wholeWindow w ≡ true

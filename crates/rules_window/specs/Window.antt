@@ -22,13 +22,6 @@ abbrev pub windowed : (seconds buckets width : ℕ) (starts totals counts : List
 windowed seconds buckets width starts totals counts =
     record { seconds = seconds; buckets = buckets; width = width; starts = starts; totals = totals; counts = counts }
 
--- "(offset + maximum + 4,800) / W + 2 buckets, division rounding down": 4,800 samples are a tenth of a second
-abbrev pub tenth : ℕ
-tenth = 4800
-
-unfoldable pub bucketsOf : (offset maximum width : ℕ) → ℕ
-bucketsOf offset maximum width = (offset + maximum + tenth) / width + 2
-
 -- a window without seconds: every lent place is zero
 unfoldable pub fresh : (buckets width : ℕ) → Window
 fresh buckets width =

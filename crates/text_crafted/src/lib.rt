@@ -1,5 +1,5 @@
 // What a line crafts: the rows of a window, the peaks of a hold, a part of an input's record. It is no call and is never refused. Its words were
-// read before (crate text_requests): here they are stored. Of more rows or peaks than there are places only their number is kept.
+// read before (crate text_read): here they are stored. Of more rows or peaks than there are places only their number is kept.
 use base::least_usize;
 use base::product_usize;
 use base::sum_usize;

@@ -1,11 +1,10 @@
 -- What is lent of a list is at most the list. Assumes nothing.
-use Prim.Native.Nat.{ℕ, _≤_, min}
-use mathlib.Core.Path.{_≡_, _∙_, ap, sym}
+use Prim.Native.Nat.{ℕ, _-_, _≤_, min}
+use mathlib.Core.Path.{_≡_, sym, ap, _∙_}
 use mathlib.Core.List.{List}
 use native.Mathlib.Omega.{arith}
-use Rattle.base.proofs.Choices.{by-le}
 use lib.ListN.{length, take}
-use lib.Seq.{take-all}
+use Rattle.base.proofs.Cuts.{part-cut}
 
 pub within : {r : ℕ} (asked most : ℕ) → r ≡ min asked most → r ≤ most
 within asked most e = omega (arith, e)
@@ -13,6 +12,6 @@ within asked most e = omega (arith, e)
 -- the first n of a list, cut where the list ends
 pub first-cut : (s : List ℕ) (n end : ℕ) → end ≡ min n (length s) → take end s ≡ take n s
 first-cut s n end e =
-    by-le n (length s)
-    (λ h. let q : end ≡ n = omega (arith, e) in rw q)
-    (λ h. take-all end s (omega (arith, e)) ∙ sym (take-all n s (omega arith)))
+    let end-is : end - 0 ≡ end = omega arith in
+    let n-is : n - 0 ≡ n = omega arith in
+    sym (ap (λ (k : ℕ). take k s) end-is) ∙ part-cut s 0 n 0 end e (omega arith) ∙ ap (λ (k : ℕ). take k s) n-is

@@ -3,14 +3,14 @@ use Prim.Native.Nat.{ℕ, _+_, _-_, _*_, _^_, min}
 use mathlib.Core.Bool.{Bool}
 use lib.Dec.{leb}
 use Rattle.base.specs.Choice.{pick}
-use Rattle.rules_window.specs.Window.{bucketsOf}
+use Rattle.buckets.specs.Ranges.{reachesAllowed, bucketsOf}
 use Rattle.text_lending.specs.declared.Sizes.{Sizes}
 use Rattle.text_lending.specs.declared.Span.{Span}
 
 -- the buckets a second of windows with these settings; none where no supervisor has such an offset or maximum, or the width is 0
 unfoldable pub bucketsLent : (offset maximum width : ℕ) → ℕ
 bucketsLent offset maximum width =
-    pick (leb offset 96000) (pick (leb maximum 96000) (pick (leb 1 width) (bucketsOf offset maximum width) 0) 0) 0
+    pick (reachesAllowed offset maximum) (pick (leb 1 width) (bucketsOf offset maximum width) 0) 0
 
 -- no length is above the largest place
 abbrev pub countable : ℕ → ℕ

@@ -54,16 +54,13 @@ pub struct Span {
 pub fn buckets(offset: u32, maximum: u32, width: u32) -> usize
     ensures { λ r. ⌜ r ≡ bucketsLent offset maximum width ⌝ }
 {
-    if 96_000 < offset {
-        return 0;
-    }
-    if 96_000 < maximum {
+    if !buckets::reaches_allowed(offset, maximum) {
         return 0;
     }
     if width == 0 {
         return 0;
     }
-    lag_rows::core::buckets_of(offset, maximum, width)
+    buckets::core::buckets_of(offset, maximum, width)
 }
 
 // One place less where lists are to be short.

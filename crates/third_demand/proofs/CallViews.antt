@@ -7,7 +7,7 @@ use lib.ListN.{length, length-replicate}
 use borrow.Author.Tests.{eqb-true, eqb-false}
 use Rattle.base.proofs.Choices.{by-bool}
 use Rattle.policy.specs.declared.DelayPolicy.{DelayPolicy}
-use Rattle.rules_window.specs.Window.{fresh, windowed, bucketsOf}
+use Rattle.rules_window.specs.Window.{fresh, windowed}
 use Rattle.rules_window.specs.Parts.{partOf}
 use Rattle.delay_hold.specs.Next.{clearedHold}
 use Rattle.rules_record.specs.declared.Slot.{Slot}

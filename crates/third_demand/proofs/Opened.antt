@@ -7,13 +7,14 @@ use Rattle.base.specs.Choice.{both, ask}
 use Rattle.base.specs.Lists.{padded, blankFrom, sum, all, sumFrom}
 use Rattle.base.specs.Rows.{apart, upTo}
 use Rattle.base.specs.First as firsts
+use Rattle.buckets.specs.Ranges.{reachesAllowed, widthAllowed, bucketsOf, bucketsFew, rangesNumber}
 use Rattle.doubles.specs.Doubles.{halfAway, ceilOf}
 use Rattle.doubles.specs.Quantile as quantiles
 use Rattle.policy.specs.Need.{shareOf, needOf}
-use Rattle.policy.specs.Settings.{reachesAllowed, timesAllowed, marginsAllowed, shareOfPercent, percentAllowed}
+use Rattle.policy.specs.Settings.{timesAllowed, marginsAllowed, shareOfPercent, percentAllowed}
 use Rattle.rules_window.specs.Quantile.{column, within, running, reach, quantileIn, thousandths}
 use Rattle.rules_window.specs.WholeWindow.{summed, wholeWindow}
-use Rattle.rules_window.specs.Window.{bucketsOf, inUse, laid, opened, dropped, counted, pushed, pushedAll}
+use Rattle.rules_window.specs.Window.{inUse, laid, opened, dropped, counted, pushed, pushedAll}
 use Rattle.rules_window.specs.Checks.{newestOf}
 use Rattle.rules_window.specs.Window as windows
 use Rattle.delay_hold.specs.Steps5To8.{lowering, weighed, decideAt, decide}
@@ -21,7 +22,7 @@ use Rattle.delay_hold.specs.Next.{nextOf}
 use Rattle.delay_hold.specs.Step4Peaks.{joinTimes, joinLags, oldCount, timesAfter, lagsAfter}
 use Rattle.delay_hold.specs.Steps1To3.{noted}
 use Rattle.delay_hold.specs.Whole.{timerFits, wholePeaks, wholeTimes, wholeHold}
-use Rattle.rules_record.specs.Checks.{inputsAllowed, bucketsAllowed, pausesAllowed, listsFit, recordNumber, inputNumber, timedNumber}
+use Rattle.rules_record.specs.Checks.{inputsAllowed, pausesAllowed, listsFit, recordNumber, inputNumber, timedNumber}
 use Rattle.rules_record.specs.Commands.{quiet, sendFirst}
 use Rattle.rules_record.specs.Effects.{followedBy}
 use Rattle.rules_record.specs.Flows.{sameFlow, emptyEntry, entryAt, flowAt, known, placeBelow, flowPlace, distinctFlows, admits, enrolledAt, enrolled, recalled, kept, remembered, rememberedBy, rememberedFor}
@@ -56,7 +57,7 @@ use Rattle.rules_tick.specs.TickReply.{tickReply}
 
 -- of base, doubles and policy
 unfoldable pub base-opened : ℕ
-unfolding any both ask padded blankFrom sum all sumFrom apart upTo firsts.first halfAway ceilOf quantiles.targetOf shareOf needOf reachesAllowed timesAllowed marginsAllowed shareOfPercent percentAllowed round mul div ofInt le
+unfolding any both ask padded blankFrom sum all sumFrom apart upTo firsts.first halfAway ceilOf quantiles.targetOf shareOf needOf reachesAllowed widthAllowed bucketsFew rangesNumber timesAllowed marginsAllowed shareOfPercent percentAllowed round mul div ofInt le
 base-opened = 0
 
 -- of a window
@@ -71,7 +72,7 @@ hold-opened = 0
 
 -- of the record, its tables and its checks
 unfoldable pub record-opened : ℕ
-unfolding inputsAllowed bucketsAllowed pausesAllowed listsFit recordNumber inputNumber timedNumber quiet sendFirst followedBy sameFlow emptyEntry entryAt flowAt known placeBelow flowPlace distinctFlows admits enrolledAt enrolled recalled kept remembered rememberedBy rememberedFor slotAt putSlot sameKey noKey keyAt keysHeld keyBelow foundKey distinctKeys made usesKey anyUses wantedKey keepOne keptKeys withKeys pruned bucketsIn routeFits wholeSlot unusedTimer unusedHold unusedParts unusedNumbers unusedSlot unusedEntry entriesFit wholeFlows unusedKey keysFit wholeInstances wholeInput wholeInputs wholeRecord emptySlot
+unfolding inputsAllowed pausesAllowed listsFit recordNumber inputNumber timedNumber quiet sendFirst followedBy sameFlow emptyEntry entryAt flowAt known placeBelow flowPlace distinctFlows admits enrolledAt enrolled recalled kept remembered rememberedBy rememberedFor slotAt putSlot sameKey noKey keyAt keysHeld keyBelow foundKey distinctKeys made usesKey anyUses wantedKey keepOne keptKeys withKeys pruned bucketsIn routeFits wholeSlot unusedTimer unusedHold unusedParts unusedNumbers unusedSlot unusedEntry entriesFit wholeFlows unusedKey keysFit wholeInstances wholeInput wholeInputs wholeRecord emptySlot
 record-opened = 0
 
 -- of routing

@@ -55,7 +55,7 @@ whole-always born night calls is-new few =
     let g : Sure (night .settings) (length calls) (leftBy night calls) =
     subst (λ (x : ℕ). Sure (night .settings) x (leftBy night calls)) (omega arith) (sure-run (night .settings) 0 (fresh night) calls (omega (arith, few)) (born night is-new .good .sure))
     in
-    record { record-whole = of-whole _ _ (g .checked .whole); beyond-six = beyond (night .settings) (length calls) (leftBy night calls) g; takes-ticks = takes (night .settings) (length calls) (leftBy night calls) g }
+    record { record-whole = of-whole _ _ (g .checked .whole); beyond-its-own = beyond (night .settings) (length calls) (leftBy night calls) g; takes-ticks = takes (night .settings) (length calls) (leftBy night calls) g }
 
 module _ (laws : (settings : Settings) → settings .confirm ≡ false → Laws settings) (born : (night : Night) → fresh night .number ≡ 0 → Born night) where
   module _ (night : Night) (is-new : fresh night .number ≡ 0) (unconfirmed : night .settings .confirm ≡ false) where

@@ -1,7 +1,9 @@
 -- The mission's third demand is met. Assumes nothing.
 use Prim.Native.Nat.{_≤_}
+use mathlib.Core.Path.{_≡_, refl}
 use mathlib.Core.List.{List}
-use Rattle.rules_record.proofs.CheckOrder.{own-beyond}
+use Rattle.rules_record.specs.Checks.{ownNumber}
+use Rattle.rules_record.proofs.CheckOrder.{own-to-six, own-apart}
 use Rattle.third_demand.specs.Calls.{Call, after, Accepted, Night, leftBy}
 use Rattle.third_demand.specs.Demand as demand
 use Rattle.third_demand.proofs.Steps.{laws}
@@ -15,6 +17,15 @@ third-demand = met laws born
 pub stays-whole : demand.StaysWholeAlways
 stays-whole = whole-always born
 
--- no number from 1 to 6 refuses: `beyond-six` without the definition of the record's own numbers
-pub at-most-six : (night : Night) (calls : List Call) → demand.Whole night calls → (call : Call) → after (leftBy night calls) call .number ≤ 6 → Accepted (leftBy night calls) call
-at-most-six night calls whole call few = own-beyond (after (leftBy night calls) call .number) (whole .beyond-six call) few
+-- no number from 1 to 6 refuses, nor 17, nor 18: `beyond-its-own` without the definition of the record's own numbers
+module _ (night : Night) (calls : List Call) (whole : demand.Whole night calls) (call : Call) where
+  pub at-most-six : after (leftBy night calls) call .number ≤ 6 → Accepted (leftBy night calls) call
+  at-most-six few = own-to-six (after (leftBy night calls) call .number) (whole .beyond-its-own call) few
+
+  pub not-17 : after (leftBy night calls) call .number ≡ 17 → ⊥
+  unfolding ownNumber
+  not-17 e = own-apart (after (leftBy night calls) call .number) 17 (whole .beyond-its-own call) refl e
+
+  pub not-18 : after (leftBy night calls) call .number ≡ 18 → ⊥
+  unfolding ownNumber
+  not-18 e = own-apart (after (leftBy night calls) call .number) 18 (whole .beyond-its-own call) refl e

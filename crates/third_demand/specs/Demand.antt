@@ -31,10 +31,10 @@ RunsOn i r = goesOn (slotAt (r .inputs) i) ≡ true
 
 -- ---- "Then, whatever the calls bring, each is answered and recorded as the first two demands say"
 -- the answers are those of the definitions (Calls.after); the record is whole after every list of calls, and no call is refused by a check of the
--- record, its settings and its lists (1 to 6); a tick is refused only for what it brings
+-- record, its settings and its lists (1 2 17 18 3 4 5 6); a tick is refused only for what it brings
 pub record Whole (night : Night) (calls : List Call) : Type 0 where
   pub record-whole : wholeRecord (leftBy night calls .inputs) (leftBy night calls .lists) ≡ true
-  pub beyond-six : (call : Call) → ownNumber (after (leftBy night calls) call .number) ≡ false
+  pub beyond-its-own : (call : Call) → ownNumber (after (leftBy night calls) call .number) ≡ false
   -- a tick whose time, looks, lag counts and rooms fit (8, 10, 11) is accepted
   pub takes-ticks :
       (looks : List Look) (lags : List ℕ) (time : ℕ) → time ≤ timeLimit → looksFit (leftBy night calls .inputs) looks ≡ true → lagsFit (leftBy night calls .inputs) looks lags ≡ true →

@@ -11,11 +11,11 @@ code-requires c κs = search needs
 returns : tie.Need-returns
 returns c = settled-idle refl (c .before .code .ensures) (c .if1 .taken) _ _
 
-rested-requires : tie.Need-rested-requires
-rested-requires c κs = search needs
+held-requires : tie.Need-held-requires
+held-requires c κs = search needs
 
 returns-2 : tie.Need-returns-2
-returns-2 c = settled-running refl (c .before .before .code .ensures) (c .before .if1 .left) _ _ (c .rested .ensures)
+returns-2 c = settled-running refl (c .before .before .code .ensures) (c .before .if1 .left) _ _ (c .held .ensures)
 
 pub settled-slot-spec : {M : Type 1} → statement M
-settled-slot-spec = tie.close (tie.spec code-requires returns rested-requires returns-2)
+settled-slot-spec = tie.close (tie.spec code-requires returns held-requires returns-2)

@@ -1,25 +1,58 @@
 -- `lag_window::LagWindow::new_number` meets its contract. Assumes nothing.
+use mathlib.Core.Path.{sym, _∙_}
+use native.Mathlib.Omega.{arith}
 use borrow.Author.Needs.{needs}
-use borrow.Author.Tests.{le-leb, lt-leb, eq-eqb, ne-eqb}
-use Rattle.rules_window.proofs.Numbers.{gate}
-use Rattle.base.specs.Choice.{ask}
+use borrow.Author.Tests.{eq-eqb, ne-eqb}
+use Rattle.base.proofs.Choices.{yes-ask, no-ask}
+use Rattle.buckets.proofs.Told.{buckets-asked, ranges-stop, ranges-let, ranges-go}
 use Rattle.rules_window.specs.Checks.{newNumber}
 use Rattle.lag_window.proofs.LagWindow.new_number.Statement.{statement}
 use Rattle.lag_window.proofs.LagWindow.new_number.Tie as tie
 
+returns : tie.Need-returns
+unfolding newNumber
+returns c = sym (ranges-stop _ _ _ (c .before .ranges-number .ensures) (c .if1 .taken) _)
+
+returns-2 : tie.Need-returns-2
+unfolding newNumber
+returns-2 c = sym (ranges-go _ _ _ (c .before .before .ranges-number .ensures) (c .before .if1 .left) _ ∙ no-ask 5 _ (ne-eqb _ _ (c .if2 .taken)))
+
+returns-3 : tie.Need-returns-3
+unfolding newNumber
+returns-3 c = sym (ranges-go _ _ _ (c .before .before .before .ranges-number .ensures) (c .before .before .if1 .left) _ ∙ yes-ask 5 _ (eq-eqb _ _ (c .before .if2 .left)) ∙ no-ask 5 _ (ne-eqb _ _ (c .if3 .taken)))
+
+buckets-of-requires : tie.Need-buckets-of-requires
+buckets-of-requires c κs =
+    buckets-asked _ _ _ (ranges-let _ _ _ (c .before .before .before .ranges-number .ensures) (c .before .before .if1 .left))
+
+mul-if4 : tie.Need-mul-if4
+mul-if4 c = omega (arith, c .buckets-of .ensures, ranges-let _ _ _ (c .before .before .before .before .ranges-number .ensures) (c .before .before .before .if1 .left) .buckets-most)
+
+returns-4 : tie.Need-returns-4
+unfolding newNumber
+returns-4 c =
+    sym (ranges-go _ _ _ (c .before .before .before .before .before .ranges-number .ensures) (c .before .before .before .before .if1 .left) _
+    ∙ yes-ask 5 _ (eq-eqb _ _ (c .before .before .before .if2 .left))
+    ∙ yes-ask 5 _ (eq-eqb _ _ (c .before .before .if3 .left))
+    ∙ no-ask 5 _ (ne-eqb _ _ (rw (c .before .buckets-of .ensures) at (c .if4 .taken))))
+
+returns-5 : tie.Need-returns-5
+unfolding newNumber
+returns-5 c =
+    sym (ranges-go _ _ _ (c .before .before .before .before .before .ranges-number .ensures) (c .before .before .before .before .if1 .left) _
+    ∙ yes-ask 5 _ (eq-eqb _ _ (c .before .before .before .if2 .left))
+    ∙ yes-ask 5 _ (eq-eqb _ _ (c .before .before .if3 .left))
+    ∙ yes-ask 5 _ (eq-eqb _ _ (rw (c .before .buckets-of .ensures) at (c .if4 .left))))
+
 pub new-number-spec : {M : Type 1} → statement M
-unfolding newNumber ask
 new-number-spec =
     tie.close
     (tie.spec
-    (λ c. search gate)  -- returns
-    (λ c. search gate)  -- returns-2
-    (λ c. search gate)  -- returns-3
-    (λ c. search gate)  -- returns-4
-    (λ c κs. search needs)  -- buckets-of-requires
-    (λ c. simp (le-leb _ _ (c .before .before .before .before .before .if1 .left), le-leb _ _ (c .before .before .before .before .if2 .left), le-leb _ _ (c .before .before .before .if3 .left), le-leb _ _ (c .before .before .if4 .left), ← c .before .buckets-of .ensures, lt-leb _ _ (c .if5 .taken)))  -- returns-5
-    (λ c. simp (le-leb _ _ (c .before .before .before .before .before .before .if1 .left), le-leb _ _ (c .before .before .before .before .before .if2 .left), le-leb _ _ (c .before .before .before .before .if3 .left), le-leb _ _ (c .before .before .before .if4 .left), ← c .before .before .buckets-of .ensures, le-leb _ _ (c .before .if5 .left), ne-eqb _ _ (c .if6 .taken)))  -- returns-6
-    (λ c. simp (le-leb _ _ (c .before .before .before .before .before .before .before .if1 .left), le-leb _ _ (c .before .before .before .before .before .before .if2 .left), le-leb _ _ (c .before .before .before .before .before .if3 .left), le-leb _ _ (c .before .before .before .before .if4 .left), ← c .before .before .before .buckets-of .ensures, le-leb _ _ (c .before .before .if5 .left), eq-eqb _ _ (c .before .if6 .left), ne-eqb _ _ (c .if7 .taken)))  -- returns-7
-    (λ c. search needs)  -- mul-if8
-    (λ c. simp (le-leb _ _ (c .before .before .before .before .before .before .before .before .if1 .left), le-leb _ _ (c .before .before .before .before .before .before .before .if2 .left), le-leb _ _ (c .before .before .before .before .before .before .if3 .left), le-leb _ _ (c .before .before .before .before .before .if4 .left), ← c .before .before .before .before .buckets-of .ensures, le-leb _ _ (c .before .before .before .if5 .left), eq-eqb _ _ (c .before .before .if6 .left), eq-eqb _ _ (c .before .if7 .left), ne-eqb _ _ (c .if8 .taken)))  -- returns-8
-    (λ c. simp (le-leb _ _ (c .before .before .before .before .before .before .before .before .if1 .left), le-leb _ _ (c .before .before .before .before .before .before .before .if2 .left), le-leb _ _ (c .before .before .before .before .before .before .if3 .left), le-leb _ _ (c .before .before .before .before .before .if4 .left), ← c .before .before .before .before .buckets-of .ensures, le-leb _ _ (c .before .before .before .if5 .left), eq-eqb _ _ (c .before .before .if6 .left), eq-eqb _ _ (c .before .if7 .left), eq-eqb _ _ (c .if8 .left))))  -- returns-9
+    (λ c κs. search needs)  -- ranges-number-requires
+    returns
+    returns-2
+    returns-3
+    buckets-of-requires
+    mul-if4
+    returns-4
+    returns-5)

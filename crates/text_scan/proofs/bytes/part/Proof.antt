@@ -1,6 +1,6 @@
 -- `text_scan::bytes::part` meets its contract. Assumes nothing.
 use borrow.Author.Needs.{needs}
-use Rattle.text_scan.proofs.Parts.{part-cut}
+use Rattle.base.proofs.Cuts.{part-cut}
 use Rattle.text_scan.proofs.bytes.part.Statement.{statement}
 use Rattle.text_scan.proofs.bytes.part.Tie as tie
 

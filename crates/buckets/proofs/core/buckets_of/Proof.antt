@@ -1,9 +1,9 @@
--- `lag_rows::core::buckets_of` meets its contract. Assumes nothing.
+-- `buckets::core::buckets_of` meets its contract. Assumes nothing.
 use borrow.Author.Needs.{needs}
-use Rattle.lag_rows.proofs.Divisions.{buckets-cast, buckets-fit}
-use Rattle.rules_window.specs.Window.{bucketsOf}
-use Rattle.lag_rows.proofs.core.buckets_of.Statement.{statement}
-use Rattle.lag_rows.proofs.core.buckets_of.Tie as tie
+use Rattle.buckets.specs.Ranges.{bucketsOf}
+use Rattle.buckets.proofs.Divisions.{buckets-cast, buckets-fit}
+use Rattle.buckets.proofs.core.buckets_of.Statement.{statement}
+use Rattle.buckets.proofs.core.buckets_of.Tie as tie
 
 pub buckets-of-spec : {M : Type 1} → statement M
 unfolding bucketsOf

@@ -1,0 +1,2 @@
+-- The definitions that the contracts of `buckets` cite.
+pub mod Ranges
