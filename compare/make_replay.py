@@ -15,7 +15,7 @@ import subprocess
 import sys
 
 sys.dont_write_bytecode = True
-from replay import alone, supervisor
+from replay import alone, files, supervisor
 from replay.words import LINES, SECTIONS
 
 HERE = pathlib.Path(__file__).resolve().parent
@@ -25,7 +25,9 @@ CRATE = HERE.parent / "crates" / "supervise"
 
 def main():
     alone.calls()
+    files.reading()
     supervisor.calls()
+    files.writing()
     if sys.argv[1:] == ["--print"]:
         print("\n".join(LINES))
         return

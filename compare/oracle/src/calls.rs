@@ -7,6 +7,8 @@ use crate::random::{ms, Random, LATEST, SECOND};
 use std::collections::BTreeMap;
 use std::fmt::Write;
 
+mod files;
+
 pub struct Calls {
     pub r: Random,
     pub checked: Checked,
@@ -384,6 +386,7 @@ impl Calls {
                 27 if self.r.chance(20) => self.unwhole(now, i, &mut manner),
                 28 if self.r.chance(10) => self.bad_line(),
                 29 if self.r.chance(20) => self.fill(now, i, &mut manner),
+                30 if self.r.chance(50) => self.write(),
                 _ => {
                     let (looks, lags) = self.tick(now, &mut manner);
                     self.call(tick_line(now, &looks, &lags));
@@ -391,6 +394,11 @@ impl Calls {
             }
         }
         self.call("dump".into());
+        match self.r.below(4) {
+            0 => self.write(),
+            1 => self.load(),
+            _ => (),
+        }
     }
 
     /// A counter that reached 2^63 starts over.
@@ -807,7 +815,7 @@ impl Calls {
         };
         self.call(line);
         for _ in 0..self.r.pick(&[1, 2, 6]) {
-            match self.r.below(8) {
+            match self.r.below(9) {
                 0 => self.route(now, i, manner, true),
                 1 => self.update(now, i),
                 2 => self.status(i),
@@ -821,6 +829,7 @@ impl Calls {
                     self.call(format!("has {i} 1 1"));
                 }
                 6 => self.refused(now, manner),
+                7 => self.write(),
                 _ => {
                     let (looks, lags) = self.tick(now, manner);
                     self.call(tick_line(now, &looks, &lags));
@@ -875,10 +884,11 @@ impl Calls {
     // ---- calls alone
 
     fn alone(&mut self) {
-        match self.r.below(4) {
+        match self.r.below(5) {
             0 => self.windows(),
             1 => self.holds(),
             2 => self.helpers(),
+            3 => self.files(),
             _ => self.numbers(),
         }
     }

@@ -3,6 +3,7 @@
 //! Rust. So does a refused one where the Rust has an answer of its own for it (a
 //! missing input, a manual delay out of range, no proposal): it must refuse it too.
 use crate::driver::Driver;
+use crate::files;
 use crate::inputs::probe::{self, HoldFields, Second};
 use std::collections::BTreeSet;
 use std::sync::atomic::{AtomicBool, Ordering::Relaxed};
@@ -332,6 +333,7 @@ impl Checked {
                 self.exists(input)?;
                 ask(8, now <= LATEST)
             }
+            "dwrite1" => w.end().and(self.record(short)),
             name => self.alone(name, w, short),
         }
     }
@@ -563,6 +565,13 @@ impl Checked {
                 ask(6, whole_hold(&self.driver.hold.fields(), offset, max, bucket, window))?;
                 ask(8, now <= LATEST)?;
                 ask(15, current <= max && p999.is_none_or(|p| p <= offset + max + bucket))
+            }
+            "dread1" => {
+                let file = files::bytes_of(w.word()?).ok_or(BadLine)?;
+                w.end()?;
+                let entries = files::entries(&file).ok_or(Refused(19))?;
+                ask(5, !short)?;
+                ask(20, files::rise(&entries))
             }
             "co_set" => {
                 maybe(w.word()?, decimal)?;

@@ -2,6 +2,7 @@
 use crate::config::Config;
 use crate::coalesce::Coalesce;
 use crate::engine::Engine;
+use crate::files;
 use crate::inputs::probe::{self, bits, opt, Hold, HoldFields, Policy, Window};
 use crate::inputs::{AutoTag, ExtraDelay, InputConfig, Inputs, Route};
 use crate::mxlio::{self, Api, World};
@@ -120,6 +121,11 @@ impl Driver {
             "has" => self.has(w),
             "settled" => self.settled(w),
             "put" => self.put(w),
+            "dwrite1" => {
+                let (inputs, _, _) = self.sup.as_ref().expect("new first");
+                self.out.push_str("ok");
+                files::show_file(&files::file_of(probe::remembered(inputs)), &mut self.out);
+            }
             "dump" => {
                 self.out.push_str("ok");
                 self.show(None, true);
@@ -426,6 +432,10 @@ impl Driver {
                 let (current, now) = (num(w), num(w));
                 opt(out, self.hold.next(p999, lag, current, &policy, now));
                 self.hold.show(out, true);
+            }
+            "dread1" => {
+                let file = files::bytes_of(w.next().unwrap()).expect("hex");
+                files::show_entries(&files::entries(&file).expect("a delay file"), out);
             }
             "co_set" => self.coalesce.due = maybe(w.next().unwrap()).map(Instant),
             "co_changed" => {

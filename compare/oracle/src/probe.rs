@@ -171,6 +171,11 @@ pub fn seconds_of(inputs: &Inputs, i: usize) -> Vec<Second> {
     seconds(&inputs.slots[i].lag)
 }
 
+/// The remembered delays, by their flows' bytes.
+pub fn remembered(inputs: &Inputs) -> Vec<([u8; 16], u32)> {
+    inputs.last_delays.iter().map(|(flow, delay)| (flow.0.to_be_bytes(), *delay)).collect()
+}
+
 pub fn ms_of(n: u32) -> f64 {
     ms(n)
 }

@@ -11,12 +11,12 @@ ghost use Rattle.rules_record.specs.Inputs.{slotAt};
 ghost use Rattle.rules_record.specs.Lent.{lists};
 ghost use Rattle.inputs_window.specs.Windows.{windowIn};
 ghost use Rattle.rules_record.specs.WholeRecord.{wholeInput, wholeInputs, wholeRecord};
-ghost use Rattle.rules_record.specs.Checks.{listsFit, commandsFit, Fitting};
+ghost use Rattle.rules_record.specs.Checks.{listsFit, outputFits, Fitting};
 use delay_hold::DelayHold;
 use lag_window::LagWindow;
 use policy::DelayPolicy;
-use rules_record::Commands;
 use rules_record::Inputs;
+use rules_record::Output;
 use rules_record::Slot;
 
 // Has each lent list its exact length, for n inputs and so many buckets a second (check 5)?
@@ -47,15 +47,16 @@ pub fn lists_fit(
     peaks.len() == n * DelayHold::PLACES
 }
 
-// The commands have 12 words an input, where the call takes them (check 5).
-pub fn commands_fit(n: usize, commands: Commands) -> bool
+// The list that a call writes to has its exact length: commands 12 words an input, bytes as many as the call asks (check 5).
+pub fn output_fits(n: usize, output: Output) -> bool
     requires { ⌜ n ≤ 16 ⌝ }
-    ensures { λ r. ⌜ r ≡ commandsFit n commands ⌝ }
+    ensures { λ r. ⌜ r ≡ outputFits n output ⌝ }
 {
-    let Commands::Words(words) = commands else {
-        return true;
-    };
-    words == n * 12
+    match output {
+        Output::Absent => true,
+        Output::Words(words) => words == n * 12,
+        Output::Bytes(bytes, exact) => bytes == exact,
+    }
 }
 
 // Input i: its seconds, its peaks with seed and timer, and the rest of its slot. Each count is read once, but in a row with a count of 2^20 or more. Only what is read is handed on:

@@ -4,8 +4,8 @@ ghost use Rattle.rules_record.specs.Sized.{Sized};
 ghost use Rattle.rules_record.specs.Lent.{lists};
 ghost use Rattle.rules_record.specs.Checks.{inputsAllowed, pausesAllowed, recordNumber, timedNumber};
 use policy::DelayPolicy;
-use rules_record::Commands;
 use rules_record::Inputs;
+use rules_record::Output;
 
 // Functions that ask something of their caller; the crates above use them after their checks.
 pub mod core;
@@ -37,9 +37,9 @@ fn first_refused(
     counts: &[u32],
     times: &[u64],
     peaks: &[u32],
-    commands: Commands,
+    output: Output,
 ) -> u32
-    ensures { λ r. ⌜ r ≡ recordNumber inputs (lists (now (starts .entry)) (now (totals .entry)) (now (counts .entry)) (now (times .entry)) (now (peaks .entry))) commands 0 ⌝ }
+    ensures { λ r. ⌜ r ≡ recordNumber inputs (lists (now (starts .entry)) (now (totals .entry)) (now (counts .entry)) (now (times .entry)) (now (peaks .entry))) output 0 ⌝ }
 {
     if !inputs_allowed(inputs.count) {
         return 1;
@@ -59,7 +59,7 @@ fn first_refused(
     if !core::lists_fit(inputs.count, buckets, starts, totals, counts, times, peaks) {
         return 5;
     }
-    if !core::commands_fit(inputs.count, commands) {
+    if !core::output_fits(inputs.count, output) {
         return 5;
     }
     if !core::whole(inputs, starts, totals, counts, times, peaks) {
@@ -76,12 +76,12 @@ pub fn checks(
     counts: &[u32],
     times: &[u64],
     peaks: &[u32],
-    commands: Commands,
+    output: Output,
 ) -> u32
-    ensures { λ r. ⌜ r ≡ recordNumber inputs (lists (now (starts .entry)) (now (totals .entry)) (now (counts .entry)) (now (times .entry)) (now (peaks .entry))) commands 0 ⌝ }
+    ensures { λ r. ⌜ r ≡ recordNumber inputs (lists (now (starts .entry)) (now (totals .entry)) (now (counts .entry)) (now (times .entry)) (now (peaks .entry))) output 0 ⌝ }
     ensures { λ _. ⌜ Sized inputs ⌝ }
 {
-    first_refused(inputs, starts, totals, counts, times, peaks, commands)
+    first_refused(inputs, starts, totals, counts, times, peaks, output)
 }
 
 // The number of the first of checks 1 to 8 that says no, or 0, of a call on one input that takes so many words of commands.
@@ -105,7 +105,7 @@ pub fn input_checks(
         counts,
         times,
         peaks,
-        Commands::Words(words),
+        Output::Words(words),
     );
     if number != 0 {
         return number;

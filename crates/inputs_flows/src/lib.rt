@@ -11,6 +11,9 @@ use rules_record::Remembered;
 use rules_record::Routed;
 use rules_record::Slot;
 
+// Functions that ask something of their caller; the crates above use them where the bytes are there.
+pub mod core;
+
 // Are these the same 16 bytes?
 pub fn same(a: Flow, b: Flow) -> bool
     ensures { λ r. ⌜ r ≡ sameFlow a b ⌝ }

@@ -10,13 +10,13 @@ ghost use Rattle.rules_calls.specs.NewChecks.{marginFits, settingsNumber};
 ghost use Rattle.rules_calls.specs.NewReply.{newReply};
 use policy::DelayPolicy;
 use rules_calls::Settings;
-use rules_record::Commands;
 use rules_record::ExtraDelay;
 use rules_record::Flow;
 use rules_record::FlowEntry;
 use rules_record::Inputs;
 use rules_record::InputsAnswer;
 use rules_record::Instance;
+use rules_record::Output;
 use rules_record::Remembered;
 
 mod loading;
@@ -159,7 +159,7 @@ fn settings_number(
     ) {
         return 5;
     }
-    if !inputs_checks::core::commands_fit(settings.count, Commands::Words(words)) {
+    if !inputs_checks::core::output_fits(settings.count, Output::Words(words)) {
         return 5;
     }
     if !bytes_fit(bytes, delays) {

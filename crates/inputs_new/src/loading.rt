@@ -3,7 +3,7 @@ ghost use mathlib.Core.Path.{_≡_};
 ghost use mathlib.Core.Bool.{true};
 ghost use Prim.Native.Nat.{_+_, _*_, _<_, _≤_};
 ghost use lib.ListN.{length};
-ghost use Rattle.rules_calls.specs.NewLoading.{bytesAt, loadedFlow, loadedOne, loadedBelow, loadFits};
+ghost use Rattle.rules_calls.specs.NewLoading.{loadedFlow, loadedOne, loadedBelow, loadFits};
 use rules_record::Flow;
 use rules_record::Inputs;
 
@@ -13,37 +13,12 @@ pub(crate) struct Loaded {
     pub inputs: Inputs,
 }
 
-// One byte more, weighing least.
-fn joined(high: u64, byte: u8) -> u64
-    requires { ⌜ high < 72057594037927936 ⌝ }
-    ensures { λ r. ⌜ (r ≡ high * 256 + byte) × (r < (high + 1) * 256) ⌝ }
-{
-    high * 256 + byte as u64
-}
-
-// The number that 8 bytes from a place on make, the first weighing most.
-fn bytes_at(bytes: &[u8], place: usize) -> u64
-    requires { ⌜ place + 8 ≤ length (now bytes) ⌝ }
-    ensures { λ r. ⌜ r ≡ bytesAt (now (bytes .entry)) place 8 ⌝ }
-{
-    let mut value: u64 = 0;
-    let mut n: usize = 0;
-    while n < 8 {
-        value = joined(value, bytes[place + n]);
-        n += 1;
-    }
-    value
-}
-
 // The flow of loaded delay k.
 fn flow_of(bytes: &[u8], k: usize) -> Flow
     requires { ⌜ k * 16 + 16 ≤ length (now bytes) ⌝ }
     ensures { λ r. ⌜ r ≡ loadedFlow (now (bytes .entry)) k ⌝ }
 {
-    let place = k * 16;
-    let high = bytes_at(bytes, place);
-    let low = bytes_at(bytes, place + 8);
-    Flow { high, low }
+    inputs_flows::core::flow_from(bytes, k * 16)
 }
 
 // The flow is enrolled, and the delay is remembered for it.

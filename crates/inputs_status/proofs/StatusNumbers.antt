@@ -5,7 +5,7 @@ use borrow.Author.Tests.{leb-true}
 use Rattle.base.proofs.Choices.{asked}
 use Rattle.rules_record.specs.declared.Inputs.{Inputs}
 use Rattle.rules_record.specs.Sized.{Sized}
-use Rattle.rules_record.specs.declared.Commands.the-variants.{Absent}
+use Rattle.rules_record.specs.declared.Output.the-variants.{Absent}
 use Rattle.rules_record.specs.Lent.{Lists}
 use Rattle.rules_record.proofs.Checked.{checked}
 use Rattle.rules_record.proofs.InputNumbers.{input-told}

@@ -2,7 +2,7 @@
 ghost use mathlib.Core.Path.{_≡_};
 ghost use Rattle.rules_record.specs.Sized.{Sized};
 ghost use Rattle.rules_record.specs.Lent.{lists};
-ghost use Rattle.rules_record.specs.declared.Commands.the-variants.{Absent};
+ghost use Rattle.rules_record.specs.declared.Output.the-variants.{Absent};
 ghost use Rattle.rules_record.specs.Checks.{inputNumber};
 ghost use Rattle.rules_calls.specs.StatusChecks.{statusNumber, channelsNumber, settledNumber};
 ghost use Rattle.rules_calls.specs.Status.{noStatus, statusReply};
@@ -14,9 +14,9 @@ use rules_calls::InputStatus;
 use rules_calls::Milliseconds;
 use rules_calls::Sourced;
 use rules_record::AutoTag;
-use rules_record::Commands;
 use rules_record::ExtraDelay;
 use rules_record::Inputs;
+use rules_record::Output;
 use rules_record::Slot;
 
 mod shown;
@@ -45,7 +45,7 @@ fn input_number(
         counts,
         times,
         peaks,
-        Commands::Absent,
+        Output::Absent,
     );
     if number != 0 {
         return number;

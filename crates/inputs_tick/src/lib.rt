@@ -5,9 +5,9 @@ ghost use Rattle.rules_record.specs.Lent.{lists};
 ghost use Rattle.rules_tick.specs.TickChecks.{tickNumber};
 ghost use Rattle.rules_tick.specs.TickAnswer.{told};
 ghost use Rattle.rules_tick.specs.TickLeaves.{tickLeaves};
-use rules_record::Commands;
 use rules_record::Extra;
 use rules_record::Inputs;
+use rules_record::Output;
 pub use rules_tick::Look;
 pub use rules_tick::TickAnswer;
 
@@ -37,7 +37,7 @@ fn tick_number(
         counts,
         times,
         peaks,
-        Commands::Words(words),
+        Output::Words(words),
     );
     if number != 0 {
         return number;

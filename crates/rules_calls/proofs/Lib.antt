@@ -21,5 +21,6 @@ pub mod NewBlank
 pub mod NewReplies
 pub mod NewLoaded
 pub mod NewLoops
+pub mod NewPlaces
 pub mod NewNumbers
 pub mod NewStarted

@@ -32,12 +32,12 @@ use Rattle.rules_record.specs.Facts.{Checked}
 use Rattle.rules_routing.proofs.SettingsKept.{underSettings, SameSettings}
 use Rattle.rules_calls.specs.declared.Settings.{Settings}
 use Rattle.rules_calls.specs.NewRecord.{policyOf, blank, blankFor}
-use Rattle.rules_calls.specs.NewLoading.{loadedFlow, loadFits}
+use Rattle.rules_calls.specs.NewLoading.{loadedFlow, loadFits, Remembers}
 use Rattle.rules_calls.specs.NewStart.{kindAt, zeroedLists, loaded, started, startedBelow}
 use Rattle.rules_calls.specs.NewChecks.{marginFits, settingsNumber, newNumber}
 use Rattle.rules_calls.proofs.NewBlank.{shared-margins, blank-slot, blank-checked, zeroed-starts, zeroed-totals, zeroed-counts, zeroed-times, zeroed-lags}
 use Rattle.rules_calls.proofs.NewNumbers.{number-told, settings-asked}
-use Rattle.rules_calls.proofs.NewLoaded.{Remembers, loaded-rest, loads-below, loaded-keeps, loaded-last}
+use Rattle.rules_calls.proofs.NewLoaded.{loaded-rest, loads-below, loaded-keeps, loaded-last}
 use Rattle.rules_calls.proofs.NewStarted.{startedSlot, manualWords, below-rest, below-slot, below-words, below-keeps}
 
 -- ---- what number 0 says

@@ -21,13 +21,13 @@ use Rattle.rules_record.proofs.FlowTable.{enrolled-within, enrolled-more, enrol
 use Rattle.rules_record.specs.Lent.{Lists}
 use Rattle.rules_record.specs.Facts.{Checked}
 use Rattle.rules_record.proofs.Tables.{enrol-keeps, remember-keeps, mark-keeps}
-use Rattle.rules_calls.specs.NewLoading.{loadedFlow, loadedOne, loadedBelow, loadFits}
+use Rattle.rules_calls.specs.NewLoading.{loadedFlow, loadedOne, loadedBelow, loadFits, Remembers}
 
-entry-flow : (s z : Inputs) (place : ℕ) → entryAt s place ≡ entryAt z place → flowAt s place ≡ flowAt z place
+pub entry-flow : (s z : Inputs) (place : ℕ) → entryAt s place ≡ entryAt z place → flowAt s place ≡ flowAt z place
 unfolding flowAt
 entry-flow s z place e = ap (λ (x : FlowEntry). x .flow) e
 
-entry-delay : (s z : Inputs) (place : ℕ) → entryAt s place ≡ entryAt z place → recalled s place ≡ recalled z place
+pub entry-delay : (s z : Inputs) (place : ℕ) → entryAt s place ≡ entryAt z place → recalled s place ≡ recalled z place
 unfolding recalled
 entry-delay s z place e = ap (λ (x : FlowEntry). x .remembered) e
 
@@ -63,13 +63,6 @@ module _ (s : Inputs) (place delay : ℕ) where
   kept-keeps l c h = subst (λ (z : Inputs). Checked z l) (sym unmarked) (mark-keeps (remembered s place delay) l (remember-keeps s l c place delay h) (s .unsaved))
 
 -- ---- one loaded delay
--- a known flow has this delay
-pub record Remembers (s : Inputs) (flow : Flow) (delay : ℕ) : Type 0 where
-  pub place : ℕ
-  pub known : place < s .«flow_count»
-  pub holds : flowAt s place ≡ flow
-  pub has : recalled s place ≡ Delay delay
-
 module _ (s : Inputs) (flow : Flow) (delay : ℕ) where
   -- only the flow table changes, and the unsaved mark stays
   pub loaded-one-rest : loadedOne flow delay s ≡ withFlows s (loadedOne flow delay s .flows) (enrolled s flow .«flow_count») (s .unsaved)

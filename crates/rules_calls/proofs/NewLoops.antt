@@ -1,14 +1,13 @@
--- The loops of `new`: the bytes of a flow, the loaded delays, the inputs. Assumes nothing.
-use Prim.Native.Nat.{ℕ, suc, _+_, _*_, _/_, _%_, _^_, _<_, _≤_, min}
+-- The loops of `new`: the loaded delays, the inputs. Assumes nothing.
+use Prim.Native.Nat.{ℕ, suc, _+_, _*_, _/_, _%_, _<_, _≤_, min}
 use mathlib.Core.Bool.{Bool, true, false}
 use mathlib.Core.Path.{_≡_, refl, sym, ap, subst, _∙_}
 use mathlib.Core.List.{List}
-use native.Mathlib.Nat.{le-antisymm, mul-le-mul-right}
+use native.Mathlib.Nat.{le-antisymm}
 use native.Mathlib.Numerals.{add-one}
 use native.Mathlib.Omega.{arith}
 use lib.Dec.{eqb}
 use lib.Ieee.{Float}
-use lib.Pow.{pow-mono, pow-add}
 use lib.ListN.{length, getD, length-append}
 use lib.Seq.{sets}
 use borrow.Author.Tests.{eq-eqb, ne-eqb, eqb-true, eqb-false}
@@ -29,7 +28,7 @@ use Rattle.rules_record.specs.declared.Sent.{Sent}
 use Rattle.rules_record.specs.Commands.{Done, Did, sendFirst}
 use Rattle.rules_record.proofs.Sending.{did-by, did-quiet}
 use Rattle.rules_routing.specs.SetDelay.{setDelayOf}
-use Rattle.rules_calls.specs.NewLoading.{bytesAt, loadedFlow, loadedOne, loadedBelow, loadFits}
+use Rattle.rules_calls.specs.NewLoading.{loadedFlow, loadedOne, loadedBelow, loadFits}
 use Rattle.rules_calls.specs.NewStart.{kindAt, madeAt, startedOne, startedBelow}
 
 -- ---- 16 bytes to each delay
@@ -41,41 +40,6 @@ bytes-even bytes delays h =
     by-bool (eqb (bytes / 16) delays)
     (λ e. let q : bytes / 16 ≡ delays = eqb-true _ _ e in e ∙ sym (eq-eqb bytes (delays * 16) (omega arith)))
     (λ e. e ∙ sym (ne-eqb bytes (delays * 16) (λ (q : bytes ≡ delays * 16). eqb-false (bytes / 16) delays e (omega arith))))
-
--- ---- the bytes of a number
--- the number of the first n bytes, which is below 2 to the 8 n
-pub record Reading (bytes : List ℕ) (place n value : ℕ) : Type 0 where
-  pub within : n ≤ 8
-  pub number : value ≡ bytesAt bytes place n
-  pub small : value < 2 ^ (8 * n)
-
-power-more : (n value more : ℕ) → value < 2 ^ (8 * n) → more < (value + 1) * 256 → more < 2 ^ (8 * suc n)
-power-more n value more h k =
-    let e : 8 * suc n ≡ 8 * n + 8 = omega arith in
-    rw (e, pow-add 2 (8 * n) 8) (omega (arith, mul-le-mul-right {m = value + 1} {n = 2 ^ (8 * n)} 256 (omega arith)))
-
-power-most : (n : ℕ) → n < 8 → 2 ^ (8 * n) ≤ 2 ^ 56
-power-most n h = pow-mono {i = 8 * n} {j = 56} (omega arith)
-
-module _ (bytes : List ℕ) (place : ℕ) where
-  pub reading-none : Reading bytes place 0 0
-  unfolding bytesAt
-  reading-none = record { within = omega arith; number = refl; small = omega arith }
-
-  module _ {n value : ℕ} (inv : Reading bytes place n value) where
-    pub reading-room : n < 8 → value < 72057594037927936
-    reading-room h = omega (arith, inv .small, power-most n h)
-
-    pub reading-more : n < 8 → {more : ℕ} → (more ≡ value * 256 + getD bytes (place + n) 0) × (more < (value + 1) * 256) → Reading bytes place (n + 1) more
-    unfolding bytesAt
-    reading-more h {more} e = record {
-      within = omega arith;
-      number = e .0 ∙ ap (λ (v : ℕ). v * 256 + getD bytes (place + n) 0) (inv .number) ∙ ap (bytesAt bytes place) (sym (add-one n));
-      small = rw (add-one n) (power-more n value more (inv .small) (e .1));
-    }
-
-    pub reading-end : 8 ≤ n → value ≡ bytesAt bytes place 8
-    reading-end h = inv .number ∙ ap (bytesAt bytes place) (le-antisymm (inv .within) h)
 
 -- ---- the loaded delays
 pub loaded-by : (s : Inputs) (flow : Flow) (delay : ℕ) {all kept-one : Inputs} {place : ℕ} → all ≡ enrolled s flow → place ≡ flowPlace all flow → kept-one ≡ kept all place delay → kept-one ≡ loadedOne flow delay s

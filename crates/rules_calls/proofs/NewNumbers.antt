@@ -11,8 +11,8 @@ use Rattle.base.proofs.Choices.{yes-ask, no-ask, asked, same-refusal, by-zero}
 use Rattle.buckets.specs.Ranges.{Ranged}
 use Rattle.buckets.proofs.Told.{ranges-told, ranges-passed, same-ranges}
 use Rattle.rules_record.specs.Lent.{Lists, bucketsIn}
-use Rattle.rules_record.specs.declared.Commands.the-variants.{Words}
-use Rattle.rules_record.specs.Checks.{inputsAllowed, pausesAllowed, listsFit, commandsFit}
+use Rattle.rules_record.specs.declared.Output.the-variants.{Words}
+use Rattle.rules_record.specs.Checks.{inputsAllowed, pausesAllowed, listsFit, outputFits}
 use Rattle.rules_calls.specs.declared.Settings.{Settings}
 use Rattle.rules_calls.specs.NewRecord.{blankFor, policyOf}
 use Rattle.rules_calls.specs.NewLoading.{loadFits}
@@ -31,7 +31,7 @@ module _ (settings : Settings) (bytes delays : ℕ) (l : Lists) (words : ℕ) wh
       × (pausesAllowed (policyOf settings) (settings .stall) ≡ true)
       × (marginFits settings ≡ true)
       × (listsFit (settings .count) (bucketsIn (blankFor settings)) l ≡ true)
-      × (commandsFit (settings .count) (Words words) ≡ true)
+      × (outputFits (settings .count) (Words words) ≡ true)
       × (eqb bytes (delays * 16) ≡ true)
       × (rest ≡ 0)
   unfolding settingsNumber

@@ -21,9 +21,9 @@ use Rattle.rules_record.specs.declared.ExtraDelay.{ExtraDelay}
 use Rattle.rules_record.specs.declared.Inputs.{Inputs}
 use Rattle.rules_record.specs.declared.Sent.{Sent}
 use Rattle.rules_record.specs.Commands.{Did}
-use Rattle.rules_record.specs.declared.Commands.the-variants.{Words}
+use Rattle.rules_record.specs.declared.Output.the-variants.{Words}
 use Rattle.rules_record.specs.Lent.{Lists, bucketsIn}
-use Rattle.rules_record.specs.Checks.{inputsAllowed, pausesAllowed, listsFit, commandsFit}
+use Rattle.rules_record.specs.Checks.{inputsAllowed, pausesAllowed, listsFit, outputFits}
 use Rattle.rules_record.specs.Effects.{beside}
 use Rattle.rules_record.specs.Reply.{Reply}
 use Rattle.rules_record.proofs.Replies.{reply-refused, reply-accepted}
@@ -78,11 +78,11 @@ module _ (settings : Settings) (bytes delays : ℕ) (l : Lists) (words : ℕ) wh
           refused-lists h = sym (yes-ask 1 _ one ∙ ranges-passed _ _ _ ranged _ ∙ yes-ask 3 _ (three-is three) ∙ yes-ask 4 _ four ∙ no-ask 5 _ (five-is h))
 
           module _ (five : listsFit (settings .count) buckets l ≡ true) where
-            pub refused-words : commandsFit (settings .count) (Words words) ≡ false → 5 ≡ settingsNumber settings bytes delays l words 0
+            pub refused-words : outputFits (settings .count) (Words words) ≡ false → 5 ≡ settingsNumber settings bytes delays l words 0
             unfolding settingsNumber
             refused-words h = sym (yes-ask 1 _ one ∙ ranges-passed _ _ _ ranged _ ∙ yes-ask 3 _ (three-is three) ∙ yes-ask 4 _ four ∙ yes-ask 5 _ (five-is five) ∙ no-ask 5 _ h)
 
-            module _ (fit : commandsFit (settings .count) (Words words) ≡ true) where
+            module _ (fit : outputFits (settings .count) (Words words) ≡ true) where
               passed-words : (rest : ℕ) → settingsNumber settings bytes delays l words rest ≡ ask 5 (eqb bytes (delays * 16)) rest
               unfolding settingsNumber
               passed-words rest = yes-ask 1 _ one ∙ ranges-passed _ _ _ ranged _ ∙ yes-ask 3 _ (three-is three) ∙ yes-ask 4 _ four ∙ yes-ask 5 _ (five-is five) ∙ yes-ask 5 _ fit

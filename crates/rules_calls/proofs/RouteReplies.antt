@@ -20,12 +20,12 @@ use Rattle.rules_record.proofs.SlotFrame.{slot-put}
 use Rattle.rules_record.specs.declared.Sent.{Sent}
 use Rattle.rules_record.specs.Commands.{Done, Did}
 use Rattle.rules_routing.specs.declared.World.{World}
-use Rattle.rules_record.specs.declared.Commands.the-variants.{Words}
+use Rattle.rules_record.specs.declared.Output.the-variants.{Words}
 use Rattle.rules_record.specs.Lent.{Lists}
 use Rattle.rules_record.specs.Checks.{Fitting}
 use Rattle.rules_record.specs.Effects.{Effect, silent, beside, followedBy}
 use Rattle.rules_record.specs.Reply.{Reply}
-use Rattle.rules_record.proofs.Checked.{checked-commands}
+use Rattle.rules_record.proofs.Checked.{checked-output}
 use Rattle.rules_record.proofs.Numbers.{input-told, record-whole, call-fitting, call-input, call-low}
 use Rattle.rules_record.proofs.Replies.{reply-refused, reply-accepted}
 use Rattle.rules_routing.specs.Clear.{clearedSlot, cleared}
@@ -74,7 +74,7 @@ module _ (s : Inputs) (l : Lists) (commands : List ℕ) (input : ℕ) (wanted : 
     unfolding routeNumber
     room =
         let told = input-told s l (length commands) input time _ (sym is-number ∙ passed) in
-        omega (arith, eqb-true (length commands) (s .count * 12) (checked-commands s l (Words (length commands)) (told .0)), fitting .allowed .least)
+        omega (arith, eqb-true (length commands) (s .count * 12) (checked-output s l (Words (length commands)) (told .0)), fitting .allowed .least)
 
     few : slotAt s input .reopens < counterLimit
     unfolding routeNumber

@@ -22,7 +22,7 @@ use Rattle.delay_hold.specs.Steps5To8.{heldSince}
 use Rattle.rules_record.specs.declared.Slot.{Slot}
 use Rattle.rules_record.specs.declared.Inputs.{Inputs}
 use Rattle.rules_record.specs.States.{stateNumber}
-use Rattle.rules_record.specs.declared.Commands.the-variants.{Absent}
+use Rattle.rules_record.specs.declared.Output.the-variants.{Absent}
 use Rattle.rules_record.specs.Lent.{Lists}
 use Rattle.rules_record.proofs.Checked.{of-checked}
 use Rattle.rules_record.specs.Facts.{Checked}

@@ -8,9 +8,9 @@ use Rattle.base.specs.Choice.{both, ask}
 use Rattle.base.specs.Limits.{timely, samplesLimit}
 use Rattle.buckets.specs.Ranges.{rangesNumber}
 use Rattle.policy.specs.Settings.{percentAllowed}
-use Rattle.rules_record.specs.declared.Commands.the-variants.{Words}
+use Rattle.rules_record.specs.declared.Output.the-variants.{Words}
 use Rattle.rules_record.specs.Lent.{Lists, bucketsIn}
-use Rattle.rules_record.specs.Checks.{inputsAllowed, pausesAllowed, listsFit, commandsFit}
+use Rattle.rules_record.specs.Checks.{inputsAllowed, pausesAllowed, listsFit, outputFits}
 use Rattle.rules_calls.specs.declared.Settings.{Settings}
 use Rattle.rules_calls.specs.NewRecord.{policyOf, blankFor}
 use Rattle.rules_calls.specs.NewLoading.{loadFits}
@@ -28,7 +28,7 @@ settingsNumber settings bytes delays l words rest =
     (ask 3 (pausesAllowed (policyOf settings) (settings .stall))
     (ask 4 (marginFits settings)
     (ask 5 (listsFit (settings .count) (bucketsIn (blankFor settings)) l)
-    (ask 5 (commandsFit (settings .count) (Words words))
+    (ask 5 (outputFits (settings .count) (Words words))
     -- "for `new`, 16 flow bytes to each loaded delay, of any number"
     (ask 5 (eqb bytes (delays * 16)) rest))))))
 

@@ -4,7 +4,7 @@ use lib.Dec.{leb}
 use Rattle.base.specs.Choice.{ask}
 use Rattle.base.specs.Limits.{timely}
 use Rattle.rules_record.specs.declared.Inputs.{Inputs}
-use Rattle.rules_record.specs.declared.Commands.the-variants.{Absent}
+use Rattle.rules_record.specs.declared.Output.the-variants.{Absent}
 use Rattle.rules_record.specs.Lent.{Lists}
 use Rattle.rules_record.specs.Checks.{inputNumber}
 

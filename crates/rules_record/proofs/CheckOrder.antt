@@ -12,59 +12,59 @@ use Rattle.buckets.specs.Ranges.{reachesAllowed, widthAllowed, bucketsFew, rang
 use Rattle.buckets.proofs.Told.{ranges-passed, reaches-first, width-next, buckets-last}
 use Rattle.policy.specs.Settings.{marginsAllowed}
 use Rattle.rules_record.specs.declared.Inputs.{Inputs}
-use Rattle.rules_record.specs.declared.Commands.{Commands}
+use Rattle.rules_record.specs.declared.Output.{Output}
 use Rattle.rules_record.specs.Lent.{Lists, bucketsIn, bucketsFor}
 use Rattle.rules_record.specs.WholeRecord.{wholeRecord}
-use Rattle.rules_record.specs.Checks.{inputsAllowed, pausesAllowed, listsFit, commandsFit, recordNumber, ownNumber}
+use Rattle.rules_record.specs.Checks.{inputsAllowed, pausesAllowed, listsFit, outputFits, recordNumber, ownNumber}
 
 -- "Asked in this order ..; a no ends it with that number"
-module _ (s : Inputs) (l : Lists) (commands : Commands) (rest : ℕ) where
+module _ (s : Inputs) (l : Lists) (output : Output) (rest : ℕ) where
   -- 1 before 2
-  pub inputs-before-ranges : inputsAllowed (s .count) ≡ false → recordNumber s l commands rest ≡ 1
+  pub inputs-before-ranges : inputsAllowed (s .count) ≡ false → recordNumber s l output rest ≡ 1
   unfolding recordNumber
   inputs-before-ranges no-inputs = no-ask 1 _ no-inputs
 
   module _ (inputs : inputsAllowed (s .count) ≡ true) where
     -- 2 before 17, 17 before 18, 18 before 3
-    pub reaches-before-width : reachesAllowed (s .policy .«read_offset») (s .policy .«delay_max») ≡ false → recordNumber s l commands rest ≡ 2
+    pub reaches-before-width : reachesAllowed (s .policy .«read_offset») (s .policy .«delay_max») ≡ false → recordNumber s l output rest ≡ 2
     unfolding recordNumber
     reaches-before-width far = yes-ask 1 _ inputs ∙ reaches-first _ _ _ _ far
 
     module _ (near : reachesAllowed (s .policy .«read_offset») (s .policy .«delay_max») ≡ true) where
-      pub width-before-buckets : widthAllowed (s .width) ≡ false → recordNumber s l commands rest ≡ 17
+      pub width-before-buckets : widthAllowed (s .width) ≡ false → recordNumber s l output rest ≡ 17
       unfolding recordNumber
       width-before-buckets outside = yes-ask 1 _ inputs ∙ width-next _ _ _ _ near outside
 
-      pub buckets-before-pauses : widthAllowed (s .width) ≡ true → bucketsFew (bucketsFor (s .policy) (s .width)) ≡ false → recordNumber s l commands rest ≡ 18
+      pub buckets-before-pauses : widthAllowed (s .width) ≡ true → bucketsFew (bucketsFor (s .policy) (s .width)) ≡ false → recordNumber s l output rest ≡ 18
       unfolding recordNumber
       buckets-before-pauses inside many = yes-ask 1 _ inputs ∙ buckets-last _ _ _ _ near inside many
 
     module _ (ranged : Ranged (s .policy .«read_offset») (s .policy .«delay_max») (s .width)) where
       -- 3 before 4
-      pub pauses-before-margins : pausesAllowed (s .policy) (s .stall) ≡ false → recordNumber s l commands rest ≡ 3
+      pub pauses-before-margins : pausesAllowed (s .policy) (s .stall) ≡ false → recordNumber s l output rest ≡ 3
       unfolding recordNumber
       pauses-before-margins no-pauses = yes-ask 1 _ inputs ∙ ranges-passed _ _ _ ranged _ ∙ no-ask 3 _ no-pauses
 
       module _ (pauses : pausesAllowed (s .policy) (s .stall) ≡ true) where
         -- 4 before 5
-        pub margins-before-lists : marginsAllowed (s .policy) ≡ false → recordNumber s l commands rest ≡ 4
+        pub margins-before-lists : marginsAllowed (s .policy) ≡ false → recordNumber s l output rest ≡ 4
         unfolding recordNumber
         margins-before-lists no-margins = yes-ask 1 _ inputs ∙ ranges-passed _ _ _ ranged _ ∙ yes-ask 3 _ pauses ∙ no-ask 4 _ no-margins
 
         module _ (margins : marginsAllowed (s .policy) ≡ true) where
-          -- 5, of the lent lists and of the commands, before 6
-          pub lists-before-record : listsFit (s .count) (bucketsIn s) l ≡ false → recordNumber s l commands rest ≡ 5
+          -- 5, of the lent lists and of the list that the call writes to, before 6
+          pub lists-before-record : listsFit (s .count) (bucketsIn s) l ≡ false → recordNumber s l output rest ≡ 5
           unfolding recordNumber
           lists-before-record no-lists = yes-ask 1 _ inputs ∙ ranges-passed _ _ _ ranged _ ∙ yes-ask 3 _ pauses ∙ yes-ask 4 _ margins ∙ no-ask 5 _ no-lists
 
           module _ (lists : listsFit (s .count) (bucketsIn s) l ≡ true) where
-            pub commands-before-record : commandsFit (s .count) commands ≡ false → recordNumber s l commands rest ≡ 5
+            pub output-before-record : outputFits (s .count) output ≡ false → recordNumber s l output rest ≡ 5
             unfolding recordNumber
-            commands-before-record no-commands =
-                yes-ask 1 _ inputs ∙ ranges-passed _ _ _ ranged _ ∙ yes-ask 3 _ pauses ∙ yes-ask 4 _ margins ∙ yes-ask 5 _ lists ∙ no-ask 5 _ no-commands
+            output-before-record no-output =
+                yes-ask 1 _ inputs ∙ ranges-passed _ _ _ ranged _ ∙ yes-ask 3 _ pauses ∙ yes-ask 4 _ margins ∙ yes-ask 5 _ lists ∙ no-ask 5 _ no-output
 
             -- 6 before those after it
-            pub record-before-rest : commandsFit (s .count) commands ≡ true → wholeRecord s l ≡ false → recordNumber s l commands rest ≡ 6
+            pub record-before-rest : outputFits (s .count) output ≡ true → wholeRecord s l ≡ false → recordNumber s l output rest ≡ 6
             unfolding recordNumber
             record-before-rest fits broken =
                 yes-ask 1 _ inputs ∙ ranges-passed _ _ _ ranged _ ∙ yes-ask 3 _ pauses ∙ yes-ask 4 _ margins ∙ yes-ask 5 _ lists ∙ yes-ask 5 _ fits ∙ no-ask 6 _ broken
@@ -109,7 +109,7 @@ own-ranges : (offset maximum width : ℕ) {rest : ℕ} → ((rest ≡ 0 → ⊥)
 unfolding rangesNumber ownNumber
 own-ranges offset maximum width later = own-ask 2 _ refl (own-ask 17 _ refl (own-ask 18 _ refl later))
 
-pub own-answers : (s : Inputs) (l : Lists) (commands : Commands) → (recordNumber s l commands 0 ≡ 0 → ⊥) → ownNumber (recordNumber s l commands 0) ≡ true
+pub own-answers : (s : Inputs) (l : Lists) (output : Output) → (recordNumber s l output 0 ≡ 0 → ⊥) → ownNumber (recordNumber s l output 0) ≡ true
 unfolding recordNumber ownNumber
-own-answers s l commands =
+own-answers s l output =
     own-ask 1 _ refl (own-ranges _ _ _ (own-ask 3 _ refl (own-ask 4 _ refl (own-ask 5 _ refl (own-ask 5 _ refl (own-ask 6 _ refl (λ none. absurd (none refl))))))))

@@ -13,9 +13,9 @@ use Rattle.policy.specs.Settings.{timesAllowed, marginsAllowed}
 use Rattle.policy.proofs.Checks.{allowed-sound, allowed-times}
 use Rattle.rules_record.specs.declared.Inputs.{Inputs}
 use Rattle.rules_record.specs.Sized.{Sized}
-use Rattle.rules_record.specs.declared.Commands.{Commands}
+use Rattle.rules_record.specs.declared.Output.{Output}
 use Rattle.rules_record.specs.Lent.{Lists, bucketsIn}
-use Rattle.rules_record.specs.Checks.{inputsAllowed, pausesAllowed, listsFit, commandsFit, recordNumber, Allowed, Long}
+use Rattle.rules_record.specs.Checks.{inputsAllowed, pausesAllowed, listsFit, outputFits, recordNumber, Allowed, Long}
 use Rattle.rules_record.specs.Facts.{Whole, Checked}
 use Rattle.rules_record.proofs.Facts.{whole-of, of-whole}
 
@@ -93,15 +93,15 @@ module _ (n buckets : ℕ) (l : Lists) where
 -- ---- 1 to 6
 
 -- what they let through
-pub record Passed (s : Inputs) (l : Lists) (commands : Commands) : Type 0 where
+pub record Passed (s : Inputs) (l : Lists) (output : Output) : Type 0 where
   pub allowed : Allowed (s .count) (s .policy) (s .width) (s .stall)
   pub long : Long (s .count) (bucketsIn s) l
-  pub commands-fit : commandsFit (s .count) commands ≡ true
+  pub output-fits : outputFits (s .count) output ≡ true
   pub whole : Whole s l
 
-module _ (s : Inputs) (l : Lists) (commands : Commands) where
+module _ (s : Inputs) (l : Lists) (output : Output) where
   -- what number 0 says of them, and of the checks after them
-  pub settings-told : (rest : ℕ) → recordNumber s l commands rest ≡ 0 → Passed s l commands × (rest ≡ 0)
+  pub settings-told : (rest : ℕ) → recordNumber s l output rest ≡ 0 → Passed s l output × (rest ≡ 0)
   unfolding recordNumber
   settings-told rest h =
       let one = asked 0 _ _ h in
@@ -112,10 +112,10 @@ module _ (s : Inputs) (l : Lists) (commands : Commands) where
       let also-five = asked 4 _ _ (five .1) in
       let six = asked 5 _ _ (also-five .1) in
       let allowed = allowed-of _ _ _ _ (one .0) (ranges .0) (three .0) (four .0) in
-      (record { allowed = allowed; long = long-of _ _ l (five .0); commands-fit = also-five .0; whole = whole-of s l (allowed .most) (six .0) }, six .1)
+      (record { allowed = allowed; long = long-of _ _ l (five .0); output-fits = also-five .0; whole = whole-of s l (allowed .most) (six .0) }, six .1)
 
   -- where they let it through, the number is that of the checks after them
-  pub passed-number : Passed s l commands → (rest : ℕ) → recordNumber s l commands rest ≡ rest
+  pub passed-number : Passed s l output → (rest : ℕ) → recordNumber s l output rest ≡ rest
   unfolding recordNumber
   passed-number p rest =
       yes-ask 1 _ (one-yes _ _ _ _ (p .allowed))
@@ -123,25 +123,25 @@ module _ (s : Inputs) (l : Lists) (commands : Commands) where
       ∙ yes-ask 3 _ (three-yes _ _ _ _ (p .allowed))
       ∙ yes-ask 4 _ (four-yes _ _ _ _ (p .allowed))
       ∙ yes-ask 5 _ (five-yes _ _ _ (p .long))
-      ∙ yes-ask 5 _ (p .commands-fit)
+      ∙ yes-ask 5 _ (p .output-fits)
       ∙ yes-ask 6 _ (of-whole s l (p .whole))
 
-  -- a record with its tables, and commands, that they let through
-  pub checked : Sized s → recordNumber s l commands 0 ≡ 0 → Checked s l
+  -- a record with its tables, and a list to write to, that they let through
+  pub checked : Sized s → recordNumber s l output 0 ≡ 0 → Checked s l
   checked sized h =
       let p = settings-told 0 h .0 in
       record { fitting = record { allowed = p .allowed; long = p .long }; sized = sized; whole = p .whole }
 
-  pub checked-commands : recordNumber s l commands 0 ≡ 0 → commandsFit (s .count) commands ≡ true
-  checked-commands h = settings-told 0 h .0 .commands-fit
+  pub checked-output : recordNumber s l output 0 ≡ 0 → outputFits (s .count) output ≡ true
+  checked-output h = settings-told 0 h .0 .output-fits
 
-  pub of-checked : Checked s l → commandsFit (s .count) commands ≡ true → (rest : ℕ) → recordNumber s l commands rest ≡ rest
-  of-checked w fit rest = passed-number (record { allowed = w .fitting .allowed; long = w .fitting .long; commands-fit = fit; whole = w .whole }) rest
+  pub of-checked : Checked s l → outputFits (s .count) output ≡ true → (rest : ℕ) → recordNumber s l output rest ≡ rest
+  of-checked w fit rest = passed-number (record { allowed = w .fitting .allowed; long = w .fitting .long; output-fits = fit; whole = w .whole }) rest
 
   -- the number with other checks after these: theirs where this is 0, else this
-  pub number-passed : recordNumber s l commands 0 ≡ 0 → (rest : ℕ) → recordNumber s l commands rest ≡ rest
+  pub number-passed : recordNumber s l output 0 ≡ 0 → (rest : ℕ) → recordNumber s l output rest ≡ rest
   number-passed h rest = passed-number (settings-told 0 h .0) rest
 
-  pub number-refused : (recordNumber s l commands 0 ≡ 0 → ⊥) → (rest : ℕ) → recordNumber s l commands rest ≡ recordNumber s l commands 0
+  pub number-refused : (recordNumber s l output 0 ≡ 0 → ⊥) → (rest : ℕ) → recordNumber s l output rest ≡ recordNumber s l output 0
   unfolding recordNumber
   number-refused h rest = same-refusal 1 _ (same-ranges _ _ _ (same-refusal 3 _ (same-refusal 4 _ (same-refusal 5 _ (same-refusal 5 _ (same-refusal 6 _ (λ none. absurd (none refl)))))))) h

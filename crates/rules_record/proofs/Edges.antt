@@ -7,9 +7,9 @@ use lib.ListN.{replicate}
 use Rattle.base.specs.Choice.{pick, both}
 use Rattle.policy.specs.declared.DelayPolicy.{DelayPolicy}
 use Rattle.policy.specs.Settings.{timesAllowed}
-use Rattle.rules_record.specs.declared.Commands.the-variants.{Absent, Words}
+use Rattle.rules_record.specs.declared.Output.the-variants.{Absent, Words, Bytes}
 use Rattle.rules_record.specs.Lent.{Lists, lists}
-use Rattle.rules_record.specs.Checks.{pausesAllowed, listsFit, commandsFit, inputsAllowed}
+use Rattle.rules_record.specs.Checks.{pausesAllowed, listsFit, outputFits, inputsAllowed}
 use lib.Dec.{ltb}
 use lib.Ieee.{Float}
 use borrow.Author.Tests.{eq-eqb, ne-eqb, lt-ltb, le-ltb}
@@ -162,5 +162,8 @@ pub exact-lengths :
 unfolding listsFit both
 exact-lengths = refl
 
-pub twelve-words : commandsFit 2 (Words 24) ∷ commandsFit 2 (Words 23) ∷ commandsFit 2 (Words 25) ∷ commandsFit 2 Absent ∷ [] ≡ true ∷ false ∷ false ∷ true ∷ []
+pub twelve-words : outputFits 2 (Words 24) ∷ outputFits 2 (Words 23) ∷ outputFits 2 (Words 25) ∷ outputFits 2 Absent ∷ [] ≡ true ∷ false ∷ false ∷ true ∷ []
 twelve-words = refl
+
+pub exact-bytes : outputFits 2 (Bytes 1287 1287) ∷ outputFits 2 (Bytes 1286 1287) ∷ outputFits 2 (Bytes 1288 1287) ∷ [] ≡ true ∷ false ∷ false ∷ []
+exact-bytes = refl

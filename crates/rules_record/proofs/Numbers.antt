@@ -8,11 +8,11 @@ use Rattle.base.specs.Limits.{timeLimit, timely, counterLimit}
 use Rattle.base.proofs.Choices.{yes-ask, no-ask, asked, by-bool, by-zero}
 use Rattle.rules_record.specs.declared.Inputs.{Inputs}
 use Rattle.rules_record.specs.Inputs.{slotAt}
-use Rattle.rules_record.specs.declared.Commands.the-variants.{Words}
+use Rattle.rules_record.specs.declared.Output.the-variants.{Words}
 use Rattle.rules_record.specs.Lent.{Lists}
 use Rattle.rules_record.specs.Checks.{recordNumber, inputNumber, timedNumber, Fitting}
 use Rattle.rules_record.specs.Facts.{Whole}
-use Rattle.rules_record.proofs.Checked.{settings-told, checked-commands}
+use Rattle.rules_record.proofs.Checked.{settings-told, checked-output}
 use Rattle.rules_record.proofs.InputNumbers as seven
 
 -- ---- 7 and 8 after 1 to 6
@@ -78,7 +78,7 @@ module _ (s : Inputs) (l : Lists) (words : ℕ) where
   record-whole h = settings-told s l (Words words) 0 h .0 .whole
 
   pub record-room : recordNumber s l (Words words) 0 ≡ 0 → 3 ≤ words
-  record-room h = omega (arith, eqb-true words (s .count * 12) (checked-commands s l (Words words) h), record-fitting h .allowed .least)
+  record-room h = omega (arith, eqb-true words (s .count * 12) (checked-output s l (Words words) h), record-fitting h .allowed .least)
 
   module _ (input time rest : ℕ) (accepted : timedNumber s l words input time rest ≡ 0) where
     abbrev told : (recordNumber s l (Words words) 0 ≡ 0) × (input < s .count) × (time ≤ timeLimit) × (rest ≡ 0)

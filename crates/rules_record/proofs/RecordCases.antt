@@ -41,12 +41,12 @@ use Rattle.rules_record.specs.Inputs.{slotAt}
 use Rattle.rules_record.proofs.SlotFrame.{slot-in}
 use Rattle.rules_record.specs.Flows.{emptyEntry, entryAt}
 use Rattle.rules_record.specs.Instances.{noKey, keyAt}
-use Rattle.rules_record.specs.declared.Commands.{Commands}
-use Rattle.rules_record.specs.declared.Commands.the-variants.{Absent, Words}
+use Rattle.rules_record.specs.declared.Output.{Output}
+use Rattle.rules_record.specs.declared.Output.the-variants.{Words, Bytes}
 use Rattle.rules_record.specs.Lent.{Lists, lists, bucketsIn, windowOf, heldOf, bucketsFor}
 use Rattle.rules_record.specs.WholePlaces.{proposalFits, routeFits, wholeSlot, unusedEntry, entryFits, unusedKey, keyFits, unusedSlot}
 use Rattle.rules_record.specs.WholeRecord.{wholeInput, inputFits}
-use Rattle.rules_record.specs.Checks.{inputsAllowed, listsFit, commandsFit, Fitting}
+use Rattle.rules_record.specs.Checks.{inputsAllowed, listsFit, outputFits, Fitting}
 use Rattle.rules_record.proofs.Shapes.{window-held}
 
 -- ---- the parts of a slot
@@ -62,11 +62,11 @@ no-moment moment e = sym (ap momentTimely e)
 pub some-moment : (moment : Moment) {time : ℕ} → moment ≡ At time → leb time timeLimit ≡ momentTimely moment
 some-moment moment e = sym (ap momentTimely e)
 
-pub no-commands : (n : ℕ) (commands : Commands) → commands ≡ Absent → true ≡ commandsFit n commands
-no-commands n commands e = sym (ap (commandsFit n) e)
+pub some-words : (n : ℕ) (output : Output) {words : ℕ} → output ≡ Words words → eqb words (n * 12) ≡ outputFits n output
+some-words n output e = sym (ap (outputFits n) e)
 
-pub some-commands : (n : ℕ) (commands : Commands) {words : ℕ} → commands ≡ Words words → eqb words (n * 12) ≡ commandsFit n commands
-some-commands n commands e = sym (ap (commandsFit n) e)
+pub some-bytes : (n : ℕ) (output : Output) {bytes exact : ℕ} → output ≡ Bytes bytes exact → eqb bytes exact ≡ outputFits n output
+some-bytes n output e = sym (ap (outputFits n) e)
 
 module _ (to : Routed) (state : State) (n : ℕ) {number : ℕ} (e : number ≡ stateNumber state) where
   pub route-nowhere : to ≡ Nowhere → eqb number 0 ≡ routeFits to state n

@@ -11,8 +11,8 @@ use Rattle.buckets.specs.Ranges.{rangesNumber}
 use Rattle.policy.specs.declared.DelayPolicy.{DelayPolicy}
 use Rattle.policy.specs.Settings.{timesAllowed, marginsAllowed, Sound}
 use Rattle.rules_record.specs.declared.Inputs.{Inputs}
-use Rattle.rules_record.specs.declared.Commands.{Commands}
-use Rattle.rules_record.specs.declared.Commands.the-variants.{Absent, Words}
+use Rattle.rules_record.specs.declared.Output.{Output}
+use Rattle.rules_record.specs.declared.Output.the-variants.{Absent, Words, Bytes}
 use Rattle.rules_record.specs.Lent.{Lists, bucketsIn, bucketsFor}
 use Rattle.rules_record.specs.WholeRecord.{wholeRecord}
 
@@ -33,20 +33,21 @@ listsFit n buckets l =
     (both (eqb (length (l .times)) (n * 600))
     (eqb (length (l .peaks)) (n * 600)))))
 
--- a call that sends nothing takes no commands
-abbrev pub commandsFit : (n : ℕ) → Commands → Bool
-commandsFit n Absent = true
-commandsFit n (Words words) = eqb words (n * 12)
+-- 5, of the list that a call writes to: none, "commands 12 words an input", or bytes of which it must have exactly so many
+abbrev pub outputFits : (n : ℕ) → Output → Bool
+outputFits n Absent = true
+outputFits n (Words words) = eqb words (n * 12)
+outputFits n (Bytes bytes exact) = eqb bytes exact
 
 -- the number of the first of checks 1 to 6 that says no, or the number that the checks after them give
-unfoldable pub recordNumber : (s : Inputs) (l : Lists) (commands : Commands) (rest : ℕ) → ℕ
-recordNumber s l commands rest =
+unfoldable pub recordNumber : (s : Inputs) (l : Lists) (output : Output) (rest : ℕ) → ℕ
+recordNumber s l output rest =
     ask 1 (inputsAllowed (s .count))
     (rangesNumber (s .policy .«read_offset») (s .policy .«delay_max») (s .width)
     (ask 3 (pausesAllowed (s .policy) (s .stall))
     (ask 4 (marginsAllowed (s .policy))
     (ask 5 (listsFit (s .count) (bucketsIn s) l)
-    (ask 5 (commandsFit (s .count) commands)
+    (ask 5 (outputFits (s .count) output)
     (ask 6 (wholeRecord s l) rest))))))
 
 -- the number is that of a check that speaks of the record, its settings and its lists, whatever else a call brings
@@ -55,8 +56,8 @@ ownNumber number = eqb number 1 || eqb number 2 || eqb number 17 || eqb number 1
 
 -- ---- a call on one input
 -- 1 to 6, and 7: "Does the input exist?"; `rest` is the number that the checks after these give
-unfoldable pub inputNumber : (s : Inputs) (l : Lists) (commands : Commands) (input rest : ℕ) → ℕ
-inputNumber s l commands input rest = recordNumber s l commands (ask 7 (ltb input (s .count)) rest)
+unfoldable pub inputNumber : (s : Inputs) (l : Lists) (output : Output) (input rest : ℕ) → ℕ
+inputNumber s l output input rest = recordNumber s l output (ask 7 (ltb input (s .count)) rest)
 
 -- 1 to 7, with so many words of commands, and 8: "Is the time at most 4 times 10^18"
 unfoldable pub timedNumber : (s : Inputs) (l : Lists) (words input time rest : ℕ) → ℕ

@@ -1,10 +1,12 @@
 -- The flow table: where a flow stands, how one is added, and the delay that it had last. Assumes nothing.
 use Prim.Native.Nat.{ℕ, _+_, min}
 use mathlib.Core.Bool.{Bool, true, not}
+use mathlib.Core.List.{List}
 use lib.Dec.{eqb, ltb}
 use lib.ListN.{getD, set}
 use Rattle.base.specs.Choice.{pick, both}
 use Rattle.base.specs.Lists.{all}
+use Rattle.byte_order.specs.Bytes.{bytesAt}
 use Rattle.rules_record.specs.declared.Flow.{Flow}
 use Rattle.rules_record.specs.declared.FlowEntry.{FlowEntry}
 use Rattle.rules_record.specs.declared.Remembered.{Remembered}
@@ -21,13 +23,20 @@ use Rattle.rules_record.specs.Inputs.{withFlows}
 unfoldable pub sameFlow : (a b : Flow) → Bool
 sameFlow a b = both (eqb (a .high) (b .high)) (eqb (a .low) (b .low))
 
+-- the flow whose 16 bytes stand from a place on
+abbrev pub flowFrom : (bytes : List ℕ) (place : ℕ) → Flow
+flowFrom bytes place = record { high = bytesAt bytes place 8; low = bytesAt bytes (place + 8) 8 }
+
 -- an unused place
 unfoldable pub emptyEntry : FlowEntry
 emptyEntry = record { flow = record { high = 0; low = 0 }; remembered = Never }
 
--- the entry at a place; there are 64
+-- the entry at a place of the table; there are 64
+abbrev pub entryIn : (table : List FlowEntry) (place : ℕ) → FlowEntry
+entryIn table place = pick (ltb place 64) (getD table place emptyEntry) emptyEntry
+
 unfoldable pub entryAt : (s : Inputs) (place : ℕ) → FlowEntry
-entryAt s place = pick (ltb place 64) (getD (s .flows) place emptyEntry) emptyEntry
+entryAt s place = entryIn (s .flows) place
 
 unfoldable pub flowAt : (s : Inputs) (place : ℕ) → Flow
 flowAt s place = entryAt s place .flow

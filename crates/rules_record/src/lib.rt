@@ -126,10 +126,11 @@ pub enum Extra {
     Key(Instance),
 }
 
-// The length of the lent commands, where the call takes them.
-pub enum Commands {
+// The length of the list that a call writes its answer to: none, words of commands, or bytes and how many it must have exactly.
+pub enum Output {
     Absent,
     Words(usize),
+    Bytes(usize, usize),
 }
 
 // The number of the first check that says no, or 0, and the record.

@@ -17,7 +17,7 @@ use Rattle.rules_window.specs.Checks.{roomFor}
 use Rattle.rules_record.specs.declared.Inputs.{Inputs}
 use Rattle.rules_record.specs.Sized.{Sized}
 use Rattle.rules_routing.specs.ReaderCheck.{readerFits}
-use Rattle.rules_record.specs.declared.Commands.the-variants.{Words}
+use Rattle.rules_record.specs.declared.Output.the-variants.{Words}
 use Rattle.rules_record.specs.Lent.{Lists, windowOf}
 use Rattle.rules_record.specs.Checks.{recordNumber}
 use Rattle.rules_record.proofs.Checked.{checked, number-passed, number-refused}

@@ -13,10 +13,10 @@ use Rattle.rules_window.proofs.WholeAt.{whole-of}
 use Rattle.rules_record.specs.declared.Inputs.{Inputs}
 use Rattle.rules_record.specs.Inputs.{slotAt}
 use Rattle.rules_record.specs.Sized.{Sized}
-use Rattle.rules_record.specs.declared.Commands.the-variants.{Words}
+use Rattle.rules_record.specs.declared.Output.the-variants.{Words}
 use Rattle.rules_record.specs.Lent.{Lists}
 use Rattle.rules_record.specs.Checks.{recordNumber}
-use Rattle.rules_record.proofs.Checked.{checked, checked-commands, number-passed, number-refused}
+use Rattle.rules_record.proofs.Checked.{checked, checked-output, number-passed, number-refused}
 use Rattle.rules_record.specs.Facts.{Checked}
 use Rattle.rules_record.proofs.Numbers.{record-fitting}
 use Rattle.rules_tick.proofs.Ready.{ready-sound, ready-window}
@@ -115,4 +115,4 @@ module _ (s : Inputs) (l : Lists) (words : ℕ) (looks : List Look) (lags : List
       }
 
   pub words-enough : s .count * 9 ≤ words
-  words-enough = omega (arith, eqb-true words (s .count * 12) (checked-commands s l (Words words) (tick-record s l words looks lags time passed)))
+  words-enough = omega (arith, eqb-true words (s .count * 12) (checked-output s l (Words words) (tick-record s l words looks lags time passed)))

@@ -10,7 +10,7 @@ use Rattle.base.specs.Lists.{all}
 use Rattle.rules_window.specs.Checks.{roomFor}
 use Rattle.rules_record.specs.declared.Inputs.{Inputs}
 use Rattle.rules_routing.specs.ReaderCheck.{readerFits}
-use Rattle.rules_record.specs.declared.Commands.the-variants.{Words}
+use Rattle.rules_record.specs.declared.Output.the-variants.{Words}
 use Rattle.rules_record.specs.Lent.{Lists, windowOf}
 use Rattle.rules_record.specs.Checks.{recordNumber}
 use Rattle.rules_tick.specs.declared.Look.{Look}

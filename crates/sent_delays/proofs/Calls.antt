@@ -9,7 +9,7 @@ use Rattle.base.specs.Lists.{padded}
 use Rattle.base.proofs.Choices.{refused-old, accepted-new, accepted-all, by-zero}
 use Rattle.rules_record.specs.declared.ExtraDelay.{ExtraDelay}
 use Rattle.rules_record.specs.declared.Inputs.{Inputs}
-use Rattle.rules_record.specs.declared.Commands.the-variants.{Words}
+use Rattle.rules_record.specs.declared.Output.the-variants.{Words}
 use Rattle.rules_record.specs.Inputs.{slotAt}
 use Rattle.rules_record.specs.Sized.{Sized}
 use Rattle.rules_routing.specs.declared.World.{World}

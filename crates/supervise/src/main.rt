@@ -7,6 +7,8 @@ use rules_tick::Look;
 use text_alone::Alone;
 use text_answers::Answer;
 use text_called::Called;
+use text_files::file_at;
+use text_lending::Bytes;
 use text_lending::Counts;
 use text_lending::Heard;
 use text_lending::LONE_COUNTS;
@@ -84,19 +86,47 @@ fn known(inputs: Inputs, alone: Alone) -> Known {
 }
 
 // ---- calls alone
+// How many bytes of a file a line brings, and where its answer goes.
+pub struct Brought {
+    pub length: usize,
+    pub place: usize,
+}
+
+// The bytes of a file go to the output buffer, whose answers are written out first.
+fn bring(request: Request, s: &[u8], out: &mut Out, place: usize) -> Brought {
+    let Request::Alone(call) = request else {
+        return Brought { length: 0, place };
+    };
+    let Lone::ReadDelays(at) = call else {
+        return Brought { length: 0, place };
+    };
+    text_lines::write(out, place);
+    Brought {
+        length: file_at(s, at, out),
+        place: 0,
+    }
+}
+
 // A call alone, or what a line crafts of the window and the hold alone.
 fn lone(
     request: Lone,
     kept: Alone,
     short: bool,
     s: &[u8],
+    file: &[u8],
     starts: &mut Seconds,
     totals: &mut Seconds,
     counts: &mut Counts,
     times: &mut Times,
     peaks: &mut Peaks,
+    bytes: &mut Bytes,
+    heard: &mut Heard,
 ) -> text_alone::Answered {
     match request {
+        Lone::ReadDelays(_) => text_alone::Answered {
+            alone: kept,
+            answer: text_alone::read_delays(file, short, bytes, heard),
+        },
         Lone::WindowSet(asked) => {
             let mut window = kept.window;
             text_crafted::rows(
@@ -133,11 +163,14 @@ fn alone_by(
     state: State,
     short: bool,
     s: &[u8],
+    file: &[u8],
     starts: &mut Seconds,
     totals: &mut Seconds,
     counts: &mut Counts,
     times: &mut Times,
     peaks: &mut Peaks,
+    bytes: &mut Bytes,
+    heard: &mut Heard,
 ) -> Told {
     match request {
         Request::Full(full) => Told {
@@ -146,7 +179,20 @@ fn alone_by(
         },
         Request::Alone(call) => {
             let kept = state.alone;
-            let done = lone(call, kept, short, s, starts, totals, counts, times, peaks);
+            let done = lone(
+                call,
+                kept,
+                short,
+                s,
+                file,
+                starts,
+                totals,
+                counts,
+                times,
+                peaks,
+                bytes,
+                heard,
+            );
             let alone = done.alone;
             let answer = done.answer;
             Told {
@@ -234,6 +280,7 @@ fn called(
     times: &mut Times,
     peaks: &mut Peaks,
     commands: &mut Words,
+    bytes: &mut Bytes,
     heard: &mut Heard,
 ) -> Called {
     load(call, s, out, place, heard);
@@ -273,7 +320,17 @@ fn called(
         },
         Deed::Ask => Called {
             inputs,
-            answer: text_called::ask(call, inputs, short, starts, totals, counts, times, peaks),
+            answer: text_called::ask(
+                call,
+                inputs,
+                short,
+                starts,
+                totals,
+                counts,
+                times,
+                peaks,
+                bytes,
+            ),
         },
         Deed::Nothing => Called {
             inputs,
@@ -313,6 +370,8 @@ fn shown(
     times: &Times,
     peaks: &Peaks,
     commands: &Words,
+    bytes: &Bytes,
+    heard: &Heard,
 ) -> Turn {
     let alone = state.alone;
     let window = alone.window;
@@ -332,6 +391,8 @@ fn shown(
         times,
         peaks,
         commands,
+        bytes,
+        heard,
     );
     let mut changed = state;
     changed.place = next;
@@ -354,6 +415,7 @@ fn answered(
     times: &mut Times,
     peaks: &mut Peaks,
     commands: &mut Words,
+    bytes: &mut Bytes,
     heard: &mut Heard,
 ) -> Turn {
     let s = text_lines::line(input, line);
@@ -379,6 +441,7 @@ fn answered(
                 times,
                 peaks,
                 commands,
+                bytes,
                 heard,
             );
             let left = done.inputs;
@@ -395,19 +458,25 @@ fn answered(
                 times,
                 peaks,
                 commands,
+                bytes,
+                heard,
             )
         }
         _ => {
+            let file = bring(request, s, out, state.place);
             let done = alone_by(
                 request,
                 state,
                 read.short,
                 s,
+                part(out, 0, file.length),
                 starts,
                 totals,
                 counts,
                 times,
                 peaks,
+                bytes,
+                heard,
             );
             let left = done.state;
             let answer = done.answer;
@@ -416,13 +485,15 @@ fn answered(
                 inputs,
                 answer,
                 out,
-                state.place,
+                file.place,
                 starts,
                 totals,
                 counts,
                 times,
                 peaks,
                 commands,
+                bytes,
+                heard,
             )
         }
     }
@@ -464,6 +535,7 @@ fn run(
     times: &mut Times,
     peaks: &mut Peaks,
     commands: &mut Words,
+    bytes: &mut Bytes,
     heard: &mut Heard,
 ) {
     let mut state = begin();
@@ -488,6 +560,7 @@ fn run(
                 times,
                 peaks,
                 commands,
+                bytes,
                 heard,
             );
             let after = done.state;
@@ -510,6 +583,7 @@ fn main() {
     let mut times = [0u64; 10_200];
     let mut peaks = [0u32; 10_200];
     let mut commands = [0u32; 192];
+    let mut bytes = [0u8; 1_287];
     let mut heard = [0u32; 524_288];
     run(
         &mut input,
@@ -520,6 +594,7 @@ fn main() {
         &mut times,
         &mut peaks,
         &mut commands,
+        &mut bytes,
         &mut heard,
     );
 }

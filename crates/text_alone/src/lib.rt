@@ -1,11 +1,13 @@
 // The calls that need no supervisor: each is answered by value (compare/README.md, "The protocol"). The window and the hold alone have the lists'
 // last places. A refused call leaves what is kept.
+use base::least_usize;
 use base::product_usize;
 use delay_hold::DelayHold;
 use lag_window::LagWindow;
 use sources::Schedule;
 use state::Coalesce;
 use text_answers::Answer;
+use text_answers::unless;
 use text_lending::Counts;
 use text_lending::LONE_COUNTS;
 use text_lending::LONE_PEAKS;
@@ -15,6 +17,7 @@ use text_lending::Seconds;
 use text_lending::Times;
 use text_lending::buckets;
 use text_lending::cut;
+use text_lending::file_sizes;
 use text_lending::places;
 use text_requests::Lone;
 
@@ -181,7 +184,16 @@ fn listless(request: Lone, alone: Alone) -> Answered {
     }
 }
 
-// The answer of a call, but for what is crafted.
+// A delay file that is read, on lists of the lengths that the reader asks for.
+pub fn read_delays(file: &[u8], short: bool, flows: &mut [u8], delays: &mut [u32]) -> Answer {
+    let z = file_sizes(short);
+    let a = least_usize(z.flows, flows.len());
+    let b = least_usize(z.delays, delays.len());
+    let r = delay_files::read_delays(file, &mut flows[..a], &mut delays[..b]);
+    unless(r.number, Answer::Delays(r.count))
+}
+
+// The answer of a call, but for what is crafted and for a file.
 pub fn answer(
     request: Lone,
     alone: Alone,

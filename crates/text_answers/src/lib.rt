@@ -23,6 +23,10 @@ pub enum Answer {
     Taken(bool, Due),
     Failed(u64, QueryDown),
     Status(InputStatus),
+    // How many flows a delay file has, and each of them with its delay.
+    Delays(usize),
+    // How long the delay file is that was written, and its bytes.
+    File(usize),
     // The window alone, whole.
     Window,
     // The delay that `next` changes to, or none, and the hold alone, whole.

@@ -12,6 +12,7 @@ use rules_record::Remembered;
 use rules_tick::Look;
 use text_answers::Answer;
 use text_answers::unless;
+use text_lending::file_sizes;
 use text_lending::sizes_for;
 use text_requests::Call;
 
@@ -191,7 +192,7 @@ fn changing(
     }
 }
 
-// The calls that change nothing.
+// The calls that change nothing of the record. A delay file goes to `file`.
 fn asking(
     call: Call,
     kept: Inputs,
@@ -200,6 +201,7 @@ fn asking(
     counts: &[u32],
     times: &[u64],
     peaks: &[u32],
+    file: &mut [u8],
 ) -> Answer {
     match call {
         Call::Status(asked) => {
@@ -242,6 +244,10 @@ fn asking(
                 peaks,
             );
             unless(r.number, Answer::Bit(r.value))
+        }
+        Call::WriteDelays => {
+            let r = delay_files::write_delays(kept, starts, totals, counts, times, peaks, file);
+            unless(r.number, Answer::File(r.length))
         }
         Call::Dump => Answer::Dump,
         _ => Answer::BadLine,
@@ -287,7 +293,7 @@ pub fn change(
     )
 }
 
-// A call that changes nothing, lent as much of each list as it asks for.
+// A call that changes nothing of the record, lent as much of each list as it asks for.
 pub fn ask(
     call: Call,
     kept: Inputs,
@@ -297,13 +303,16 @@ pub fn ask(
     counts: &[u32],
     times: &[u64],
     peaks: &[u32],
+    file: &mut [u8],
 ) -> Answer {
     let z = sizes_for(call, kept, short);
+    let y = file_sizes(short);
     let a = least_usize(z.seconds, starts.len());
     let b = least_usize(z.seconds, totals.len());
     let c = least_usize(z.counts, counts.len());
     let d = least_usize(z.peaks, times.len());
     let e = least_usize(z.peaks, peaks.len());
+    let f = least_usize(y.file, file.len());
     asking(
         call,
         kept,
@@ -312,5 +321,6 @@ pub fn ask(
         &counts[..c],
         &times[..d],
         &peaks[..e],
+        &mut file[..f],
     )
 }

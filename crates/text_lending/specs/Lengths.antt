@@ -4,6 +4,7 @@ use mathlib.Core.Bool.{Bool}
 use lib.Dec.{leb}
 use Rattle.base.specs.Choice.{pick}
 use Rattle.buckets.specs.Ranges.{reachesAllowed, bucketsOf}
+use Rattle.text_lending.specs.declared.FileSizes.{FileSizes}
 use Rattle.text_lending.specs.declared.Sizes.{Sizes}
 use Rattle.text_lending.specs.declared.Span.{Span}
 
@@ -29,6 +30,10 @@ lengthsFor n buckets short =
       peaks = cutTo (countable (n * 600)) short;
       words = cutTo (countable (n * 12)) short;
     }
+
+-- document 02: "The reader fills 1,024 flow bytes and 64 delays", "The writer's list is 1,287 bytes"
+unfoldable pub filesLent : (short : Bool) → FileSizes
+filesLent short = record { file = cutTo 1287 short; flows = cutTo 1024 short; delays = cutTo 64 short }
 
 -- `count` places from `first` on, as far as the list has them
 unfoldable pub placesFrom : (first count most : ℕ) → Span

@@ -4,7 +4,7 @@ ghost use mathlib.Core.Path.{_≡_};
 ghost use Prim.Native.Nat.{_≤_};
 ghost use lib.ListN.{take};
 ghost use Rattle.text_lending.specs.LentTo.{bucketsHeld, lentTo};
-ghost use Rattle.text_lending.specs.Lengths.{bucketsLent, cutTo, lengthsFor, placesFrom};
+ghost use Rattle.text_lending.specs.Lengths.{bucketsLent, cutTo, lengthsFor, filesLent, placesFrom};
 use base::least_usize;
 use base::less_usize;
 use base::product_usize;
@@ -32,8 +32,11 @@ pub type Peaks = [u32; 10_200];
 // The words of commands, which no call alone has.
 pub type Words = [u32; 192];
 
-// The lags of a tick, or the delays that `new` loads.
+// The lags of a tick, the delays that `new` loads, or those that a file has.
 pub type Heard = [u32; 524_288];
+
+// The flows of a delay file that is read, or a file that is written.
+pub type Bytes = [u8; 1_287];
 
 // The lengths that a call asks for.
 pub struct Sizes {
@@ -41,6 +44,13 @@ pub struct Sizes {
     pub counts: usize,
     pub peaks: usize,
     pub words: usize,
+}
+
+// The lengths of a delay file that is written, and of the flows and the delays that one is read into.
+pub struct FileSizes {
+    pub file: usize,
+    pub flows: usize,
+    pub delays: usize,
 }
 
 // From `from` up to `to`.
@@ -104,6 +114,17 @@ pub fn sizes_for(call: Call, inputs: Inputs, short: bool) -> Sizes
     let settings = asked.settings;
     let n = buckets(settings.read_offset, settings.delay_max, settings.width);
     lengths(settings.count, n, short)
+}
+
+// The lengths of the lists that the reader and the writer of a delay file ask for.
+pub fn file_sizes(short: bool) -> FileSizes
+    ensures { λ r. ⌜ r ≡ filesLent short ⌝ }
+{
+    FileSizes {
+        file: cut(1_287, short),
+        flows: cut(1_024, short),
+        delays: cut(64, short),
+    }
 }
 
 // The first n numbers, as far as there are any.

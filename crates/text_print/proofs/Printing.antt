@@ -11,7 +11,7 @@ use lib.Dec.{leb}
 use lib.ListN.{length, getD, set, take, drop, length-set, length-drop, length-append, drop-of-length-le}
 use lib.Seq.{take-suc, take-all, drop-cons, sets, set-out, length-sets, getD-set-same, drop-set-lt}
 use Rattle.base.proofs.Choices.{by-le}
-use Rattle.text_print.specs.Print.{Page, page, printed, glyphOf, spells, spelled, hexText, wholeHexText, decimalText, flowText}
+use Rattle.text_print.specs.Print.{Page, page, printed, glyphOf, spells, spelled, digitsText, hexText, wholeHexText, byteText, decimalText, flowText}
 
 -- ---- a text in a buffer
 -- past the end nothing is written
@@ -125,6 +125,11 @@ pub digits-end : (bytes : List ℕ) (base least rest i : ℕ) {x : List ℕ} →
 digits-end bytes base least rest i {x = x} e h =
     let z : i ≡ 0 = omega arith in
     sym (subst (λ (m : ℕ). x ≡ spelled base least m rest (drop m bytes)) z e ∙ ap (λ (m : ℕ). drop m bytes) (sym z))
+
+-- a byte has its leading zero
+pub byte-both-digits : byteText 10 ≡ 48 ∷ 97 ∷ []
+unfolding digitsText spells glyphOf
+byte-both-digits = refl
 
 -- ---- one text after another
 module _ (p : Page) {i j : ℕ} {xs ys : List ℕ} where

@@ -47,6 +47,10 @@ hexText n = digitsText 16 1 n
 abbrev pub wholeHexText : ℕ → List ℕ
 wholeHexText n = digitsText 16 16 n
 
+-- both digits of a byte
+abbrev pub byteText : ℕ → List ℕ
+byteText n = digitsText 16 2 n
+
 -- a flow's 128 bits without leading zeros
 unfoldable pub flowText : (high low : ℕ) → List ℕ
 flowText high low = pick (eqb high 0) (hexText low) (hexText high ++ wholeHexText low)

@@ -6,7 +6,7 @@ ghost use mathlib.Core.Path.{_≡_};
 ghost use mathlib.Core.List.{[], _∷_};
 ghost use Prim.Native.Nat.{_<_, _≤_};
 ghost use lib.ListN.{length, drop};
-ghost use Rattle.text_print.specs.Print.{page, printed, glyphOf, spells, digitsText, decimalText, hexText, wholeHexText, flowText};
+ghost use Rattle.text_print.specs.Print.{page, printed, glyphOf, spells, digitsText, decimalText, hexText, wholeHexText, byteText, flowText};
 
 // The buffer that answers are printed into.
 pub type Out = [u8; 262_144];
@@ -131,6 +131,13 @@ fn put_whole_hex(out: &mut Out, at: usize, n: u64) -> usize
     ensures { λ r. ⌜ page r (now (out .exit)) ≡ printed (wholeHexText n) (page at (now (out .entry))) ⌝ }
 {
     put_digits(out, at, digits_of(n, 16, 16))
+}
+
+// A byte in hex, both digits.
+pub fn put_hex_byte(out: &mut Out, at: usize, b: u8) -> usize
+    ensures { λ r. ⌜ page r (now (out .exit)) ≡ printed (byteText b) (page at (now (out .entry))) ⌝ }
+{
+    put_digits(out, at, digits_of(b as u64, 16, 2))
 }
 
 // A flow's 128 bits in hex, without leading zeros.

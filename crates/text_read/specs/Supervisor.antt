@@ -10,7 +10,7 @@ use Rattle.base.specs.Choice.{pick}
 use Rattle.rules_calls.specs.declared.Wanted.the-variants.{From, Nothing}
 use Rattle.text_words.specs.Words.{lost}
 use Rattle.text_requests.specs.declared.Call.{Call}
-use Rattle.text_requests.specs.declared.Call.the-variants.{New, Route, Update, Confirm, Tick, Status, Has, Settled, Dump, Put}
+use Rattle.text_requests.specs.declared.Call.the-variants.{New, Route, Update, Confirm, Tick, Status, Has, Settled, WriteDelays, Dump, Put}
 use Rattle.text_requests.specs.declared.Known.{Known}
 use Rattle.text_requests.specs.declared.Part.the-variants.{Window, Hold, Counters, Delays}
 use Rattle.text_requests.specs.Forms.{space, slash, u64At, hexAt, u32At, bitAt, maybeU64At, maybeU32At, flowAt, kindAt, textEnd, wordEnd}
@@ -164,6 +164,7 @@ lagsOf (Confirm asked) = 0
 lagsOf (Status asked) = 0
 lagsOf (Has asked) = 0
 lagsOf (Settled asked) = 0
+lagsOf WriteDelays = 0
 lagsOf Dump = 0
 lagsOf (Put asked) = 0
 
@@ -193,6 +194,12 @@ unfoldable pub dumpLine : (s : List ℕ) (at : ℕ) → CallLine
 dumpLine s at =
     let name = wordEnd s at "dump" in
     record { call = Dump; next = name }
+
+-- `dwrite1`: nothing
+unfoldable pub dwrite1Line : (s : List ℕ) (at : ℕ) → CallLine
+dwrite1Line s at =
+    let name = wordEnd s at "dwrite1" in
+    record { call = WriteDelays; next = name }
 
 -- ---- `put`: input u64 that exists, then one of four parts
 -- `window`: rows
@@ -255,6 +262,7 @@ askLines s at = statusLine s at
     or hasLine s at
     or settledLine s at
     or dumpLine s at
+    or dwrite1Line s at
 
 unfoldable pub callLine : (s : List ℕ) (at : ℕ) (known : Known) → CallLine
 callLine s at known =

@@ -2,7 +2,7 @@
 // or a word is missing or of another form, the place after the words is LOST.
 ghost use mathlib.Core.Path.{_≡_};
 ghost use lib.ListN.{length};
-ghost use Rattle.text_read.specs.Supervisor.{orElse, partOr, settingsAt, newLine, wantedAt, routeLine, updateLine, confirmLine, settledLine, tickName, tickSaid, tickLine, statusLine, hasLine, dumpLine, below, windowPart, holdPart, countersPart, delaysPart, putLine, changeLines, askLines, callLine};
+ghost use Rattle.text_read.specs.Supervisor.{orElse, partOr, settingsAt, newLine, wantedAt, routeLine, updateLine, confirmLine, settledLine, tickName, tickSaid, tickLine, statusLine, hasLine, dumpLine, dwrite1Line, below, windowPart, holdPart, countersPart, delaysPart, putLine, changeLines, askLines, callLine};
 use rules_calls::Settings;
 use rules_calls::Source;
 use rules_calls::Wanted;
@@ -290,7 +290,7 @@ pub(crate) fn tick(s: &[u8], at: usize, inputs: usize, heard: &mut [u32]) -> Cal
     }
 }
 
-// ---- status, has, dump
+// ---- status, has, dump, dwrite1
 fn status(s: &[u8], at: usize) -> CallLine
     ensures { λ r. ⌜ r ≡ statusLine (now (s .entry)) at ⌝ }
 {
@@ -333,6 +333,16 @@ fn dump(s: &[u8], at: usize) -> CallLine
     let name = word_end(s, at, b"dump");
     CallLine {
         call: Call::Dump,
+        next: name,
+    }
+}
+
+fn dwrite1(s: &[u8], at: usize) -> CallLine
+    ensures { λ r. ⌜ r ≡ dwrite1Line (now (s .entry)) at ⌝ }
+{
+    let name = word_end(s, at, b"dwrite1");
+    CallLine {
+        call: Call::WriteDelays,
         next: name,
     }
 }
@@ -447,7 +457,8 @@ fn ask_lines(s: &[u8], at: usize) -> CallLine
     let first = status(s, at);
     let a = either(first, has(s, at));
     let b = either(a, settled(s, at));
-    either(b, dump(s, at))
+    let c = either(b, dump(s, at));
+    either(c, dwrite1(s, at))
 }
 
 // The line that stands at this place, of the calls on a supervisor; before the first `new` there is no other.

@@ -6,7 +6,8 @@ use lib.Dec.{eqb}
 use lib.Ieee.{binary64, ofBits}
 use Rattle.base.specs.Choice.{pick}
 use Rattle.text_words.specs.Words.{lost}
-use Rattle.text_requests.specs.declared.Lone.the-variants.{Ms, Samples, Need, IndexAt, TimeOf, WindowNew, WindowSet, Push, Clear, Span, Quantile, HoldNew, HoldSet, Next, CoalesceSet, Changed, Pending, Take, TakeDue, QuerySet, QueryUp, QueryFailed}
+use Rattle.text_files.specs.Files.{fileAt}
+use Rattle.text_requests.specs.declared.Lone.the-variants.{Ms, Samples, Need, IndexAt, TimeOf, WindowNew, WindowSet, Push, Clear, Span, Quantile, HoldNew, HoldSet, Next, CoalesceSet, Changed, Pending, Take, TakeDue, QuerySet, QueryUp, QueryFailed, ReadDelays}
 use Rattle.text_requests.specs.Forms.{space, u64At, hexAt, u32At, u8At, bitAt, maybeU64At, maybeU32At, pairAt, wordEnd}
 use Rattle.text_requests.specs.Lists.{peaksEnd, rowsAt}
 use Rattle.text_requests.specs.Parts.{lagOf, dueOf, downOf, momentOf, timerOf, seedOf}
@@ -218,6 +219,15 @@ qFailedLine s at =
     let time = u64At s name space in
     record { lone = QueryFailed (time .value); next = time .next }
 
+-- ---- a delay file
+
+-- `dread1`: the bytes of a delay file, two hex digits each, or - for none
+unfoldable pub dread1Line : (s : List ℕ) (at : ℕ) → LoneLine
+dread1Line s at =
+    let name = wordEnd s at "dread1" in
+    let file = fileAt s name space in
+    record { lone = ReadDelays (file .at); next = file .next }
+
 -- ---- all lines: the first that is there
 unfoldable pub orElse : (first second : LoneLine) → LoneLine
 orElse first second = pick (eqb (first .next) lost) second first
@@ -261,3 +271,4 @@ loneLine s at buckets = numberLines s at
     or windowLines s at buckets
     or holdLines s at
     or clockLines s at
+    or dread1Line s at

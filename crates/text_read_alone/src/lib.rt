@@ -1,8 +1,9 @@
 // The lines of the calls that need no supervisor (compare/README.md): each is its name and its words, read from place `at`. Where the name is
 // another, or a word is missing or of another form, the place after the words is LOST.
 ghost use mathlib.Core.Path.{_≡_};
-ghost use Rattle.text_read_alone.specs.Alone.{orElse, holdAt, msLine, samplesLine, needLine, indexAtLine, timeOfLine, wnewLine, wsetLine, wpushLine, wclearLine, wspanLine, wquantLine, hnewLine, hsetLine, nextLine, coSetLine, coChangedLine, coPendingLine, coTakeLine, coTakeDueLine, qSetLine, qUpLine, qFailedLine, numberLines, windowLines, holdLines, clockLines, loneLine};
+ghost use Rattle.text_read_alone.specs.Alone.{orElse, holdAt, msLine, samplesLine, needLine, indexAtLine, timeOfLine, wnewLine, wsetLine, wpushLine, wclearLine, wspanLine, wquantLine, hnewLine, hsetLine, nextLine, coSetLine, coChangedLine, coPendingLine, coTakeLine, coTakeDueLine, qSetLine, qUpLine, qFailedLine, dread1Line, numberLines, windowLines, holdLines, clockLines, loneLine};
 use delay_hold::DelayHold;
+use text_files::file_word;
 use text_print::bits::double;
 use text_requests::ChangedAsked;
 use text_requests::HoldAsked;
@@ -389,6 +390,19 @@ fn q_failed(s: &[u8], at: usize) -> LoneLine
     }
 }
 
+// ---- a delay file
+
+fn dread1(s: &[u8], at: usize) -> LoneLine
+    ensures { λ r. ⌜ r ≡ dread1Line (now (s .entry)) at ⌝ }
+{
+    let name = word_end(s, at, b"dread1");
+    let file = file_word(s, name, b' ');
+    LoneLine {
+        lone: Lone::ReadDelays(file.at),
+        next: file.next,
+    }
+}
+
 // ---- the lines in groups, and all
 
 fn number_lines(s: &[u8], at: usize) -> LoneLine
@@ -440,5 +454,6 @@ pub fn lone_at(s: &[u8], at: usize, buckets: usize) -> LoneLine
     let a = number_lines(s, at);
     let b = either(a, window_lines(s, at, buckets));
     let c = either(b, hold_lines(s, at));
-    either(c, clock_lines(s, at))
+    let d = either(c, clock_lines(s, at));
+    either(d, dread1(s, at))
 }

@@ -7,7 +7,8 @@ use native.Mathlib.Numerals.{add-one}
 use native.Mathlib.Omega.{arith}
 use lib.ListN.{length, getD, take, set, length-set}
 use lib.Seq.{getD-set-same, getD-set-other}
-use Rattle.rules_calls.specs.NewLoading.{bytesAt, loadedFlow}
+use Rattle.byte_order.specs.Bytes.{bytesAt}
+use Rattle.rules_calls.specs.NewLoading.{loadedFlow}
 use Rattle.text_requests.specs.declared.lists.Load.{Load}
 use Rattle.text_requests.specs.Lists.{HalfPut, Loads, flowOf, loadAt, loadsAt, loadedFlows, loadedAs}
 use Rattle.text_requests.proofs.Loops.{stored, Listing, listing-none, listing-more, listing-done}

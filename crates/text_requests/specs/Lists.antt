@@ -6,7 +6,8 @@ use mathlib.Core.List.{List, [], _∷_, _++_}
 use lib.Dec.{eqb, leb}
 use lib.ListN.{length, getD, take, replicate}
 use Rattle.base.specs.Choice.{pick}
-use Rattle.rules_calls.specs.NewLoading.{bytesAt, loadedFlow}
+use Rattle.byte_order.specs.Bytes.{bytesAt}
+use Rattle.rules_calls.specs.NewLoading.{loadedFlow}
 use Rattle.rules_record.specs.declared.AutoTag.the-variants.{Auto as auto-tag}
 use Rattle.rules_record.specs.declared.ExtraDelay.{ExtraDelay}
 use Rattle.rules_record.specs.declared.ExtraDelay.the-variants.{Auto}

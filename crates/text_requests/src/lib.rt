@@ -100,6 +100,8 @@ pub enum Lone {
     QuerySet(QueryDown),
     QueryUp(u64),
     QueryFailed(u64),
+    // A delay file, by the place of its bytes.
+    ReadDelays(usize),
 }
 
 // ---- what the calls on a supervisor ask
@@ -179,6 +181,8 @@ pub enum Call {
     Status(StatusAsked),
     Has(StatusAsked),
     Settled(TimeAsked),
+    // The remembered delays as a file.
+    WriteDelays,
     Dump,
     Put(PutAsked),
 }

@@ -6,7 +6,9 @@ use delay_hold::DelayHold;
 use lag_window::LagWindow;
 use rules_record::Inputs;
 use text_answers::Answer;
+use text_lending::Bytes;
 use text_lending::Counts;
+use text_lending::Heard;
 use text_lending::LONE_COUNTS;
 use text_lending::LONE_PEAKS;
 use text_lending::LONE_SECONDS;
@@ -22,6 +24,7 @@ use words::Word;
 use words::put_word;
 use words::put_words;
 
+mod files;
 mod holds;
 mod record;
 mod status;
@@ -34,6 +37,7 @@ fn first_of(answer: Answer) -> Word {
     match answer {
         Answer::Refused(number) => Word::Number(number as u64),
         Answer::Number(value) | Answer::Failed(value, _) => Word::Number(value),
+        Answer::Delays(n) | Answer::File(n) => Word::Number(n as u64),
         Answer::Maybe(lag) | Answer::Next(lag) => words::lag(lag),
         Answer::Double(x) => words::double(x),
         Answer::Bit(bit) | Answer::Taken(bit, _) | Answer::Ticked(bit) => Word::Number(bit as u64),
@@ -103,7 +107,7 @@ fn part_of(answer: Answer, full: bool, count: usize) -> Part {
 }
 
 // Writes the answer's line from `place` of the output buffer on: the place after it. A supervisor has so many buckets a second; the window and
-// the hold alone have the lists' last places.
+// the hold alone have the lists' last places. The flows of a delay file, or the file itself, are `bytes`, and its delays the first of `heard`.
 pub fn show(
     answer: Answer,
     full: bool,
@@ -119,10 +123,14 @@ pub fn show(
     times: &Times,
     peaks: &Peaks,
     commands: &Words,
+    bytes: &Bytes,
+    heard: &Heard,
 ) -> usize {
     let a = show_words(out, place, answer);
     let b = match answer {
         Answer::Status(status) => put_words(out, a, status::words_of(status)),
+        Answer::Delays(n) => files::show_delays(out, a, n, bytes, heard),
+        Answer::File(n) => files::show_file(out, a, n, bytes),
         Answer::Window => windows::show(
             out,
             a,

@@ -17,6 +17,7 @@ use text_print::put_byte;
 use text_print::put_decimal_after;
 use text_print::put_flow_after;
 use text_print::put_hex_after;
+use text_print::put_hex_byte;
 use text_print::put_none_after;
 
 // Each stands after a space, where it does not say what it stands after.
@@ -41,6 +42,8 @@ pub(crate) enum Word {
     Flow(u64, u64, u8, u64),
     // kind`.`input`.`word.
     Command(u64, u64, u64),
+    // The two digits of a byte, after nothing: the bytes of a file are one word.
+    Byte(u8),
 }
 
 // Up to 16 words.
@@ -80,6 +83,7 @@ pub(crate) fn put_word(out: &mut Out, place: usize, word: Word) -> usize {
             let last = put_decimal_after(out, next, b'.', input);
             put_decimal_after(out, last, b'.', word)
         }
+        Word::Byte(b) => put_hex_byte(out, at, b),
     }
 }
 

@@ -9,11 +9,11 @@ use Rattle.base.specs.Limits.{timeLimit}
 use Rattle.base.proofs.Choices.{yes-ask}
 use Rattle.base.specs.Choice.{ask}
 use Rattle.rules_record.specs.declared.Inputs.{Inputs}
-use Rattle.rules_record.specs.declared.Commands.the-variants.{Words}
+use Rattle.rules_record.specs.declared.Output.the-variants.{Words}
 use Rattle.rules_record.specs.Lent.{Lists}
 use Rattle.rules_record.specs.Effects.{Effect}
 use Rattle.rules_record.specs.Reply.{Reply, replied}
-use Rattle.rules_record.specs.Checks.{commandsFit, recordNumber, ownNumber, inputNumber, timedNumber}
+use Rattle.rules_record.specs.Checks.{outputFits, recordNumber, ownNumber, inputNumber, timedNumber}
 use Rattle.rules_record.proofs.Checked.{of-checked}
 use Rattle.rules_calls.specs.UpdateChecks.{updateNumber}
 use Rattle.rules_calls.specs.Update.{updated}
@@ -56,7 +56,7 @@ module _ (settings : Settings) (n : ℕ) (r : Reply) (g : Sure settings n r) whe
   unfolding blankFor blank
   counted = ap (λ (s : Inputs). s .count) (g .same)
 
-  fits : commandsFit (r .inputs .count) (Words (length (r .commands))) ≡ true
+  fits : outputFits (r .inputs .count) (Words (length (r .commands))) ≡ true
   fits = eq-eqb _ _ (g .long ∙ ap (λ (x : ℕ). x * 12) (sym counted))
 
   beyond-record : (rest : ℕ) → Beyond rest → Beyond (recordNumber (r .inputs) (r .lists) (Words (length (r .commands))) rest)

@@ -54,14 +54,14 @@ returns-5 c =
     let args = c .before .before .before .before .before .before .before .before .before .before .before .before .before .before .before .before .before .args in
     sym (yes-ask 1 _ (told-yes _ _ (c .before .before .before .before .before .before .before .before .before .before .before .inputs-allowed .ensures) (c .before .before .before .before .before .before .before .before .before .before .if1 .left)) ∙ ranges-go _ _ _ (c .before .before .before .before .before .before .before .before .ranges-number .ensures) (c .before .before .before .before .before .before .before .if2 .left) _ ∙ yes-ask 3 _ (told-yes _ _ (c .before .before .before .before .before .before .pauses-allowed .ensures) (c .before .before .before .before .before .if3 .left)) ∙ yes-ask 4 _ (told-yes _ _ (c .before .before .before .before .margins-allowed .ensures) (c .before .before .before .if4 .left)) ∙ no-ask 5 _ (told-no _ _ (told-lists (args .inputs) (lists (args .starts .now) (args .totals .now) (args .counts .now) (args .times .now) (args .peaks .now)) (c .before .before .buckets-of .ensures) (c .before .lists-fit .ensures)) (c .if5 .taken)))
 
-commands-fit-requires : tie.Need-commands-fit-requires
-commands-fit-requires c κs = inputs-few (c .before .before .before .before .before .before .before .before .before .before .before .before .before .before .before .before .before .args .inputs .count) (told-yes _ _ (c .before .before .before .before .before .before .before .before .before .before .before .inputs-allowed .ensures) (c .before .before .before .before .before .before .before .before .before .before .if1 .left))
+output-fits-requires : tie.Need-output-fits-requires
+output-fits-requires c κs = inputs-few (c .before .before .before .before .before .before .before .before .before .before .before .before .before .before .before .before .before .args .inputs .count) (told-yes _ _ (c .before .before .before .before .before .before .before .before .before .before .before .inputs-allowed .ensures) (c .before .before .before .before .before .before .before .before .before .before .if1 .left))
 
 returns-6 : tie.Need-returns-6
 unfolding recordNumber
 returns-6 c =
     let args = c .before .before .before .before .before .before .before .before .before .before .before .before .before .before .before .before .before .before .before .args in
-    sym (yes-ask 1 _ (told-yes _ _ (c .before .before .before .before .before .before .before .before .before .before .before .before .before .inputs-allowed .ensures) (c .before .before .before .before .before .before .before .before .before .before .before .before .if1 .left)) ∙ ranges-go _ _ _ (c .before .before .before .before .before .before .before .before .before .before .ranges-number .ensures) (c .before .before .before .before .before .before .before .before .before .if2 .left) _ ∙ yes-ask 3 _ (told-yes _ _ (c .before .before .before .before .before .before .before .before .pauses-allowed .ensures) (c .before .before .before .before .before .before .before .if3 .left)) ∙ yes-ask 4 _ (told-yes _ _ (c .before .before .before .before .before .before .margins-allowed .ensures) (c .before .before .before .before .before .if4 .left)) ∙ yes-ask 5 _ (told-yes _ _ (told-lists (args .inputs) (lists (args .starts .now) (args .totals .now) (args .counts .now) (args .times .now) (args .peaks .now)) (c .before .before .before .before .buckets-of .ensures) (c .before .before .before .lists-fit .ensures)) (c .before .before .if5 .left)) ∙ no-ask 5 _ (told-no _ _ (c .before .commands-fit .ensures) (c .if6 .taken)))
+    sym (yes-ask 1 _ (told-yes _ _ (c .before .before .before .before .before .before .before .before .before .before .before .before .before .inputs-allowed .ensures) (c .before .before .before .before .before .before .before .before .before .before .before .before .if1 .left)) ∙ ranges-go _ _ _ (c .before .before .before .before .before .before .before .before .before .before .ranges-number .ensures) (c .before .before .before .before .before .before .before .before .before .if2 .left) _ ∙ yes-ask 3 _ (told-yes _ _ (c .before .before .before .before .before .before .before .before .pauses-allowed .ensures) (c .before .before .before .before .before .before .before .if3 .left)) ∙ yes-ask 4 _ (told-yes _ _ (c .before .before .before .before .before .before .margins-allowed .ensures) (c .before .before .before .before .before .if4 .left)) ∙ yes-ask 5 _ (told-yes _ _ (told-lists (args .inputs) (lists (args .starts .now) (args .totals .now) (args .counts .now) (args .times .now) (args .peaks .now)) (c .before .before .before .before .buckets-of .ensures) (c .before .before .before .lists-fit .ensures)) (c .before .before .if5 .left)) ∙ no-ask 5 _ (told-no _ _ (c .before .output-fits .ensures) (c .if6 .taken)))
 
 whole-requires : tie.Need-whole-requires
 whole-requires c κs =
@@ -72,13 +72,13 @@ returns-7 : tie.Need-returns-7
 unfolding recordNumber
 returns-7 c =
     let args = c .before .before .before .before .before .before .before .before .before .before .before .before .before .before .before .before .before .before .before .before .before .args in
-    sym (yes-ask 1 _ (told-yes _ _ (c .before .before .before .before .before .before .before .before .before .before .before .before .before .before .before .inputs-allowed .ensures) (c .before .before .before .before .before .before .before .before .before .before .before .before .before .before .if1 .left)) ∙ ranges-go _ _ _ (c .before .before .before .before .before .before .before .before .before .before .before .before .ranges-number .ensures) (c .before .before .before .before .before .before .before .before .before .before .before .if2 .left) _ ∙ yes-ask 3 _ (told-yes _ _ (c .before .before .before .before .before .before .before .before .before .before .pauses-allowed .ensures) (c .before .before .before .before .before .before .before .before .before .if3 .left)) ∙ yes-ask 4 _ (told-yes _ _ (c .before .before .before .before .before .before .before .before .margins-allowed .ensures) (c .before .before .before .before .before .before .before .if4 .left)) ∙ yes-ask 5 _ (told-yes _ _ (told-lists (args .inputs) (lists (args .starts .now) (args .totals .now) (args .counts .now) (args .times .now) (args .peaks .now)) (c .before .before .before .before .before .before .buckets-of .ensures) (c .before .before .before .before .before .lists-fit .ensures)) (c .before .before .before .before .if5 .left)) ∙ yes-ask 5 _ (told-yes _ _ (c .before .before .before .commands-fit .ensures) (c .before .before .if6 .left)) ∙ no-ask 6 _ (told-no _ _ (c .before .whole .ensures) (c .if7 .taken)))
+    sym (yes-ask 1 _ (told-yes _ _ (c .before .before .before .before .before .before .before .before .before .before .before .before .before .before .before .inputs-allowed .ensures) (c .before .before .before .before .before .before .before .before .before .before .before .before .before .before .if1 .left)) ∙ ranges-go _ _ _ (c .before .before .before .before .before .before .before .before .before .before .before .before .ranges-number .ensures) (c .before .before .before .before .before .before .before .before .before .before .before .if2 .left) _ ∙ yes-ask 3 _ (told-yes _ _ (c .before .before .before .before .before .before .before .before .before .before .pauses-allowed .ensures) (c .before .before .before .before .before .before .before .before .before .if3 .left)) ∙ yes-ask 4 _ (told-yes _ _ (c .before .before .before .before .before .before .before .before .margins-allowed .ensures) (c .before .before .before .before .before .before .before .if4 .left)) ∙ yes-ask 5 _ (told-yes _ _ (told-lists (args .inputs) (lists (args .starts .now) (args .totals .now) (args .counts .now) (args .times .now) (args .peaks .now)) (c .before .before .before .before .before .before .buckets-of .ensures) (c .before .before .before .before .before .lists-fit .ensures)) (c .before .before .before .before .if5 .left)) ∙ yes-ask 5 _ (told-yes _ _ (c .before .before .before .output-fits .ensures) (c .before .before .if6 .left)) ∙ no-ask 6 _ (told-no _ _ (c .before .whole .ensures) (c .if7 .taken)))
 
 returns-8 : tie.Need-returns-8
 unfolding recordNumber
 returns-8 c =
     let args = c .before .before .before .before .before .before .before .before .before .before .before .before .before .before .before .before .before .before .before .before .before .args in
-    sym (yes-ask 1 _ (told-yes _ _ (c .before .before .before .before .before .before .before .before .before .before .before .before .before .before .before .inputs-allowed .ensures) (c .before .before .before .before .before .before .before .before .before .before .before .before .before .before .if1 .left)) ∙ ranges-go _ _ _ (c .before .before .before .before .before .before .before .before .before .before .before .before .ranges-number .ensures) (c .before .before .before .before .before .before .before .before .before .before .before .if2 .left) _ ∙ yes-ask 3 _ (told-yes _ _ (c .before .before .before .before .before .before .before .before .before .before .pauses-allowed .ensures) (c .before .before .before .before .before .before .before .before .before .if3 .left)) ∙ yes-ask 4 _ (told-yes _ _ (c .before .before .before .before .before .before .before .before .margins-allowed .ensures) (c .before .before .before .before .before .before .before .if4 .left)) ∙ yes-ask 5 _ (told-yes _ _ (told-lists (args .inputs) (lists (args .starts .now) (args .totals .now) (args .counts .now) (args .times .now) (args .peaks .now)) (c .before .before .before .before .before .before .buckets-of .ensures) (c .before .before .before .before .before .lists-fit .ensures)) (c .before .before .before .before .if5 .left)) ∙ yes-ask 5 _ (told-yes _ _ (c .before .before .before .commands-fit .ensures) (c .before .before .if6 .left)) ∙ yes-ask 6 _ (told-yes _ _ (c .before .whole .ensures) (c .if7 .left)))
+    sym (yes-ask 1 _ (told-yes _ _ (c .before .before .before .before .before .before .before .before .before .before .before .before .before .before .before .inputs-allowed .ensures) (c .before .before .before .before .before .before .before .before .before .before .before .before .before .before .if1 .left)) ∙ ranges-go _ _ _ (c .before .before .before .before .before .before .before .before .before .before .before .before .ranges-number .ensures) (c .before .before .before .before .before .before .before .before .before .before .before .if2 .left) _ ∙ yes-ask 3 _ (told-yes _ _ (c .before .before .before .before .before .before .before .before .before .before .pauses-allowed .ensures) (c .before .before .before .before .before .before .before .before .before .if3 .left)) ∙ yes-ask 4 _ (told-yes _ _ (c .before .before .before .before .before .before .before .before .margins-allowed .ensures) (c .before .before .before .before .before .before .before .if4 .left)) ∙ yes-ask 5 _ (told-yes _ _ (told-lists (args .inputs) (lists (args .starts .now) (args .totals .now) (args .counts .now) (args .times .now) (args .peaks .now)) (c .before .before .before .before .before .before .buckets-of .ensures) (c .before .before .before .before .before .lists-fit .ensures)) (c .before .before .before .before .if5 .left)) ∙ yes-ask 5 _ (told-yes _ _ (c .before .before .before .output-fits .ensures) (c .before .before .if6 .left)) ∙ yes-ask 6 _ (told-yes _ _ (c .before .whole .ensures) (c .if7 .left)))
 
 pub first-refused-spec : {M : Type 1} → statement M
 first-refused-spec =
@@ -95,7 +95,7 @@ first-refused-spec =
     buckets-of-requires
     lists-fit-requires
     returns-5
-    commands-fit-requires
+    output-fits-requires
     returns-6
     whole-requires
     returns-7

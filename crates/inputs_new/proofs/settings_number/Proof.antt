@@ -43,20 +43,20 @@ lists-fit-requires c κs = lists-asked (c .before .before .before .before .befor
 returns-5 : tie.Need-returns-5
 returns-5 c = refused-lists _ _ _ _ _ (told-yes _ _ (c .before .before .before .before .before .before .before .before .before .before .before .inputs-allowed .ensures) (c .before .before .before .before .before .before .before .before .before .before .if1 .left)) (ranges-let _ _ _ (c .before .before .before .before .before .before .before .before .before .ranges-number .ensures) (c .before .before .before .before .before .before .before .before .if2 .left)) (c .before .before .before .before .before .before .before .policy-of .ensures) (told-yes _ _ (c .before .before .before .before .before .before .pauses-allowed .ensures) (c .before .before .before .before .before .if3 .left)) (told-yes _ _ (c .before .before .before .before .margin-fits .ensures) (c .before .before .before .if4 .left)) (c .before .before .buckets-of .ensures) (told-no _ _ (c .before .lists-fit .ensures) (c .if5 .taken))
 
-commands-fit-requires : tie.Need-commands-fit-requires
-commands-fit-requires c κs = count-asked (c .before .before .before .before .before .before .before .before .before .before .before .before .before .before .before .before .before .args .settings) (c .before .before .before .before .before .before .before .before .before .before .before .before .before .before .before .before .before .args .bytes) (c .before .before .before .before .before .before .before .before .before .before .before .before .before .before .before .before .before .args .delays) (lists (c .before .before .before .before .before .before .before .before .before .before .before .before .before .before .before .before .before .args .starts .now) (c .before .before .before .before .before .before .before .before .before .before .before .before .before .before .before .before .before .args .totals .now) (c .before .before .before .before .before .before .before .before .before .before .before .before .before .before .before .before .before .args .counts .now) (c .before .before .before .before .before .before .before .before .before .before .before .before .before .before .before .before .before .args .times .now) (c .before .before .before .before .before .before .before .before .before .before .before .before .before .before .before .before .before .args .peaks .now)) (c .before .before .before .before .before .before .before .before .before .before .before .before .before .before .before .before .before .args .words) (told-yes _ _ (c .before .before .before .before .before .before .before .before .before .before .before .inputs-allowed .ensures) (c .before .before .before .before .before .before .before .before .before .before .if1 .left)) (ranges-let _ _ _ (c .before .before .before .before .before .before .before .before .before .ranges-number .ensures) (c .before .before .before .before .before .before .before .before .if2 .left)) (c .before .before .before .before .before .before .before .policy-of .ensures) (told-yes _ _ (c .before .before .before .before .before .before .pauses-allowed .ensures) (c .before .before .before .before .before .if3 .left))
+output-fits-requires : tie.Need-output-fits-requires
+output-fits-requires c κs = count-asked (c .before .before .before .before .before .before .before .before .before .before .before .before .before .before .before .before .before .args .settings) (c .before .before .before .before .before .before .before .before .before .before .before .before .before .before .before .before .before .args .bytes) (c .before .before .before .before .before .before .before .before .before .before .before .before .before .before .before .before .before .args .delays) (lists (c .before .before .before .before .before .before .before .before .before .before .before .before .before .before .before .before .before .args .starts .now) (c .before .before .before .before .before .before .before .before .before .before .before .before .before .before .before .before .before .args .totals .now) (c .before .before .before .before .before .before .before .before .before .before .before .before .before .before .before .before .before .args .counts .now) (c .before .before .before .before .before .before .before .before .before .before .before .before .before .before .before .before .before .args .times .now) (c .before .before .before .before .before .before .before .before .before .before .before .before .before .before .before .before .before .args .peaks .now)) (c .before .before .before .before .before .before .before .before .before .before .before .before .before .before .before .before .before .args .words) (told-yes _ _ (c .before .before .before .before .before .before .before .before .before .before .before .inputs-allowed .ensures) (c .before .before .before .before .before .before .before .before .before .before .if1 .left)) (ranges-let _ _ _ (c .before .before .before .before .before .before .before .before .before .ranges-number .ensures) (c .before .before .before .before .before .before .before .before .if2 .left)) (c .before .before .before .before .before .before .before .policy-of .ensures) (told-yes _ _ (c .before .before .before .before .before .before .pauses-allowed .ensures) (c .before .before .before .before .before .if3 .left))
 
 returns-6 : tie.Need-returns-6
-returns-6 c = refused-words _ _ _ _ _ (told-yes _ _ (c .before .before .before .before .before .before .before .before .before .before .before .before .before .inputs-allowed .ensures) (c .before .before .before .before .before .before .before .before .before .before .before .before .if1 .left)) (ranges-let _ _ _ (c .before .before .before .before .before .before .before .before .before .before .before .ranges-number .ensures) (c .before .before .before .before .before .before .before .before .before .before .if2 .left)) (c .before .before .before .before .before .before .before .before .before .policy-of .ensures) (told-yes _ _ (c .before .before .before .before .before .before .before .before .pauses-allowed .ensures) (c .before .before .before .before .before .before .before .if3 .left)) (told-yes _ _ (c .before .before .before .before .before .before .margin-fits .ensures) (c .before .before .before .before .before .if4 .left)) (c .before .before .before .before .buckets-of .ensures) (told-yes _ _ (c .before .before .before .lists-fit .ensures) (c .before .before .if5 .left)) (told-no _ _ (c .before .commands-fit .ensures) (c .if6 .taken))
+returns-6 c = refused-words _ _ _ _ _ (told-yes _ _ (c .before .before .before .before .before .before .before .before .before .before .before .before .before .inputs-allowed .ensures) (c .before .before .before .before .before .before .before .before .before .before .before .before .if1 .left)) (ranges-let _ _ _ (c .before .before .before .before .before .before .before .before .before .before .before .ranges-number .ensures) (c .before .before .before .before .before .before .before .before .before .before .if2 .left)) (c .before .before .before .before .before .before .before .before .before .policy-of .ensures) (told-yes _ _ (c .before .before .before .before .before .before .before .before .pauses-allowed .ensures) (c .before .before .before .before .before .before .before .if3 .left)) (told-yes _ _ (c .before .before .before .before .before .before .margin-fits .ensures) (c .before .before .before .before .before .if4 .left)) (c .before .before .before .before .buckets-of .ensures) (told-yes _ _ (c .before .before .before .lists-fit .ensures) (c .before .before .if5 .left)) (told-no _ _ (c .before .output-fits .ensures) (c .if6 .taken))
 
 bytes-fit-requires : tie.Need-bytes-fit-requires
 bytes-fit-requires c κs = search needs
 
 returns-7 : tie.Need-returns-7
-returns-7 c = refused-bytes _ _ _ _ _ (told-yes _ _ (c .before .before .before .before .before .before .before .before .before .before .before .before .before .before .before .inputs-allowed .ensures) (c .before .before .before .before .before .before .before .before .before .before .before .before .before .before .if1 .left)) (ranges-let _ _ _ (c .before .before .before .before .before .before .before .before .before .before .before .before .before .ranges-number .ensures) (c .before .before .before .before .before .before .before .before .before .before .before .before .if2 .left)) (c .before .before .before .before .before .before .before .before .before .before .before .policy-of .ensures) (told-yes _ _ (c .before .before .before .before .before .before .before .before .before .before .pauses-allowed .ensures) (c .before .before .before .before .before .before .before .before .before .if3 .left)) (told-yes _ _ (c .before .before .before .before .before .before .before .before .margin-fits .ensures) (c .before .before .before .before .before .before .before .if4 .left)) (c .before .before .before .before .before .before .buckets-of .ensures) (told-yes _ _ (c .before .before .before .before .before .lists-fit .ensures) (c .before .before .before .before .if5 .left)) (told-yes _ _ (c .before .before .before .commands-fit .ensures) (c .before .before .if6 .left)) (told-no _ _ (c .before .bytes-fit .ensures) (c .if7 .taken))
+returns-7 c = refused-bytes _ _ _ _ _ (told-yes _ _ (c .before .before .before .before .before .before .before .before .before .before .before .before .before .before .before .inputs-allowed .ensures) (c .before .before .before .before .before .before .before .before .before .before .before .before .before .before .if1 .left)) (ranges-let _ _ _ (c .before .before .before .before .before .before .before .before .before .before .before .before .before .ranges-number .ensures) (c .before .before .before .before .before .before .before .before .before .before .before .before .if2 .left)) (c .before .before .before .before .before .before .before .before .before .before .before .policy-of .ensures) (told-yes _ _ (c .before .before .before .before .before .before .before .before .before .before .pauses-allowed .ensures) (c .before .before .before .before .before .before .before .before .before .if3 .left)) (told-yes _ _ (c .before .before .before .before .before .before .before .before .margin-fits .ensures) (c .before .before .before .before .before .before .before .if4 .left)) (c .before .before .before .before .before .before .buckets-of .ensures) (told-yes _ _ (c .before .before .before .before .before .lists-fit .ensures) (c .before .before .before .before .if5 .left)) (told-yes _ _ (c .before .before .before .output-fits .ensures) (c .before .before .if6 .left)) (told-no _ _ (c .before .bytes-fit .ensures) (c .if7 .taken))
 
 returns-8 : tie.Need-returns-8
-returns-8 c = passed-settings _ _ _ _ _ (told-yes _ _ (c .before .before .before .before .before .before .before .before .before .before .before .before .before .before .before .inputs-allowed .ensures) (c .before .before .before .before .before .before .before .before .before .before .before .before .before .before .if1 .left)) (ranges-let _ _ _ (c .before .before .before .before .before .before .before .before .before .before .before .before .before .ranges-number .ensures) (c .before .before .before .before .before .before .before .before .before .before .before .before .if2 .left)) (c .before .before .before .before .before .before .before .before .before .before .before .policy-of .ensures) (told-yes _ _ (c .before .before .before .before .before .before .before .before .before .before .pauses-allowed .ensures) (c .before .before .before .before .before .before .before .before .before .if3 .left)) (told-yes _ _ (c .before .before .before .before .before .before .before .before .margin-fits .ensures) (c .before .before .before .before .before .before .before .if4 .left)) (c .before .before .before .before .before .before .buckets-of .ensures) (told-yes _ _ (c .before .before .before .before .before .lists-fit .ensures) (c .before .before .before .before .if5 .left)) (told-yes _ _ (c .before .before .before .commands-fit .ensures) (c .before .before .if6 .left)) (told-yes _ _ (c .before .bytes-fit .ensures) (c .if7 .left))
+returns-8 c = passed-settings _ _ _ _ _ (told-yes _ _ (c .before .before .before .before .before .before .before .before .before .before .before .before .before .before .before .inputs-allowed .ensures) (c .before .before .before .before .before .before .before .before .before .before .before .before .before .before .if1 .left)) (ranges-let _ _ _ (c .before .before .before .before .before .before .before .before .before .before .before .before .before .ranges-number .ensures) (c .before .before .before .before .before .before .before .before .before .before .before .before .if2 .left)) (c .before .before .before .before .before .before .before .before .before .before .before .policy-of .ensures) (told-yes _ _ (c .before .before .before .before .before .before .before .before .before .before .pauses-allowed .ensures) (c .before .before .before .before .before .before .before .before .before .if3 .left)) (told-yes _ _ (c .before .before .before .before .before .before .before .before .margin-fits .ensures) (c .before .before .before .before .before .before .before .if4 .left)) (c .before .before .before .before .before .before .buckets-of .ensures) (told-yes _ _ (c .before .before .before .before .before .lists-fit .ensures) (c .before .before .before .before .if5 .left)) (told-yes _ _ (c .before .before .before .output-fits .ensures) (c .before .before .if6 .left)) (told-yes _ _ (c .before .bytes-fit .ensures) (c .if7 .left))
 
 pub settings-number-spec : {M : Type 1} → statement M
 settings-number-spec =
@@ -74,7 +74,7 @@ settings-number-spec =
     buckets-of-requires
     lists-fit-requires
     returns-5
-    commands-fit-requires
+    output-fits-requires
     returns-6
     bytes-fit-requires
     returns-7

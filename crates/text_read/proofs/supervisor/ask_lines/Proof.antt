@@ -7,7 +7,7 @@ use Rattle.text_read.proofs.supervisor.ask_lines.Tie as tie
 
 returns : tie.Need-returns
 unfolding askLines
-returns c = rw (c .either3 .ensures, c .before .dump .ensures, c .before .before .either2 .ensures, c .before .before .before .settled .ensures, c .before .before .before .before .either .ensures, c .before .before .before .before .before .has .ensures, c .before .before .before .before .before .before .status .ensures)
+returns c = rw (c .either4 .ensures, c .before .dwrite1 .ensures, c .before .before .either3 .ensures, c .before .before .before .dump .ensures, c .before .before .before .before .either2 .ensures, c .before .before .before .before .before .settled .ensures, c .before .before .before .before .before .before .either .ensures, c .before .before .before .before .before .before .before .has .ensures, c .before .before .before .before .before .before .before .before .status .ensures)
 
 pub ask-lines-spec : {M : Type 1} → statement M
 ask-lines-spec =
@@ -20,4 +20,6 @@ ask-lines-spec =
     (λ c κs. search needs)  -- either-requires-2
     (λ c κs. search needs)  -- dump-requires
     (λ c κs. search needs)  -- either-requires-3
+    (λ c κs. search needs)  -- dwrite1-requires
+    (λ c κs. search needs)  -- either-requires-4
     returns)

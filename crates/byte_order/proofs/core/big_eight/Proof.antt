@@ -1,9 +1,9 @@
--- `inputs_new::loading::bytes_at` meets its contract. Assumes nothing.
+-- `byte_order::core::big_eight` meets its contract. Assumes nothing.
 use Prim.Native.Nat.{_-_}
 use native.Mathlib.Omega.{arith}
-use Rattle.rules_calls.proofs.NewLoops.{Reading, reading-none, reading-room, reading-more, reading-end}
-use Rattle.inputs_new.proofs.loading.bytes_at.Statement.{statement}
-use Rattle.inputs_new.proofs.loading.bytes_at.Tie as tie
+use Rattle.byte_order.proofs.ByteLoops.{Reading, reading-none, reading-room, reading-more, reading-end}
+use Rattle.byte_order.proofs.core.big_eight.Statement.{statement}
+use Rattle.byte_order.proofs.core.big_eight.Tie as tie
 
 abbrev Inv-loop : tie.InvT-loop
 Inv-loop bytes place value₀ n₀ value n = Reading bytes place n value
@@ -35,8 +35,8 @@ loop-again c = reading-more _ _ (c .before .before .before .loop .inv) (c .befor
 returns : tie.Need-returns Inv-loop μ-loop
 returns c = reading-end _ _ (c .before .loop .inv) (c .loop-test .left)
 
-pub bytes-at-spec : {M : Type 1} → statement M
-bytes-at-spec =
+pub big-eight-spec : {M : Type 1} → statement M
+big-eight-spec =
     tie.close
     (tie.spec
     Inv-loop

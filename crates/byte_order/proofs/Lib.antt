@@ -1,0 +1,4 @@
+-- Laws of bytes.
+pub mod Edges
+pub mod ByteLoops
+pub mod Inverse

@@ -1,0 +1,2 @@
+-- Bytes of numbers.
+pub mod Bytes

@@ -1,0 +1,4 @@
+-- The proofs of the claims.
+pub mod FromFile
+pub mod WrittenRead
+pub mod Claimed

@@ -1,0 +1,2 @@
+-- The delay file as a whole.
+pub mod FileClaims

@@ -1,0 +1,11 @@
+-- Laws of the delay file.
+pub mod Edges
+pub mod FlowOrder
+pub mod Heads
+pub mod ReadCases
+pub mod RankLoops
+pub mod WriteCases
+pub mod FileAgain
+pub mod FileAccepted
+pub mod Ranks
+pub mod InOrder
