@@ -3,21 +3,21 @@
 use mathlib.Core.Path.{_≡_, sym, ap, _∙_, subst}
 use mathlib.Core.Logic.{inl, inr}
 use mathlib.Core.Bool.{Bool, true, false, cond, _&&_, _||_, true≢false}
-use Prim.Native.Nat.{ℕ, suc, _+_, _-_, _*_, _/_, _^_, _≤_, _<_, zero-le, min}
-use native.Mathlib.Nat.{eq-or-lt-of-le, le-trans, le-of-eq, le-of-mul-le-mul-right, lt-of-lt-of-le, mul-one, zero-mul, mul-comm, mul-assoc, mul-left-comm, mul-right-comm, mul-pos, mul-le-mul-right, zero-lt-suc}
+use Prim.Native.Nat.{ℕ, suc, _+_, _*_, _/_, _^_, _≤_, _<_, zero-le, min}
+use native.Mathlib.Nat.{eq-or-lt-of-le, le-trans, le-of-eq, le-of-mul-le-mul-right, mul-one, zero-mul, mul-comm, mul-assoc, mul-left-comm, mul-right-comm, mul-pos, mul-le-mul-right, zero-lt-suc}
 use native.Mathlib.Omega.{arith}
 use lib.Dec.{T, leb→le, ltb, lt→ltb, eqb, eqb·suc-zero}
-use lib.Pow.{pow-add, pow-pos, pow-mono, shl-lt}
+use lib.Pow.{pow-pos}
 use lib.IntN.{pos}
 use lib.Ieee.{Float, nan, inf, fin, binary64, up, down, round, mul, div, le}
 use lib.Ieee.Fits.{down-pos, and-i, eq→eqb}
-use lib.Ieee.Exact.{HasValue, round-exact}
+use lib.Ieee.Exact.{HasValue}
 use lib.Ieee.Nearest.{div-mono}
 use lib.Ieee.Order.{round-mono}
 use Rattle.doubles.specs.Doubles.{halfAway, toU32}
 use Rattle.doubles.proofs.Halves.{twice-pos}
-use Rattle.doubles.proofs.Products.{le-says, le-negative, minus-zero, no-factor, round-zero, halves-cross}
-use Rattle.doubles.proofs.Values.{zero-is, or-l}
+use Rattle.doubles.proofs.Products.{round-zero, halves-cross}
+use Rattle.doubles.proofs.Values.{zero-is, or-l, exact, le-says, le-negative, minus-zero, no-factor}
 
 abbrev pub Upto : Float → ℕ → ℕ → Type 0
 Upto nan p r = ⊥
@@ -60,20 +60,6 @@ upto-trans (fin false m e) (fin false n d) p r z h u =
     (down-pos d)
 
 -- ---- q / 2 ^ j is a double, so rounding keeps it as a bound
-
-exact : (q j : ℕ) → q < 2 ^ 53 → j ≤ 1074 → HasValue (round binary64 false q (2 ^ j)) false q (2 ^ j)
-exact q j h l =
-    let i = 1074 - j in
-    let e : 2 ^ i * 2 ^ j ≡ 2 ^ 1074 = sym (pow-add 2 i j) ∙ ap (λ (z : ℕ). 2 ^ z) (whole j l) in
-    round-exact binary64 false q (2 ^ j) q i (pow-pos j) h (lt-of-lt-of-le (shl-lt 53 i h) (pow-mono (room j)))
-    (ap (λ (z : ℕ). q * z) (sym e) ∙ sym (mul-assoc q (2 ^ i) (2 ^ j)))
-  where
-    whole : (j : ℕ) → j ≤ 1074 → 1074 - j + j ≡ 1074
-    whole j l = omega arith
-
-    room : (j : ℕ) → 53 + (1074 - j) ≤ 2098
-    room j = omega arith
-
 pub round-upto : (a b q j : ℕ) → 0 < b → q < 2 ^ 53 → j ≤ 1074 → a * 2 ^ j ≤ q * b → Upto (round binary64 false a b) q (2 ^ j)
 round-upto a b q j B h l k =
     upto-trans (round binary64 false a b) (round binary64 false q (2 ^ j)) q (2 ^ j)

@@ -1,3 +1,4 @@
+pub mod Answers
 pub mod Values
 pub mod Halves
 pub mod Products
@@ -5,3 +6,5 @@ pub mod Ceilings
 pub mod Bounds
 pub mod Delays
 pub mod Places
+pub mod Bracket
+pub mod Nearest

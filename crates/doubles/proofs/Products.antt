@@ -1,14 +1,13 @@
 -- A whole number times a double that is not negative, rounded once: as a fraction, its bounds, and its order. Assumes nothing.
 use mathlib.Core.Path.{_≡_, refl, sym, ap, _∙_, subst}
-use mathlib.Core.Logic.{_⊎_, inl, inr}
-use mathlib.Core.Bool.{Bool, true, false, _&&_, _||_, true≢false}
-use Prim.Native.Nat.{ℕ, _+_, _-_, _*_, _/_, _^_, _≤_, _<_, zero-le}
-use native.Mathlib.Nat.{le-trans, le-of-eq, le-of-lt, lt-irrefl, eq-zero-or-pos, mul-one, zero-mul, mul-comm, mul-assoc, mul-left-comm, mul-pos, mul-le-mul-right, mul-le-mul, add-mul}
+use mathlib.Core.Bool.{Bool, true, false, _&&_, true≢false}
+use Prim.Native.Nat.{ℕ, _+_, _*_, _/_, _^_, _≤_, _<_, zero-le}
+use native.Mathlib.Nat.{le-trans, le-of-eq, mul-one, zero-mul, mul-comm, mul-assoc, mul-left-comm, mul-pos, mul-le-mul-right, mul-le-mul, add-mul}
 use native.Mathlib.Omega.{arith}
-use lib.Dec.{T, ltb, leb, eqb, ltb→lt, lt→ltb, leb→le, eqb→eq}
+use lib.Dec.{T, ltb, eqb, lt→ltb, leb→le}
 use lib.IntN.{ℤ, pos}
 use lib.Ieee.{Float, nan, inf, fin, binary64, up, down, round, mul, lt, le, ofInt}
-use lib.Ieee.Fits.{down-pos, and-l, and-r}
+use lib.Ieee.Fits.{down-pos}
 use lib.Ieee.Exact.{HasValue, round-exact}
 use lib.Ieee.Back.{round-whole}
 use lib.Ieee.Nearest.{div-mono}
@@ -16,32 +15,7 @@ use lib.Ieee.Order.{round-mono}
 use lib.Ieee.Scale.{round-same}
 use Rattle.doubles.specs.Doubles.{double, halfAway}
 use Rattle.doubles.proofs.Halves.{twice-pos, no-halves}
-use Rattle.doubles.proofs.Values.{or-l}
-
--- ---- what `<=` says
-or-split : (a b : Bool) → T (a || b) → T a ⊎ T b
-or-split true b t = inl tt
-or-split false b t = inr t
-
-lt-or-eq : (a b : ℕ) → T (ltb a b || (eqb a b && true)) → a ≤ b
-lt-or-eq a b t = elim (or-split (ltb a b) (eqb a b && true) t) [ inl u ↦ le-of-lt (ltb→lt a b u) | inr u ↦ le-of-eq (eqb→eq a b (and-l (eqb a b) true u)) ]
-
-pub le-says : (m : ℕ) (e : ℤ) (n : ℕ) (d : ℤ) → T (le (fin false m e) (fin false n d)) → m * up e * down d ≤ n * up d * down e
-unfolding le
-le-says m e n d t = lt-or-eq (m * up e * down d) (n * up d * down e) t
-
-pub no-factor : (a b : ℕ) → 0 < b → a * b ≡ 0 → a ≡ 0
-no-factor a b B e = elim (eq-zero-or-pos a) [ inl z ↦ z | inr p ↦ absurd (lt-irrefl 0 (subst (λ (z : ℕ). 0 < z) e (mul-pos p B))) ]
-
--- only a zero is at most a negative value
-pub le-negative : (m : ℕ) (e : ℤ) (n : ℕ) (d : ℤ) → T (le (fin false m e) (fin true n d)) → m * up e ≡ 0
-unfolding le
-le-negative m e n d t = no-factor (m * up e) (down d) (down-pos d) (eqb→eq (m * up e * down d) 0 (and-r (eqb (m * up e * down d) (n * up d * down e)) (eqb (m * up e * down d) 0) t))
-
--- a value from 0 up that has the sign is -0
-pub minus-zero : (n : ℕ) (d : ℤ) → T (le (fin false 0 (pos 0)) (fin true n d)) → n * up d ≡ 0
-unfolding le
-minus-zero n d t = sym (mul-one (n * up d)) ∙ sym (eqb→eq (0 * down d) (n * up d * 1) (and-l (eqb (0 * down d) (n * up d * 1)) (eqb (0 * down d) 0) t)) ∙ zero-mul (down d)
+use Rattle.doubles.proofs.Values.{or-l, le-says, le-negative, minus-zero}
 
 -- ---- the product, as one fraction rounded
 pub double-value : (n : ℕ) → n ≤ 2 ^ 53 → HasValue (double n) false n 1

@@ -1,3 +1,4 @@
--- The definitions that the contracts of `doubles` cite.
+-- The definitions that the contracts of `doubles` cite, and what is shown of its rounding.
 pub mod Doubles
 pub mod Quantile
+pub mod Nearest

@@ -8,13 +8,22 @@ ghost use Rattle.doubles.specs.Doubles.{halfAway};
 ghost use Rattle.doubles.specs.Quantile.{TargetAsked, targetOf};
 
 // x rounded to a whole number, halves away from zero; 0 where x is not above zero. The caller owes x below 2^62.
-// The fraction of twice x is cut, which is exact, so that no half is judged after a rounding.
+// The steps are those of roundTiesToAway, IEEE 754-2019, clause 4.3.1, in the words of document 02, §3. The distance is exact: no half is judged after a rounding.
 pub fn round_half_away(x: f64) -> u64
     requires { ⌜ T (lt x (fin false 1 (pos 62))) ⌝ }
     ensures { λ r. ⌜ r ≡ halfAway x ⌝ }
 {
     if x > 0.0 {
-        return (std::num::truncating_f64_to_u64(x * 2.0) + 1) / 2;
+        // the two whole numbers that bracket x, and how far x lies from the lower one
+        let below = std::num::truncating_f64_to_u64(x);
+        let above = below + 1;
+        let distance = x - std::num::nearest_u64_to_f64(below);
+        // "find the nearest whole number"
+        let nearest = if distance > 0.5 { above } else { below };
+        // "then treat the tie": both are equally near
+        let tie = distance == 0.5;
+        // "then take the larger magnitude"
+        return if tie { above } else { nearest };
     }
     0
 }
