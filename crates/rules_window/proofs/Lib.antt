@@ -1,12 +1,14 @@
 -- Laws of a window.
 pub mod Answers
 pub mod Checking
+pub mod ColumnSums
 pub mod Edges
 pub mod InUse
 pub mod Keeps
 pub mod Laws
 pub mod Numbers
 pub mod Parting
+pub mod OneSecond
 pub mod Reaching
 pub mod Stales
 pub mod Sums
