@@ -1,9 +1,9 @@
--- `text_crafted::rows` is safe and ends. Assumes nothing.
+-- `text_crafted::store_rows` is safe and ends. Assumes nothing.
 use Prim.Native.Nat.{_-_}
 use native.Mathlib.Omega.{arith}
 use borrow.Author.Needs.{needs}
-use Rattle.text_crafted.proofs.rows.Statement.{statement}
-use Rattle.text_crafted.proofs.rows.Tie as tie
+use Rattle.text_crafted.proofs.store_rows.Statement.{statement}
+use Rattle.text_crafted.proofs.store_rows.Tie as tie
 
 abbrev Inv-loop : tie.InvT-loop
 Inv-loop s at buckets second count starts₀ totals₀ counts₀ next₀ first₀ i₀ starts totals counts next first i = Unit {0}
@@ -65,8 +65,8 @@ loop-again c = tt
 returns-2 : tie.Need-returns-2 Inv-loop μ-loop
 returns-2 c = tt
 
-pub rows-spec : {M : Type 1} → statement M
-rows-spec =
+pub store-rows-spec : {M : Type 1} → statement M
+store-rows-spec =
     tie.close
     (tie.spec
     Inv-loop
