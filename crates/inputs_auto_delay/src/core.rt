@@ -26,14 +26,15 @@ pub fn arrive(
     starts: &mut [u64],
     totals: &mut [u64],
     counts: &mut [u32],
+    sums: &mut [u64],
 ) -> Slot
-    requires { ⌜ ArriveAsked inputs (lists (now starts) (now totals) (now counts) [] []) i time (length (now lags)) ⌝ }
-    ensures { λ r. ⌜ ((times peaks : List ℕ) → silent (putSlot inputs i r) (lists (now (starts .exit)) (now (totals .exit)) (now (counts .exit)) times peaks) ≡ arrived i time (now (lags .entry)) inputs (lists (now (starts .entry)) (now (totals .entry)) (now (counts .entry)) times peaks)) ⌝ }
+    requires { ⌜ ArriveAsked inputs (lists (now starts) (now totals) (now counts) (now sums) [] []) i time (length (now lags)) ⌝ }
+    ensures { λ r. ⌜ ((times peaks : List ℕ) → silent (putSlot inputs i r) (lists (now (starts .exit)) (now (totals .exit)) (now (counts .exit)) (now (sums .exit)) times peaks) ≡ arrived i time (now (lags .entry)) inputs (lists (now (starts .entry)) (now (totals .entry)) (now (counts .entry)) (now (sums .entry)) times peaks)) ⌝ }
 {
     let slot = inputs_slots::slot_at(inputs, i);
     let policy = inputs.policy;
     let before = inputs_window::core::window_in(policy, inputs.width, slot);
-    let window = inputs_window::core::push_all(before, i, lags, time, starts, totals, counts);
+    let window = inputs_window::core::push_all(before, i, lags, time, starts, totals, counts, sums);
     let counted = inputs_slots::with_lag_seconds(slot, window.seconds);
     inputs_slots::with_last_lag(counted, steps::last_lag(lags, slot.last_lag))
 }
@@ -61,7 +62,7 @@ pub fn auto_delay(
     max_lag: Lag,
     time: u64,
     starts: &[u64],
-    counts: &[u32],
+    sums: &[u64],
     times: &mut [u64],
     peaks: &mut [u32],
     commands: &mut [u32],
@@ -86,7 +87,7 @@ pub fn auto_delay(
     if !inputs_slots::automatic(slot) {
         return Sent { inputs, used };
     }
-    let next = steps::next_for(inputs, slot, i, max_lag, time, starts, counts, times, peaks);
+    let next = steps::next_for(inputs, slot, i, max_lag, time, starts, sums, times, peaks);
     let hold = next.hold;
     let change = next.change;
     let decided = inputs_slots::with_hold(slot, hold);

@@ -83,7 +83,7 @@ pub(crate) fn interrupted(inputs: Inputs, i: usize, slot: Slot) -> Inputs
 }
 
 // The 0.999 quantile of the lags that the largest delay could cover, after a second of lags.
-fn p999(inputs: Inputs, slot: Slot, i: usize, starts: &[u64], counts: &[u32]) -> Lag
+fn p999(inputs: Inputs, slot: Slot, i: usize, starts: &[u64], sums: &[u64]) -> Lag
     requires { ⌜ P999Asked inputs slot i (now starts) (now counts) ⌝ }
     ensures { λ r. ⌜ ((totals times peaks : List ℕ) → r ≡ p999Of (inputs .policy) (windowFor inputs (lists (now (starts .entry)) totals (now (counts .entry)) times peaks) i slot)) ⌝ }
 {
@@ -93,7 +93,7 @@ fn p999(inputs: Inputs, slot: Slot, i: usize, starts: &[u64], counts: &[u32]) ->
         return Lag::None;
     }
     let limit = policy.read_offset + policy.delay_max;
-    let quantile = inputs_window::core::quantile_upto(window, i, 0.999, limit, counts);
+    let quantile = inputs_window::core::quantile_upto(window, i, 0.999, limit, sums);
     let Quantile::End(end) = quantile else {
         return Lag::None;
     };
@@ -119,7 +119,7 @@ pub(crate) fn next_for(
     max_lag: Lag,
     time: u64,
     starts: &[u64],
-    counts: &[u32],
+    sums: &[u64],
     times: &mut [u64],
     peaks: &mut [u32],
 ) -> Next
@@ -128,7 +128,7 @@ pub(crate) fn next_for(
 {
     let policy = inputs.policy;
     let hold = slot.hold;
-    let p999 = p999(inputs, slot, i, starts, counts);
+    let p999 = p999(inputs, slot, i, starts, sums);
     let from = i * DelayHold::PLACES;
     let to = from + DelayHold::PLACES;
     delay_hold::core::next(

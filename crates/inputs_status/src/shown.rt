@@ -103,14 +103,14 @@ fn arrival_of(half: Quantile, high: Quantile, highest: Quantile) -> Arrival
     Arrival::Of(lag)
 }
 
-// The quantiles of the lags of input i, without a limit.
-fn arrival(window: LagWindow, i: usize, counts: &[u32]) -> Arrival
-    requires { ⌜ Countable window i (now counts) ⌝ }
-    ensures { λ r. ⌜ r ≡ arrivalIn (partOf i (lent window [] [] (now (counts .entry)))) ⌝ }
+// The quantiles of the lags of input i, without a limit, by its row of sums alone.
+fn arrival(window: LagWindow, i: usize, sums: &[u64]) -> Arrival
+    requires { ⌜ Countable window i (now sums) ⌝ }
+    ensures { λ r. ⌜ r ≡ arrivalIn (asOneSecond (window .buckets) (window .width) (part (i * window .buckets) (window .buckets) (now (sums .entry)))) ⌝ }
 {
-    let half = inputs_window::core::quantile_upto(window, i, 0.5, NO_LIMIT, counts);
-    let high = inputs_window::core::quantile_upto(window, i, 0.99, NO_LIMIT, counts);
-    let highest = inputs_window::core::quantile_upto(window, i, 0.999, NO_LIMIT, counts);
+    let half = inputs_window::core::quantile_upto(window, i, 0.5, NO_LIMIT, sums);
+    let high = inputs_window::core::quantile_upto(window, i, 0.99, NO_LIMIT, sums);
+    let highest = inputs_window::core::quantile_upto(window, i, 0.999, NO_LIMIT, sums);
     arrival_of(half, high, highest)
 }
 
@@ -123,11 +123,12 @@ pub(crate) fn status(
     starts: &[u64],
     totals: &[u64],
     counts: &[u32],
+    sums: &[u64],
     times: &[u64],
     peaks: &[u32],
 ) -> InputStatus
-    requires { ⌜ Showable inputs (lists (now starts) (now totals) (now counts) (now times) (now peaks)) i applied ⌝ }
-    ensures { λ r. ⌜ r ≡ statusOf inputs (lists (now (starts .entry)) (now (totals .entry)) (now (counts .entry)) (now (times .entry)) (now (peaks .entry))) i applied channels ⌝ }
+    requires { ⌜ Showable inputs (lists (now starts) (now totals) (now counts) (now sums) (now times) (now peaks)) i applied ⌝ }
+    ensures { λ r. ⌜ r ≡ statusOf inputs (lists (now (starts .entry)) (now (totals .entry)) (now (counts .entry)) (now (sums .entry)) (now (times .entry)) (now (peaks .entry))) i applied channels ⌝ }
 {
     let slot = inputs_slots::slot_at(inputs, i);
     let policy = inputs.policy;
@@ -138,7 +139,7 @@ pub(crate) fn status(
     let extra_delay = config.extra_delay;
     let source = source_of(inputs, to);
     let window = inputs_window::core::window_in(policy, inputs.width, slot);
-    let arrival_lag_ms = arrival(window, i, counts);
+    let arrival_lag_ms = arrival(window, i, sums);
     let from = i * DelayHold::PLACES;
     let end = from + DelayHold::PLACES;
     let worst_lag_ms = worst_ms(slot, &peaks[from..end]);

@@ -3,6 +3,7 @@ pub mod Answers
 pub mod Checking
 pub mod ColumnSums
 pub mod Edges
+pub mod FreshSums
 pub mod InUse
 pub mod Keeps
 pub mod Laws
