@@ -18,11 +18,11 @@ use Rattle.buckets.specs.Ranges.{bucketsOf}
 use Rattle.buckets.proofs.Told.{width-told, buckets-told, buckets-some, ranges-told}
 use Rattle.rules_window.specs.Window.{Window, windowed, fresh, cleared, pushed}
 use Rattle.rules_window.specs.WholeWindow.{Shaped, Sound}
-use Rattle.rules_window.specs.Quantile.{quantileUpto, Placeable, ShortRows}
+use Rattle.rules_window.specs.Quantile.{quantileUpto, Placeable}
 use Rattle.rules_window.specs.ColumnSums.{columnSums, asOneSecond}
 use Rattle.rules_window.specs.Checks.{checked, newest, roomFor, fromZeroToOne, newNumber, pushNumber, quantileNumber, replied, nothing, newReply, pushReply, clearReply, spanReply, answered, quantileUptoReply}
 use Rattle.rules_window.proofs.WholeAt.{whole-of}
-use Rattle.rules_window.proofs.Totals.{total-few, rows-short}
+use Rattle.rules_window.proofs.Totals.{total-few}
 use Rattle.rules_window.proofs.ColumnSums.{sums-length, right-are-own}
 use Rattle.rules_window.proofs.OneSecond.{summedUp, same-total}
 use Rattle.doubles.proofs.Values.{is}
@@ -42,19 +42,21 @@ passed w sums rest h =
     let six = both-true _ _ (g .0) in
     let wide = width-told _ (a .0) in
     let some = buckets-told _ (b .0) in (
-      (record {
-        shaped = record {
-          width-low = wide .0;
-          width-high = wide .1;
-          buckets-low = some .0;
-          buckets-high = some .1;
-          starts-long = eqb-true _ _ (c .0);
-          totals-long = eqb-true _ _ (d .0);
-          counts-long = eqb-true _ _ (e .0);
-        };
-        whole = six .0;
-      },
-      right-are-own w sums (eqb-true _ _ (f .0)) (six .1)),
+      (
+        record {
+          shaped = record {
+            width-low = wide .0;
+            width-high = wide .1;
+            buckets-low = some .0;
+            buckets-high = some .1;
+            starts-long = eqb-true _ _ (c .0);
+            totals-long = eqb-true _ _ (d .0);
+            counts-long = eqb-true _ _ (e .0);
+          };
+          whole = six .0;
+        },
+        right-are-own w sums (eqb-true _ _ (f .0)) (six .1),
+      ),
       g .1,
     )
 
@@ -227,8 +229,7 @@ quantile-asks q limit w sums n e z =
     let a = passed w sums _ (sym e ∙ z) in
     let b = asked _ _ _ (a .1) in
     let s = a .0 .0 in
-    let own = a .0 .1 in
-    (
+    let own = a .0 .1 in (
       (s .shaped .buckets-high, s .shaped .width-low, s .shaped .width-high),
       (ap length own ∙ sums-length w, subst (λ (us : List ℕ). Placeable q limit (asOneSecond (w .buckets) (w .width) us)) (sym own) (sums-placeable q limit w (sound-placeable q limit w s (b .0)))),
     )
