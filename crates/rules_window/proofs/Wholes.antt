@@ -52,7 +52,7 @@ module _ (B : ℕ) (ts cs : List ℕ) (n : ℕ) (long : length cs ≡ 11 * B) (p
   unfolding summed
   row-is r l = eqb-true _ _ (both-true _ _ (all-at _ _ h r l) .1)
 
-  unused-zero : (i : ℕ) → n * B ≤ i → getD cs i 0 ≡ 0
+  pub unused-zero : (i : ℕ) → n * B ≤ i → getD cs i 0 ≡ 0
   unfolding sumFrom
   unused-zero i l = by-le (length cs) i (past-end cs i) inside
     where
