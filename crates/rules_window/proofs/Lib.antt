@@ -13,6 +13,7 @@ pub mod OneSecond
 pub mod Reaching
 pub mod Stales
 pub mod Sums
+pub mod SumsKept
 pub mod Ticks
 pub mod Totals
 pub mod WholeAt

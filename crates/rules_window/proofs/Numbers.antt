@@ -18,11 +18,11 @@ use Rattle.buckets.specs.Ranges.{bucketsOf}
 use Rattle.buckets.proofs.Told.{width-told, buckets-told, buckets-some, ranges-told}
 use Rattle.rules_window.specs.Window.{Window, windowed, fresh, cleared, pushed}
 use Rattle.rules_window.specs.WholeWindow.{Shaped, Sound}
-use Rattle.rules_window.specs.Quantile.{quantileUpto, Placeable, ShortRows}
+use Rattle.rules_window.specs.Quantile.{quantileUpto, Placeable}
 use Rattle.rules_window.specs.ColumnSums.{columnSums, asOneSecond}
 use Rattle.rules_window.specs.Checks.{checked, newest, roomFor, fromZeroToOne, newNumber, pushNumber, quantileNumber, replied, nothing, newReply, pushReply, clearReply, spanReply, answered, quantileUptoReply}
 use Rattle.rules_window.proofs.WholeAt.{whole-of}
-use Rattle.rules_window.proofs.Totals.{total-few, rows-short}
+use Rattle.rules_window.proofs.Totals.{total-few}
 use Rattle.rules_window.proofs.ColumnSums.{sums-length, right-are-own}
 use Rattle.rules_window.proofs.OneSecond.{summedUp, same-total}
 use Rattle.doubles.proofs.Values.{is}
