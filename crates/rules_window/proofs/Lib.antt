@@ -3,7 +3,6 @@ pub mod Answers
 pub mod Checking
 pub mod ColumnSums
 pub mod Edges
-pub mod FreshSums
 pub mod InUse
 pub mod Keeps
 pub mod Laws
