@@ -6,6 +6,7 @@ use lib.ListN.{length, replicate}
 use Rattle.base.specs.Lists.{part, patched}
 use Rattle.lag_window.specs.declared.LagWindow.{LagWindow}
 use Rattle.rules_window.specs.Window.{Window, fresh}
+use Rattle.rules_window.specs.ColumnSums.{columnSums}
 use Rattle.lag_window.specs.Lent.{lent}
 use Rattle.rules_window.specs.Window as window
 use Rattle.rules_window.specs.Parts as parts
@@ -36,9 +37,10 @@ unfolding bucketsIn
 before-held s i slot is-before l f h = subst (λ (w : LagWindow). parts.PartsIn i (lent w (l .starts) (l .totals) (l .counts))) (sym is-before) (window-held s l f i slot h)
 
 -- ---- both
-module _ (s : Inputs) (i : ℕ) (slot : Slot) (a b c times lags a′ b′ c′ times′ lags′ : List ℕ) {before w : LagWindow} {hold : DelayHold} {counted changed : Slot} {r : Inputs}
+module _ (s : Inputs) (i : ℕ) (slot : Slot) (a b c d times lags a′ b′ c′ d′ times′ lags′ : List ℕ) {before w : LagWindow} {hold : DelayHold} {counted changed : Slot} {r : Inputs}
     (is-before : before ≡ windowIn (s .policy) (s .width) slot)
     (is-window : lent w a′ b′ c′ ≡ parts.placed i (window.cleared (parts.partOf i (lent before a b c))) (lent before a b c))
+    (is-sums : d′ ≡ patched (i * before .buckets) (before .buckets) (columnSums (window.cleared (parts.partOf i (lent before a b c)))) d)
     (is-hold : held hold times′ lags′ ≡ held freshHold (patched (i * 600) 600 (replicate (length (part (i * 600) 600 times)) 0) times) (patched (i * 600) 600 (replicate (length (part (i * 600) 600 lags)) 0) lags))
     (is-counted : counted ≡ withLagSeconds slot (w .seconds))
     (is-changed : changed ≡ withHold counted hold)
@@ -49,10 +51,14 @@ module _ (s : Inputs) (i : ℕ) (slot : Slot) (a b c times lags a′ b′ c′ t
   window-is : lent w a′ b′ c′ ≡ placing (windowIn (s .policy) (s .width) slot)
   window-is = is-window ∙ ap placing is-before
 
-  pub cleared-by : silent r (lists a′ b′ c′ times′ lags′) ≡ cleared i slot s (lists a b c times lags)
+  sums-is : d′ ≡ patched (i * bucketsIn s) (bucketsIn s) (columnSums (fresh (bucketsIn s) (s .width))) d
+  unfolding bucketsIn
+  sums-is = is-sums ∙ ap (λ (x : LagWindow). patched (i * x .buckets) (x .buckets) (columnSums (window.cleared (parts.partOf i (lent x a b c)))) d) is-before
+
+  pub cleared-by : silent r (lists a′ b′ c′ d′ times′ lags′) ≡ cleared i slot s (lists a b c d times lags)
   unfolding cleared bucketsIn fresh
   cleared-by =
-      (λ t. silent (is-put t) (lists a′ b′ c′ times′ lags′))
-      ∙ (λ t. silent (putSlot s i (is-changed t)) (lists a′ b′ c′ times′ lags′))
-      ∙ (λ t. silent (putSlot s i (withHold (is-counted t) hold)) (lists a′ b′ c′ times′ lags′))
-      ∙ (λ t. silent (putSlot s i (withHold (withLagSeconds slot (window-is t .seconds)) (is-hold t .hold))) (lists (window-is t .starts) (window-is t .totals) (window-is t .counts) (is-hold t .times) (is-hold t .lags)))
+      (λ t. silent (is-put t) (lists a′ b′ c′ d′ times′ lags′))
+      ∙ (λ t. silent (putSlot s i (is-changed t)) (lists a′ b′ c′ d′ times′ lags′))
+      ∙ (λ t. silent (putSlot s i (withHold (is-counted t) hold)) (lists a′ b′ c′ d′ times′ lags′))
+      ∙ (λ t. silent (putSlot s i (withHold (withLagSeconds slot (window-is t .seconds)) (is-hold t .hold))) (lists (window-is t .starts) (window-is t .totals) (window-is t .counts) (sums-is t) (is-hold t .times) (is-hold t .lags)))
