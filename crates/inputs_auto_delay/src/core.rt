@@ -3,8 +3,9 @@ ghost use mathlib.Core.Path.{_≡_};
 ghost use mathlib.Core.List.{List, []};
 ghost use Prim.Native.Nat.{ℕ, _+_, _≤_};
 ghost use lib.ListN.{length};
-ghost use Rattle.rules_record.specs.Inputs.{putSlot};
+ghost use Rattle.rules_record.specs.Inputs.{slotAt, putSlot};
 ghost use Rattle.rules_record.specs.Lent.{lists};
+ghost use Rattle.rules_record.specs.Facts.{OwnSums};
 ghost use Rattle.rules_record.specs.Effects.{silent, Effected};
 ghost use Rattle.rules_tick.specs.Lags.{arrived, largestOf};
 ghost use Rattle.rules_tick.specs.LateEvents.{lateSlot};
@@ -55,7 +56,7 @@ pub fn late_event(policy: DelayPolicy, slot: Slot, applied: u32, max_lag: Lag) -
     inputs_slots::with_late(slot, steps::late_events(slot, late), late)
 }
 
-// The automatic delay of input i decides on the largest lag of the tick.
+// The automatic delay of input i decides on the largest lag of the tick. Of its window it reads the starts and the row of sums alone.
 pub fn auto_delay(
     inputs: Inputs,
     i: usize,
@@ -68,9 +69,9 @@ pub fn auto_delay(
     commands: &mut [u32],
     used: usize,
 ) -> Sent
-    requires { ⌜ AutoAsked inputs i (now starts) (now counts) (now times) (now peaks) ⌝ }
+    requires { ⌜ AutoAsked inputs i (now starts) (now sums) (now times) (now peaks) ⌝ }
     requires { ⌜ used + 3 ≤ length (now commands) ⌝ }
-    ensures { λ r. ⌜ ((totals : List ℕ) → Effected 3 (autoDelayed i «max_lag» time inputs (lists (now (starts .entry)) totals (now (counts .entry)) (now (times .entry)) (now (peaks .entry)))) r (lists (now (starts .entry)) totals (now (counts .entry)) (now (times .exit)) (now (peaks .exit))) (now (commands .entry)) (now (commands .exit)) used) ⌝ }
+    ensures { λ r. ⌜ ((totals counts : List ℕ) → OwnSums inputs (lists (now (starts .entry)) totals counts (now (sums .entry)) (now (times .entry)) (now (peaks .entry))) i (slotAt inputs i) → Effected 3 (autoDelayed i «max_lag» time inputs (lists (now (starts .entry)) totals counts (now (sums .entry)) (now (times .entry)) (now (peaks .entry)))) r (lists (now (starts .entry)) totals counts (now (sums .entry)) (now (times .exit)) (now (peaks .exit))) (now (commands .entry)) (now (commands .exit)) used) ⌝ }
 {
     let slot = inputs_slots::slot_at(inputs, i);
     let state = slot.state;

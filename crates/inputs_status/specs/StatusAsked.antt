@@ -2,29 +2,26 @@
 use Prim.Native.Nat.{ℕ, _+_, _*_, _<_, _≤_}
 use mathlib.Core.Bool.{true}
 use mathlib.Core.Path.{_≡_}
-use mathlib.Core.List.{List, []}
+use mathlib.Core.List.{List}
 use lib.Ieee.{Float}
 use lib.ListN.{length}
 use Rattle.base.specs.Lists.{part}
 use Rattle.base.specs.Limits.{widthLimit, bucketsLimit}
 use Rattle.lag_window.specs.declared.LagWindow.{LagWindow}
-use Rattle.lag_window.specs.Lent.{lent}
-use Rattle.rules_window.specs.Parts.{partOf}
 use Rattle.rules_window.specs.Checks.{fromZeroToOne}
-use Rattle.rules_window.specs.Quantile.{Placeable, ShortRows}
+use Rattle.rules_window.specs.Quantile.{Placeable}
+use Rattle.rules_window.specs.ColumnSums.{asOneSecond}
 use Rattle.rules_record.specs.declared.Inputs.{Inputs}
 use Rattle.rules_record.specs.Lent.{Lists}
 use Rattle.rules_record.specs.Facts.{Checked}
 
--- a window whose quantiles without limit can be worked out from the counts of all inputs
-pub record Countable (w : LagWindow) (i : ℕ) (counts : List ℕ) : Type 0 where
-  pub few : w .seconds ≤ 11
+-- a window whose quantiles without limit can be worked out from the rows of sums of all inputs
+pub record Countable (w : LagWindow) (i : ℕ) (sums : List ℕ) : Type 0 where
   pub buckets-most : w .buckets ≤ bucketsLimit
   pub width-least : 1 ≤ w .width
   pub width-most : w .width ≤ widthLimit
-  pub counts-in : i * (11 * w .buckets) + 11 * w .buckets ≤ length counts
-  pub placeable : (q : Float) → fromZeroToOne q ≡ true → Placeable q 4294967295 (partOf i (lent w [] [] counts))
-  pub short : ShortRows (w .buckets) (w .seconds) (part (i * (11 * w .buckets)) (11 * w .buckets) counts)
+  pub sums-in : i * w .buckets + w .buckets ≤ length sums
+  pub placeable : (q : Float) → fromZeroToOne q ≡ true → Placeable q 4294967295 (asOneSecond (w .buckets) (w .width) (part (i * w .buckets) (w .buckets) sums))
 
 -- an input of a record that the checks let through, and an applied delay
 pub record Showable (s : Inputs) (l : Lists) (i applied : ℕ) : Type 0 where

@@ -1,10 +1,9 @@
 // What a status shows of one input, for a record and lists that the checks let through.
 ghost use mathlib.Core.Path.{_≡_};
-ghost use mathlib.Core.List.{[]};
-ghost use Prim.Native.Nat.{_≤_};
+ghost use Prim.Native.Nat.{_*_, _≤_};
 ghost use lib.ListN.{length};
-ghost use Rattle.lag_window.specs.Lent.{lent};
-ghost use Rattle.rules_window.specs.Parts.{partOf};
+ghost use Rattle.base.specs.Lists.{part};
+ghost use Rattle.rules_window.specs.ColumnSums.{asOneSecond};
 ghost use Rattle.rules_record.specs.Lent.{lists};
 ghost use Rattle.rules_calls.specs.Status.{sourceOf, channelsShown, proposedMs, lagMs, worstMs, arrivalOf, arrivalIn, statusOf};
 ghost use Rattle.inputs_status.specs.StatusAsked.{Countable, Showable};

@@ -1,3 +1,3 @@
-// The rows of counts of a lag window, summed along memory, and the quantile of the lags that they count (document 01, "LagWindow").
-// They know of no `LagWindow`: they take how many seconds are in use, how many buckets a second has, and a bucket's width.
+// The rows of counts of a lag window and their row of sums: whether totals and sums are right (check 6), the sums when seconds go, and the quantile that
+// the row of sums tells (document 01, "LagWindow"; document 02, §5). They know of no `LagWindow`: they take how many buckets a second has, and a bucket's width.
 pub mod core;

@@ -19,7 +19,7 @@ use Rattle.rules_window.specs.Window.{fresh}
 use Rattle.rules_window.specs.WholeWindow.{wholeWindow}
 use Rattle.rules_window.specs.ColumnSums.{rightSums}
 use Rattle.rules_window.proofs.ColumnSums.{own-sums-right}
-use Rattle.rules_window.proofs.FreshSums.{fresh-sums}
+use Rattle.rules_window.proofs.SumsKept.{fresh-sums}
 use Rattle.delay_hold.specs.Next.{held, freshHold}
 use Rattle.delay_hold.specs.Whole.{wholeHold}
 use Rattle.rules_record.specs.declared.Slot.{Slot}

@@ -3,7 +3,6 @@ pub mod Answers
 pub mod Checking
 pub mod ColumnSums
 pub mod Edges
-pub mod FreshSums
 pub mod InUse
 pub mod Keeps
 pub mod Laws
@@ -13,6 +12,7 @@ pub mod OneSecond
 pub mod Reaching
 pub mod Stales
 pub mod Sums
+pub mod SumsKept
 pub mod Ticks
 pub mod Totals
 pub mod WholeAt

@@ -1,7 +1,7 @@
 -- The checks of the calls on a window: what a number says, and what a call answers and leaves. Assumes nothing.
 use Prim.Native.Nat.{ℕ, zero, suc, _+_, _-_, _*_, _<_, _≤_}
 use mathlib.Core.Bool.{Bool, true, false, not}
-use mathlib.Core.Path.{_≡_, refl, sym, ap, subst, _∙_}
+use mathlib.Core.Path.{_≡_, refl, sym, ap, _∙_}
 use mathlib.Core.List.{List}
 use native.Mathlib.Omega.{arith}
 use borrow.Author.Tests.{le-leb, lt-leb, leb-true, eqb-true, not-true, not-false}
@@ -18,13 +18,13 @@ use Rattle.buckets.specs.Ranges.{bucketsOf}
 use Rattle.buckets.proofs.Told.{width-told, buckets-told, buckets-some, ranges-told}
 use Rattle.rules_window.specs.Window.{Window, windowed, fresh, cleared, pushed}
 use Rattle.rules_window.specs.WholeWindow.{Shaped, Sound}
-use Rattle.rules_window.specs.Quantile.{quantileUpto, Placeable, ShortRows}
+use Rattle.rules_window.specs.Quantile.{quantileUpto, Placeable}
 use Rattle.rules_window.specs.ColumnSums.{columnSums, asOneSecond}
 use Rattle.rules_window.specs.Checks.{checked, newest, roomFor, fromZeroToOne, newNumber, pushNumber, quantileNumber, replied, nothing, newReply, pushReply, clearReply, spanReply, answered, quantileUptoReply}
 use Rattle.rules_window.proofs.WholeAt.{whole-of}
-use Rattle.rules_window.proofs.Totals.{total-few, rows-short}
+use Rattle.rules_window.proofs.Totals.{total-few}
 use Rattle.rules_window.proofs.ColumnSums.{sums-length, right-are-own}
-use Rattle.rules_window.proofs.OneSecond.{summedUp, same-total}
+use Rattle.rules_window.proofs.OneSecond.{row-placeable, same-quantile}
 use Rattle.doubles.proofs.Values.{is}
 
 -- ---- 17, 18, 5 and 6, and then the rest
@@ -90,6 +90,9 @@ module _ (w : Window) (sums : List ℕ) (n : ℕ) (e : n ≡ checked w sums 0) w
   pub checked-sums : n ≡ 0 → sums ≡ columnSums w
   checked-sums z = passed w sums 0 (sym e ∙ z) .0 .1
 
+  pub clear-asks : n ≡ 0 → Shaped w × (length sums ≡ w .buckets)
+  clear-asks z = (checked-sound z .shaped, ap length (checked-sums z) ∙ sums-length w)
+
 -- ---- what `new` was asked
 pub new-settings : (offset maximum width a b c d n : ℕ) → n ≡ newNumber offset maximum width a b c d → n ≡ 0 → (offset ≤ samplesLimit) × (maximum ≤ samplesLimit) × (1 ≤ width)
 unfolding newNumber
@@ -97,23 +100,26 @@ new-settings offset maximum width a b c d n e z =
     let r = ranges-told offset maximum width _ (sym e ∙ z) .0 in
     (r .offset-most, r .maximum-most, r .width-least)
 
-pub new-shaped : (offset maximum width : ℕ) (s t c us : List ℕ) (n B : ℕ) → n ≡ newNumber offset maximum width (length s) (length t) (length c) (length us) → n ≡ 0 → B ≡ bucketsOf offset maximum width → Shaped (windowed 0 B width s t c)
+pub new-asks : (offset maximum width : ℕ) (s t c us : List ℕ) (n B : ℕ) → n ≡ newNumber offset maximum width (length s) (length t) (length c) (length us) → n ≡ 0 → B ≡ bucketsOf offset maximum width → Shaped (windowed 0 B width s t c) × (length us ≡ B)
 unfolding newNumber
-new-shaped offset maximum width s t c us n B e z eb =
+new-asks offset maximum width s t c us n B e z eb =
     let told = ranges-told offset maximum width _ (sym e ∙ z) in
     let ranged = told .0 in
     let a = asked _ _ _ (told .1) in
     let b = asked _ _ _ (a .1) in
     let d = asked _ _ _ (b .1) in
-    record {
-      width-low = ranged .width-least;
-      width-high = ranged .width-most;
-      buckets-low = omega (arith, eb, buckets-some offset maximum width);
-      buckets-high = rw eb (ranged .buckets-most);
-      starts-long = eqb-true _ _ (a .0);
-      totals-long = eqb-true _ _ (b .0);
-      counts-long = eqb-true _ _ (d .0) ∙ ap (λ (x : ℕ). 11 * x) (sym eb);
-    }
+    let f = asked _ _ _ (d .1) in (
+      record {
+        width-low = ranged .width-least;
+        width-high = ranged .width-most;
+        buckets-low = omega (arith, eb, buckets-some offset maximum width);
+        buckets-high = rw eb (ranged .buckets-most);
+        starts-long = eqb-true _ _ (a .0);
+        totals-long = eqb-true _ _ (b .0);
+        counts-long = eqb-true _ _ (d .0) ∙ ap (λ (x : ℕ). 11 * x) (sym eb);
+      },
+      eqb-true _ _ (f .0) ∙ sym eb,
+    )
 
 -- ---- refused, or not
 pub replied-old : (n N : ℕ) (old : Window) (sums : List ℕ) (new : Window) → n ≡ N → (n ≡ 0 → ⊥) → record { number = n; window = old; sums = sums } ≡ replied N old sums new
@@ -164,9 +170,15 @@ module _ (w : Window) (sums : List ℕ) (n : ℕ) where
       go zero e h = absurd (h refl)
       go (suc k) e h = rw (← e)
 
-  pub quantile-made : (q : Float) (limit : ℕ) (r : Quantile) → n ≡ quantileNumber q w sums → n ≡ 0 → r ≡ quantileUpto q limit w → r ≡ quantileUptoReply q limit w sums
-  unfolding quantileUptoReply
-  quantile-made q limit r e z h = rw (← e, z) h
+  -- the quantile of the row of sums is that of the window
+  pub quantile-made : (q : Float) (limit : ℕ) (r : Quantile) → n ≡ quantileNumber q w sums → n ≡ 0 → r ≡ quantileUpto q limit (asOneSecond (w .buckets) (w .width) sums) → r ≡ quantileUptoReply q limit w sums
+  unfolding quantileUptoReply quantileNumber
+  quantile-made q limit r e z h =
+      let own : sums ≡ columnSums w = passed w sums _ (sym e ∙ z) .0 .1 in
+      h
+      ∙ (ap (λ (us : List ℕ). quantileUpto q limit (asOneSecond (w .buckets) (w .width) us)) own
+      ∙ (same-quantile w limit q
+      ∙ ap (λ (k : ℕ). answered k (quantileUpto q limit w)) (sym (sym e ∙ z))))
 
 -- ---- the numbers of push and of the quantiles
 module _ (time : ℕ) (w : Window) (sums : List ℕ) (n : ℕ) (e : n ≡ checked w sums 0) where
@@ -189,13 +201,13 @@ module _ (time : ℕ) (w : Window) (sums : List ℕ) (n : ℕ) (e : n ≡ checke
   pub room-asks : n ≡ 0 → (w .seconds ≤ length (w .starts)) × (w .seconds ≤ length (w .totals))
   room-asks z = let s = whole-of w (checked-sound w sums n e z) in (omega (arith, s .few, s .ls), omega (arith, s .few, s .lt))
 
-pub push-asks : (time : ℕ) (w : Window) (sums : List ℕ) (n : ℕ) → n ≡ pushNumber time w sums → n ≡ 0 → (Sound w × (sums ≡ columnSums w)) × ((time ≤ timeLimit) × (newest time w < 4294967295))
+pub push-asks : (time : ℕ) (w : Window) (sums : List ℕ) (n : ℕ) → n ≡ pushNumber time w sums → n ≡ 0 → Sound w × ((sums ≡ columnSums w) × ((time ≤ timeLimit) × (newest time w < 4294967295)))
 unfolding pushNumber
 push-asks time w sums n e z =
     let a = passed w sums _ (sym e ∙ z) in
     let b = asked _ _ _ (a .1) in
     let c = asked _ _ _ (b .1) in
-    (a .0, (leb-true _ _ (b .0), (let h : newest time w + 1 ≤ 4294967295 = leb-true _ _ (c .0) in omega arith)))
+    (a .0 .0, (a .0 .1, (leb-true _ _ (b .0), (let h : newest time w + 1 ≤ 4294967295 = leb-true _ _ (c .0) in omega arith))))
 
 module _ (q : Float) (w : Window) (sums : List ℕ) (n : ℕ) (e : n ≡ checked w sums 0) where
   pub quantile-stops : (n ≡ 0 → ⊥) → n ≡ quantileNumber q w sums
@@ -217,10 +229,6 @@ sound-placeable q limit w s h =
     let b = both-true _ _ h in
     record { few = total-few limit w s; low = is (b .0); high = is (b .1) }
 
--- .. and so does its row of sums, read as one second
-sums-placeable : (q : Float) (limit : ℕ) (w : Window) → Placeable q limit w → Placeable q limit (summedUp w)
-sums-placeable q limit w p = rw (same-total w limit) p
-
 -- what the quantile over the row of sums asks, of a window that its checks let through
 pub quantile-asks : (q : Float) (limit : ℕ) (w : Window) (sums : List ℕ) (n : ℕ) → n ≡ quantileNumber q w sums → n ≡ 0
     → ((w .buckets ≤ bucketsLimit) × (1 ≤ w .width) × (w .width ≤ widthLimit)) × ((length sums ≡ w .buckets) × Placeable q limit (asOneSecond (w .buckets) (w .width) sums))
@@ -231,7 +239,7 @@ quantile-asks q limit w sums n e z =
     let s = a .0 .0 in
     let own = a .0 .1 in (
       (s .shaped .buckets-high, s .shaped .width-low, s .shaped .width-high),
-      (ap length own ∙ sums-length w, subst (λ (us : List ℕ). Placeable q limit (asOneSecond (w .buckets) (w .width) us)) (sym own) (sums-placeable q limit w (sound-placeable q limit w s (b .0)))),
+      (ap length own ∙ sums-length w, row-placeable w limit q own (sound-placeable q limit w s (b .0))),
     )
 
 pub span-asks : (w : Window) (sums : List ℕ) (n : ℕ) → n ≡ checked w sums 0 → n ≡ 0 → w .seconds ≤ length (w .starts)

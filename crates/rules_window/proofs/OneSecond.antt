@@ -1,6 +1,6 @@
 -- The quantile of a window is that of its row of sums, read as one second. Assumes nothing.
 use Prim.Native.Nat.{ℕ, zero, suc, _+_, _*_, _<_, _≤_}
-use mathlib.Core.Path.{_≡_, refl, sym, ap, _∙_}
+use mathlib.Core.Path.{_≡_, refl, sym, ap, subst, _∙_}
 use mathlib.Core.List.{List}
 use native.Mathlib.Omega.{arith}
 use lib.Dec.{leb, eqb}
@@ -15,7 +15,7 @@ use Rattle.rules_window.specs.declared.Quantile.the-variants.{None}
 use Rattle.rules_window.specs.declared.Found.{Found}
 use Rattle.rules_window.specs.declared.Found.the-variants.{At}
 use Rattle.rules_window.specs.Window.{Window}
-use Rattle.rules_window.specs.Quantile.{column, within, running, reach, endOf, quantileIn, quantileUpto, lagsIn, totalUpto}
+use Rattle.rules_window.specs.Quantile.{column, within, running, reach, endOf, quantileIn, quantileUpto, lagsIn, totalUpto, Placeable}
 use Rattle.rules_window.specs.ColumnSums.{columnSums, asOneSecond}
 use Rattle.rules_window.proofs.ColumnSums.{sums-at}
 
@@ -42,6 +42,10 @@ module _ (w : Window) where
 
     pub same-total : totalUpto limit summedUp ≡ totalUpto limit w
     same-total = same-running (w .buckets) (omega arith)
+
+    -- a place among the window's lags is one among those of the row
+    pub row-placeable : (q : Float) {sums : List ℕ} → sums ≡ columnSums w → Placeable q limit w → Placeable q limit (asOneSecond (w .buckets) (w .width) sums)
+    row-placeable q own p = subst (λ (row : List ℕ). Placeable q limit (asOneSecond (w .buckets) (w .width) row)) (sym own) (rw same-total p)
 
     abbrev reached : Window → ℕ → ℕ → ℕ → Found
     reached v target m b = reach target limit (v .width) (v .buckets) (v .seconds) (v .counts) m b

@@ -11,7 +11,7 @@ window-in-requires c κs = search needs
 clear-requires : tie.Need-clear-requires
 clear-requires c κs =
     let entry = c .before .before .before .before .before .before .before .before .before .before in
-    before-held _ _ (entry .args .slot) (c .before .before .before .window-in .ensures) (lists (entry .args .starts .now) (entry .args .totals .now) (entry .args .counts .now) (entry .args .times .now) (entry .args .peaks .now)) (entry .pre .0) (entry .pre .1)
+    before-held _ _ (entry .args .slot) (c .before .before .before .window-in .ensures) (lists (entry .args .starts .now) (entry .args .totals .now) (entry .args .counts .now) (entry .args .sums .now) (entry .args .times .now) (entry .args .peaks .now)) (entry .pre .0) (entry .pre .1)
 
 clear-hold-requires : tie.Need-clear-hold-requires
 clear-hold-requires c κs = search needs
@@ -41,7 +41,7 @@ same-length-5 : tie.Need-same-length-5
 same-length-5 c = search needs
 
 returns : tie.Need-returns
-returns c = cleared-by _ _ _ _ _ _ _ _ _ _ _ _ _ (c .before .before .before .before .before .before .before .before .before .before .before .before .before .before .before .before .before .before .before .before .window-in .ensures) (c .before .before .before .before .before .before .before .before .before .before .before .before .before .before .before .before .clear .ensures) (c .before .before .before .before .before .before .before .clear-hold .ensures) (c .before .before .with-lag-seconds .ensures) (c .before .with-hold .ensures) (c .put-slot .ensures)
+returns c = cleared-by _ _ _ _ _ _ _ _ _ _ _ _ _ _ _ (c .before .before .before .before .before .before .before .before .before .before .before .before .before .before .before .before .before .before .before .before .window-in .ensures) (c .before .before .before .before .before .before .before .before .before .before .before .before .before .before .before .before .clear .ensures .0) (c .before .before .before .before .before .before .before .before .before .before .before .before .before .before .before .before .clear .ensures .1) (c .before .before .before .before .before .before .before .clear-hold .ensures) (c .before .before .with-lag-seconds .ensures) (c .before .with-hold .ensures) (c .put-slot .ensures)
 
 pub clear-spec : {M : Type 1} → statement M
 clear-spec =

@@ -9,10 +9,10 @@ pub quantile-upto-spec : {M : Type 1} → statement M
 quantile-upto-spec =
     tie.close
     (tie.spec
-    (λ c κs. search needs)  -- total-upto-requires
+    (λ c κs. (omega arith, c .before .pre .1 .1 .few))  -- total-upto-requires
     (λ c. quantile-none _ _ _ _ _ _ _ (c .before .total-upto .ensures) (c .if1 .taken))  -- returns
     (λ c κs. search needs)  -- quantile-place-requires
-    (λ c κs. search needs)  -- reached-requires
+    (λ c κs. (omega arith, c .before .before .before .before .pre .1 .1 .few))  -- reached-requires
     (λ c. search needs)  -- enum-known-b
     (λ c. search needs)  -- enum-told
     (λ c. quantile-nowhere _ _ _ _ _ _ _ (c .before .before .before .before .before .total-upto .ensures) _ (c .before .before .before .quantile-place .ensures) _ (c .before .before .reached .ensures) (c .before .before .before .before .if1 .left) (c .enum-told .given .1))  -- returns-2
