@@ -30,22 +30,20 @@ window-in-requires : tie.Need-window-in-requires
 window-in-requires c κs = search needs
 
 whole-requires : tie.Need-whole-requires
-whole-requires c κs = rw (c .window-in .ensures) (c .before .before .before .before .before .before .pre .1 .0, c .before .before .before .before .before .before .pre .1 .1 .0)
+whole-requires c κs = rw (c .window-in .ensures) (c .before .before .before .before .before .before .before .pre .1 .0, c .before .before .before .before .before .before .before .pre .1 .1 .0)
 
 returns : tie.Need-returns
 unfolding wholeInput
-returns c s p w f e =
-    let args = c .before .before .before .before .before .before .before .before .args in
-    both-no _ _ (told-no _ _ (told-window (args .i) (args .starts .now) (args .totals .now) (args .counts .now) (args .sums .now) (args .times .now) (args .peaks .now) s p w e (of-slot (args .i) (args .starts .now) (args .totals .now) (args .counts .now) (args .sums .now) (c .before .before .window-in .ensures) (c .before .whole .ensures))) (c .if1 .taken))
+returns c s p w f e = let args = c .before .before .before .before .before .before .before .before .before .args in both-no _ _ (told-no _ _ (told-window (args .i) (args .starts .now) (args .totals .now) (args .counts .now) (args .sums .now) (args .times .now) (args .peaks .now) s p w e (of-slot (args .i) (args .starts .now) (args .totals .now) (args .counts .now) (args .sums .now) (c .before .before .window-in .ensures) (c .before .whole .ensures))) (c .if1 .taken))
 
 mul-a : tie.Need-mul-a
-mul-a c = search (needs, c .before .before .before .before .before .before .before .before .before .pre .1 .1 .1, c .before .before .before .before .before .before .before .before .before .good .1 .1 .1 .1 .1 .1 .1 .1 .1 .0)
+mul-a c = search (needs, c .before .before .before .before .before .before .before .before .before .before .pre .1 .1 .1, c .before .before .before .before .before .before .before .before .before .before .good .1 .1 .1 .1 .1 .1 .1 .1 .1 .0)
 
 add-e : tie.Need-add-e
-add-e c = search (needs, c .before .before .before .before .before .before .before .before .before .pre .1 .1 .1, c .before .before .before .before .before .before .before .before .before .good .1 .1 .1 .1 .1 .1 .1 .1 .1 .0)
+add-e c = search (needs, c .before .before .before .before .before .before .before .before .before .before .pre .1 .1 .1, c .before .before .before .before .before .before .before .before .before .before .good .1 .1 .1 .1 .1 .1 .1 .1 .1 .0)
 
 mul-whole : tie.Need-mul-whole
-mul-whole c = search (needs, c .before .before .before .before .before .before .before .before .before .pre .1 .1 .1, c .before .before .before .before .before .before .before .before .before .good .1 .1 .1 .1 .1 .1 .1 .1 .1 .0)
+mul-whole c = search (needs, c .before .before .before .before .before .before .before .before .before .before .pre .1 .1 .1, c .before .before .before .before .before .before .before .before .before .before .good .1 .1 .1 .1 .1 .1 .1 .1 .1 .0)
 
 sub-whole : tie.Need-sub-whole
 sub-whole c = search needs
@@ -57,7 +55,7 @@ part-whole-end : tie.Need-part-whole-end
 part-whole-end c = search needs
 
 mul-whole-2 : tie.Need-mul-whole-2
-mul-whole-2 c = search (needs, c .before .before .before .before .before .before .before .before .before .before .pre .1 .1 .1, c .before .before .before .before .before .before .before .before .before .before .good .1 .1 .1 .1 .1 .1 .1 .1 .1 .0)
+mul-whole-2 c = search (needs, c .before .before .before .before .before .before .before .before .before .before .before .pre .1 .1 .1, c .before .before .before .before .before .before .before .before .before .before .before .good .1 .1 .1 .1 .1 .1 .1 .1 .1 .0)
 
 sub-whole-2 : tie.Need-sub-whole-2
 sub-whole-2 c = search needs
@@ -73,21 +71,14 @@ whole-requires-2 c κs = search needs
 
 returns-2 : tie.Need-returns-2
 unfolding wholeInput
-returns-2 c s p w f e =
-    let args = c .before .before .before .before .before .before .before .before .before .before .before .before .before .args in
-    both-yes _ _ _ (told-yes _ _ (told-window (args .i) (args .starts .now) (args .totals .now) (args .counts .now) (args .sums .now) (args .times .now) (args .peaks .now) s p w e (of-slot (args .i) (args .starts .now) (args .totals .now) (args .counts .now) (args .sums .now) (c .before .before .before .before .before .before .before .window-in .ensures) (c .before .before .before .before .before .before .whole .ensures))) (c .before .before .before .before .before .if1 .left))
-    (both-no _ _ (told-no _ _ (told-hold (args .i) (args .starts .now) (args .totals .now) (args .counts .now) (args .sums .now) (args .times .now) (args .peaks .now) s p w e (add-sub-cancel-left (args .i * 600) 600) (c .before .whole2 .ensures)) (c .if2 .taken)))
+returns-2 c s p w f e = let args = c .before .before .before .before .before .before .before .before .before .before .before .before .before .before .args in both-yes _ _ _ (told-yes _ _ (told-window (args .i) (args .starts .now) (args .totals .now) (args .counts .now) (args .sums .now) (args .times .now) (args .peaks .now) s p w e (of-slot (args .i) (args .starts .now) (args .totals .now) (args .counts .now) (args .sums .now) (c .before .before .before .before .before .before .before .window-in .ensures) (c .before .before .before .before .before .before .whole .ensures))) (c .before .before .before .before .before .if1 .left)) (both-no _ _ (told-no _ _ (told-hold (args .i) (args .starts .now) (args .totals .now) (args .counts .now) (args .sums .now) (args .times .now) (args .peaks .now) s p w e (add-sub-cancel-left (args .i * 600) 600) (c .before .whole2 .ensures)) (c .if2 .taken)))
 
 whole-slot-requires : tie.Need-whole-slot-requires
 whole-slot-requires c κs = search needs
 
 returns-3 : tie.Need-returns-3
 unfolding wholeInput
-returns-3 c s p w f e =
-    let args = c .before .before .before .before .before .before .before .before .before .before .before .before .before .before .args in
-    both-yes _ _ _ (told-yes _ _ (told-window (args .i) (args .starts .now) (args .totals .now) (args .counts .now) (args .sums .now) (args .times .now) (args .peaks .now) s p w e (of-slot (args .i) (args .starts .now) (args .totals .now) (args .counts .now) (args .sums .now) (c .before .before .before .before .before .before .before .before .window-in .ensures) (c .before .before .before .before .before .before .before .whole .ensures))) (c .before .before .before .before .before .before .if1 .left))
-    (both-yes _ _ _ (told-yes _ _ (told-hold (args .i) (args .starts .now) (args .totals .now) (args .counts .now) (args .sums .now) (args .times .now) (args .peaks .now) s p w e (add-sub-cancel-left (args .i * 600) 600) (c .before .before .whole2 .ensures)) (c .before .if2 .left))
-    (told-slot (args .i) (args .starts .now) (args .totals .now) (args .counts .now) (args .sums .now) (args .times .now) (args .peaks .now) s p w e f (c .whole-slot .ensures)))
+returns-3 c s p w f e = let args = c .before .before .before .before .before .before .before .before .before .before .before .before .before .before .before .args in both-yes _ _ _ (told-yes _ _ (told-window (args .i) (args .starts .now) (args .totals .now) (args .counts .now) (args .sums .now) (args .times .now) (args .peaks .now) s p w e (of-slot (args .i) (args .starts .now) (args .totals .now) (args .counts .now) (args .sums .now) (c .before .before .before .before .before .before .before .before .window-in .ensures) (c .before .before .before .before .before .before .before .whole .ensures))) (c .before .before .before .before .before .before .if1 .left)) (both-yes _ _ _ (told-yes _ _ (told-hold (args .i) (args .starts .now) (args .totals .now) (args .counts .now) (args .sums .now) (args .times .now) (args .peaks .now) s p w e (add-sub-cancel-left (args .i * 600) 600) (c .before .before .whole2 .ensures)) (c .before .if2 .left)) (told-slot (args .i) (args .starts .now) (args .totals .now) (args .counts .now) (args .sums .now) (args .times .now) (args .peaks .now) s p w e f (c .whole-slot .ensures)))
 
 pub whole-input-spec : {M : Type 1} → statement M
 whole-input-spec =
