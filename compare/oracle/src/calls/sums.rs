@@ -39,6 +39,14 @@ impl Calls {
             self.call(format!("put {i} sum {b} {sum}"));
         }
         self.while_broken(now, i, manner);
+        if self.r.chance(15) {
+            // A new supervisor has right sums, whatever the lists held.
+            let mut new = self.settings();
+            while !self.call(new.line()) {
+                new = self.settings();
+            }
+            return;
+        }
         if self.r.chance(30) {
             self.call(format!("put {i} window"));
         }

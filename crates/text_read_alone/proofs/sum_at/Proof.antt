@@ -7,7 +7,7 @@ use Rattle.text_read_alone.proofs.sum_at.Tie as tie
 
 returns : tie.Need-returns
 unfolding sumAt
-returns c = rw (c .present .ensures, c .before .before .u64-word .ensures, c .before .before .before .u32-word .ensures)
+returns c = cc
 
 pub sum-at-spec : {M : Type 1} → statement M
 sum-at-spec =
