@@ -19,7 +19,7 @@ use Rattle.rules_record.specs.declared.Inode.{Inode}
 use Rattle.rules_record.specs.declared.Inode.the-variants.{Gone, Of}
 use Rattle.rules_record.specs.declared.Remembered.{Remembered}
 use Rattle.rules_record.specs.declared.Remembered.the-variants.{Never, Delay}
-use Rattle.rules_record.specs.Slots.{isAuto, withState, withInode, withHead, withReopens, withHold}
+use Rattle.rules_record.specs.Slots.{isAuto, withState, withInode, withHead, withReopens, withHold, withLastInput}
 use Rattle.rules_record.specs.States.{stateNumber}
 use Rattle.rules_record.specs.Inputs.{slotAt, putSlot}
 use Rattle.rules_record.specs.Commands.{setInput, quiet, sendFirst}
@@ -36,7 +36,7 @@ use Rattle.rules_routing.specs.TryOpen.{runningSlot, openedSlot, startsA
 
 -- ---- the slot
 module _ (slot : Slot) (inode head time : ℕ) {number : ℕ} (code : number ≡ stateNumber (slot .state)) where
-  module _ {placed : Slot} (e : placed ≡ withInode slot (Of inode)) where
+  module _ {placed : Slot} (e : placed ≡ withInode (withLastInput slot time) (Of inode)) where
     pub running-stalled : number ≡ 3 → {r : Slot} → r ≡ withHead placed head (slot .«head_changed») → r ≡ runningSlot slot inode head time
     unfolding runningSlot
     running-stalled h f = f ∙ ap (λ (x : Slot). withHead x head (slot .«head_changed»)) e ∙ sym (yes-pick _ _ (eq-eqb _ _ (sym code ∙ h)))
