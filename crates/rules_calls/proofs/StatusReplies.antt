@@ -1,6 +1,6 @@
 -- The answers of the three calls, case by case, as the code goes. Assumes nothing.
 use Prim.Native.Nat.{ℕ, _-_}
-use mathlib.Core.Bool.{Bool, false}
+use mathlib.Core.Bool.{Bool, true, false}
 use mathlib.Core.Path.{_≡_, refl, sym, ap, _∙_}
 use borrow.Author.Tests.{eq-eqb, ne-eqb}
 use lib.Dec.{leb}
@@ -50,6 +50,11 @@ module _ {slot other : Slot} (is-slot : other ≡ slot) {code : ℕ} (is-code : 
   unfolding settledSlot
   settled-idle h hold time = both-no _ _ (ne-eqb _ _ (λ e. h (state-is ∙ e)))
 
-  pub settled-running : code ≡ 2 → (hold time : ℕ) {rested : Bool} → rested ≡ heldSince (slot .«last_set») hold time → rested ≡ settledSlot slot hold time
-  unfolding settledSlot
-  settled-running h hold time e = both-yes _ _ _ (eq-eqb _ _ (sym state-is ∙ h)) e
+  module _ (runs : code ≡ 2) (hold time : ℕ) {delay : Bool} (is-delay : delay ≡ heldSince (slot .«last_set») hold time) where
+    pub settled-lately : delay ≡ false → false ≡ settledSlot slot hold time
+    unfolding settledSlot
+    settled-lately h = both-yes _ _ _ (eq-eqb _ _ (sym state-is ∙ runs)) (both-no _ _ (sym is-delay ∙ h))
+
+    pub settled-running : delay ≡ true → {input : Bool} → input ≡ heldSince (slot .«last_input») hold time → input ≡ settledSlot slot hold time
+    unfolding settledSlot
+    settled-running h e = both-yes _ _ _ (eq-eqb _ _ (sym state-is ∙ runs)) (both-yes _ _ _ (sym is-delay ∙ h) e)
