@@ -50,11 +50,10 @@ module _ {slot other : Slot} (is-slot : other ≡ slot) {code : ℕ} (is-code : 
   unfolding settledSlot
   settled-idle h hold time = both-no _ _ (ne-eqb _ _ (λ e. h (state-is ∙ e)))
 
-  module _ (runs : code ≡ 2) (hold time : ℕ) {delay : Bool} (is-delay : delay ≡ heldSince (slot .«last_set») hold time) where
-    pub settled-lately : delay ≡ false → false ≡ settledSlot slot hold time
-    unfolding settledSlot
-    settled-lately h = both-yes _ _ _ (eq-eqb _ _ (sym state-is ∙ runs)) (both-no _ _ (sym is-delay ∙ h))
+  pub settled-lately : code ≡ 2 → (hold time : ℕ) → heldSince (slot .«last_set») hold time ≡ false → false ≡ settledSlot slot hold time
+  unfolding settledSlot
+  settled-lately h hold time delay = both-yes _ _ _ (eq-eqb _ _ (sym state-is ∙ h)) (both-no _ _ delay)
 
-    pub settled-running : delay ≡ true → {input : Bool} → input ≡ heldSince (slot .«last_input») hold time → input ≡ settledSlot slot hold time
-    unfolding settledSlot
-    settled-running h e = both-yes _ _ _ (eq-eqb _ _ (sym state-is ∙ runs)) (both-yes _ _ _ (sym is-delay ∙ h) e)
+  pub settled-running : code ≡ 2 → (hold time : ℕ) → heldSince (slot .«last_set») hold time ≡ true → {rested : Bool} → rested ≡ heldSince (slot .«last_input») hold time → rested ≡ settledSlot slot hold time
+  unfolding settledSlot
+  settled-running h hold time delay e = both-yes _ _ _ (eq-eqb _ _ (sym state-is ∙ h)) (both-yes _ _ _ delay e)
