@@ -83,5 +83,9 @@ module _ (slot : Slot) where
   unfolding movedSlot
   head-leaves-the-opening head time = pick-all (λ (x : Slot). x .«last_input» ≡ slot .«last_input») (isStalled (slot .state)) refl refl
 
+  pub head-leaves-the-delays-time : (head time : ℕ) → movedSlot slot head time .«last_set» ≡ slot .«last_set»
+  unfolding movedSlot
+  head-leaves-the-delays-time head time = pick-all (λ (x : Slot). x .«last_set» ≡ slot .«last_set») (isStalled (slot .state)) refl refl
+
   pub clearing-leaves-the-opening : clearedSlot slot .«last_input» ≡ slot .«last_input»
   clearing-leaves-the-opening = refl
