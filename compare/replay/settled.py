@@ -89,10 +89,14 @@ def calls():
     s = Supervisor(hold=HOLD, loaded=[("a", 500)])
     s.route(2 * S, 0, "a/1")  # SetInput and SetDelay at once
     about(2 * S)
-    # The clock goes back between the two: the older time of the later command counts.
-    s.tick(S, watch=6, open=6)
+    s.tick(S, watch=6, open=6)  # SetInput, where the clock went back: SetDelay's time is the later one
     about(S)
     about(2 * S)
+    s = Supervisor(hold=HOLD)
+    s.route(20 * S, 0, "a/1")
+    s.tick(S, watch=6, open=6)  # the last SetInput, though the clock went back
+    about(S)
+    say(f"settled {20 * S} 0")
 
     section("settled: a route to nothing and back, an equal route, another flow, another input")
     s = Supervisor(n=2, hold=HOLD)

@@ -71,7 +71,7 @@ module _ (slot : Slot) (channels wanted : ℕ) where
 
 -- ---- settled: yes exactly if Running, and the last SetDelay and the last SetInput, if any, are each at least hold old
 module _ (hold time : ℕ) where
-  -- no command went at this moment within the last hold
+  -- a command sent at this moment, if one ever went, is at least hold old
   abbrev pub Rested : Moment → Type 0
   Rested moment = (sent : ℕ) → moment ≡ At sent → hold ≤ time - sent
 
