@@ -1,4 +1,4 @@
-//! Random calls over the whole range that document 01 admits, its boundaries
+//! Random calls over the whole range that the papers admit, its boundaries
 //! favoured, and calls that it refuses. Each call goes through the checked Rust,
 //! so that the next one can aim at what the record then holds.
 use crate::checks::{buckets, Checked, Settings};

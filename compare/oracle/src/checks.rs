@@ -231,7 +231,7 @@ fn whole_hold(h: &HoldFields, offset: u32, max: u32, w: u32, window: u64) -> boo
         && [h.lower, h.seeded].iter().flatten().all(|p| p.0 <= LATEST && p.1 <= max)
 }
 
-/// The Rust with document 01's checks before it.
+/// The Rust with the papers' checks before it.
 pub struct Checked {
     pub driver: Driver,
     pub settings: Settings,

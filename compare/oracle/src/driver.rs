@@ -259,7 +259,7 @@ impl Driver {
         }
     }
 
-    /// Make a call that document 01 refuses and the Rust answers itself: what it does
+    /// Make a call that the papers refuse and the Rust answers itself: what it does
     /// wrong. `update` and `confirm` are to be errors, `has` a no, `status` to have no
     /// such input, `route` quiet; none may change the record or send a command.
     pub fn refused(&mut self, line: &str) -> Option<&'static str> {

@@ -42,7 +42,7 @@ module _ (a : ℕ) (xs : List ℕ) where
     pub tally-whole : (r : ℕ) → r ≡ sum → r ≡ sumFrom a n xs
     tally-whole r q =
         let k : bits ≤ 1048575 = omega arith in
-        let m : n * bits ≤ 4096 * 1048575 = mul-le-mul few k in
+        let m : n * bits ≤ bucketsLimit * 1048575 = mul-le-mul few k in
         omega arith
 
     pub tally-bound : (r : ℕ) → r ≡ sum → r ≤ n * 4294967295
