@@ -16,7 +16,8 @@ def calls():
     say(f"settled {LATEST} 0")  # Unrouted, and no command ever went
     s.route(S, 0, "a/1")  # SetInput alone: nothing is remembered
     about(S)
-    say(f"settled {S - 1} 0", "settled 0 0", f"settled {LATEST} 0")  # a clock that went back: age 0
+    say(f"settled {S - 1} 0", "settled 0 0")  # a clock that went back: age 0
+    say(f"settled {LATEST} 0")
     s.tick(7 * S)
     about(S)
     s.tick(8 * S, watch=6, open=6)  # created anew
