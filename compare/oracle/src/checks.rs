@@ -363,6 +363,7 @@ impl Checked {
             ask(6, v.counters.iter().all(|c| *c < 1 << 63))?;
             ask(6, v.head_changed <= LATEST)?;
             ask(6, engine.set_delay_at[i].is_none_or(|t| t.0 <= LATEST))?;
+            ask(6, engine.set_input_at[i].is_none_or(|t| t.0 <= LATEST))?;
         }
         Ok(())
     }
