@@ -15,7 +15,7 @@ import subprocess
 import sys
 
 sys.dont_write_bytecode = True
-from replay import alone, files, sums, supervisor
+from replay import alone, files, settled, sums, supervisor
 from replay.words import LINES, SECTIONS
 
 HERE = pathlib.Path(__file__).resolve().parent
@@ -29,6 +29,7 @@ def main():
     sums.alone()
     supervisor.calls()
     files.writing()
+    settled.calls()
     sums.supervised()
     if sys.argv[1:] == ["--print"]:
         print("\n".join(LINES))

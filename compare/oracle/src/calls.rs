@@ -1,4 +1,4 @@
-//! Random calls over the whole range that document 01 admits, its boundaries
+//! Random calls over the whole range that the papers admit, its boundaries
 //! favoured, and calls that it refuses. Each call goes through the checked Rust,
 //! so that the next one can aim at what the record then holds.
 use crate::checks::{buckets, Checked, Settings};
@@ -376,10 +376,7 @@ impl Calls {
                     let wanted = self.r.pick(&[0, 1, channels, channels + 1, wanted, u32::MAX]);
                     self.call(format!("has {i} {channels} {wanted}"));
                 }
-                22..=24 => {
-                    let back = self.r.pick(&[0, 0, 0, 1, SECOND]);
-                    self.call(format!("settled {} {i}", now.saturating_sub(back).min(LATEST)));
-                }
+                22..=24 => self.settled(now, i),
                 25 => {
                     self.call("dump".into());
                 }
@@ -393,6 +390,11 @@ impl Calls {
                     self.call(tick_line(now, &looks, &lags));
                 }
             }
+            if let Some(i) = self.opened() {
+                if self.r.chance(25) {
+                    self.settled(now, i);
+                }
+            }
         }
         self.call("dump".into());
         match self.r.below(4) {
@@ -400,6 +402,26 @@ impl Calls {
             1 => self.load(),
             _ => (),
         }
+    }
+
+    /// The last input to which the last call sent SetInput.
+    fn opened(&self) -> Option<u64> {
+        let (_, sent) = self.lines.last()?.1.split_once(" C ")?;
+        let opened = sent.split(' ').take_while(|c| c.contains('.')).filter_map(|c| c.strip_prefix("1."));
+        opened.last()?.split_once('.')?.0.parse().ok()
+    }
+
+    /// Settled now, or where the last SetDelay or the last SetInput becomes hold old.
+    fn settled(&mut self, now: u64, i: u64) {
+        let hold = self.checked.settings.hold;
+        let (_, engine, _) = self.checked.driver.sup.as_ref().expect("made");
+        let at = [engine.set_delay_at[i as usize], engine.set_input_at[i as usize]];
+        let mut times = vec![now, now, now.saturating_sub(1), now.saturating_sub(SECOND)];
+        for edge in at.iter().flatten().map(|t| t.0.saturating_add(hold)) {
+            times.extend([edge.saturating_sub(1), edge, edge, edge.saturating_add(1)]);
+        }
+        let time = self.r.pick(&times).min(LATEST);
+        self.call(format!("settled {time} {i}"));
     }
 
     /// A counter that reached 2^63 starts over.

@@ -249,7 +249,7 @@ fn whole_hold(h: &HoldFields, offset: u32, max: u32, w: u32, window: u64) -> boo
         && [h.lower, h.seeded].iter().flatten().all(|p| p.0 <= LATEST && p.1 <= max)
 }
 
-/// The Rust with document 01's checks before it.
+/// The Rust with the papers' checks before it.
 pub struct Checked {
     pub driver: Driver,
     pub settings: Settings,
@@ -393,6 +393,7 @@ impl Checked {
             ask(6, v.counters.iter().all(|c| *c < 1 << 63))?;
             ask(6, v.head_changed <= LATEST)?;
             ask(6, engine.set_delay_at[i].is_none_or(|t| t.0 <= LATEST))?;
+            ask(6, engine.set_input_at[i].is_none_or(|t| t.0 <= LATEST))?;
         }
         Ok(())
     }

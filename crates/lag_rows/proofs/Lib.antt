@@ -1,5 +1,4 @@
 -- Laws of sums and divisions that the code makes.
 pub mod Divisions
 pub mod Tallies
-pub mod Blanks
 pub mod Taken

@@ -5,7 +5,7 @@ use mathlib.Core.List.{List}
 use native.Mathlib.Nat.{le-antisymm}
 use native.Mathlib.Omega.{arith}
 use lib.ListN.{length, getD, set}
-use Rattle.base.specs.Lists.{sum, listed}
+use Rattle.base.specs.Lists.{sum}
 use Rattle.base.proofs.All.{sum-more}
 use Rattle.base.proofs.Listed.{listed-length, listed-at}
 use Rattle.base.proofs.Toward.{toward, toward-ahead, toward-more, toward-all}
@@ -36,10 +36,6 @@ module _ (B r : ℕ) (cs us : List ℕ) (long : length us ≡ B) where
 
 -- ---- row after row
 module _ (B : ℕ) (cs us : List ℕ) where
-  pub less-long : (r : ℕ) (xs : List ℕ) → xs ≡ lessRows B r cs us → length xs ≡ B
-  unfolding lessRows
-  less-long r xs e = ap length e ∙ listed-length _ B
-
   -- a sum has the lags of the next row
   pub row-in-sums : (r k : ℕ) (xs : List ℕ) → xs ≡ lessRows B r cs us → r < k → ((b : ℕ) → b < B → column B b k cs ≤ getD us b 0) → (b : ℕ) → b < B → getD cs (r * B + b) 0 ≤ getD xs b 0
   unfolding lessRows column

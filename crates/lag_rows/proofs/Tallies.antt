@@ -1,10 +1,10 @@
 -- Sums of all rows and columns at once in 32 bits, as the loops go, and where they are the sums themselves. Assumes nothing.
-use Prim.Native.Nat.{ℕ, _+_, _-_, _*_, _%_, _<_, _≤_, min}
+use Prim.Native.Nat.{ℕ, _+_, _-_, _*_, _%_, _<_, _≤_}
 use mathlib.Core.Bool.{Bool, true, false, not}
 use mathlib.Core.Path.{_≡_, refl, sym, ap, _∙_}
 use mathlib.Core.Logic.{⊎-elim}
 use mathlib.Core.List.{List, []}
-use native.Mathlib.Nat.{le-antisymm, mul-le-mul, eq-or-lt-of-le}
+use native.Mathlib.Nat.{le-antisymm, eq-or-lt-of-le}
 use native.Mathlib.Numerals.{add-one}
 use native.Mathlib.Omega.{arith}
 use borrow.Author.Tests.{eq-eqb, ne-eqb, le-leb, lt-leb, not-true, not-false}
@@ -15,9 +15,9 @@ use lib.Seq.{getD-set-same, getD-set-other}
 use Rattle.base.specs.Choice.{pick, both}
 use Rattle.base.specs.Limits.{bucketsLimit}
 use Rattle.base.specs.Lists.{all, sumFrom, rowSum, sum}
-use Rattle.base.proofs.All.{all-none, all-more, all-stop, all-end, from-none, from-more, sum-more, or-zero, le-or, le-or-second, both-no, both-yes}
+use Rattle.base.proofs.All.{all-none, all-more, all-stop, all-end, from-none, from-more, or-zero, le-or, le-or-second, both-no, both-yes}
 use Rattle.base.proofs.Choices.{by-le}
-use Rattle.base.proofs.Joined.{xor-same, joined-none, joined-more, joined-end}
+use Rattle.base.proofs.Differ.{xor-same}
 use Rattle.base.proofs.Listed.{listed-length, listed-at, listed-is}
 use Rattle.base.proofs.Points.{zeros-at}
 use Rattle.base.proofs.Tests.{all-cong, all-split}
@@ -187,7 +187,7 @@ module _ (B : ℕ) (ts cs us rows : List ℕ) (b bits : ℕ) (few : B ≤ bucket
   unfolding sumFrom
   row-small r g =
       let most : sum (λ i. getD cs (r * B + i) 0) B ≤ B * 1048575 = sum-bound (λ i. getD cs (r * B + i) 0) 1048575 B (λ i k. omega (arith, covered .at r i g (omega arith))) in
-      let all : B * 1048575 ≤ 4096 * 1048575 = omega arith in
+      let all : B * 1048575 ≤ bucketsLimit * 1048575 = omega arith in
       omega arith
 
   column-small : (i : ℕ) → i < B → column B i 11 cs ≤ 4294967295

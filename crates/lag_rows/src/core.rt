@@ -6,13 +6,14 @@ ghost use lib.Dec.{eqb};
 ghost use lib.ListN.{length, getD};
 ghost use Rattle.base.specs.Choice.{both};
 ghost use Rattle.base.specs.Limits.{widthLimit, bucketsLimit};
-ghost use Rattle.base.specs.Lists.{sumFrom, blankFrom};
+ghost use Rattle.base.specs.Lists.{sumFrom};
 ghost use Rattle.rules_window.specs.Window.{windowed};
 ghost use Rattle.rules_window.specs.WholeWindow.{summed};
 ghost use Rattle.rules_window.specs.InPlace.{lessRow, lessRows};
-ghost use Rattle.rules_window.specs.Quantile.{column, running, reach, quantileUpto, totalUpto, Placeable};
+ghost use Rattle.rules_window.specs.Quantile.{column, running, reach, quantileUpto, Placeable};
 ghost use Rattle.rules_window.specs.ColumnSums.{rightSums, asOneSecond};
 ghost use Rattle.lag_rows.specs.Tallies.{rowsTo, Covered, Columns, alike, totalsAre};
+use base::blank_u32;
 use base::blank_u64;
 use base::least_usize;
 use rules_window::Found;
@@ -209,42 +210,13 @@ fn sums_right(buckets: usize, totals: &[u64], counts: &[u32], sums: &[u64]) -> b
     long_columns(buckets, counts, sums)
 }
 
-// ---- where no second has a lag
-// The bits of bucket b in the 11 rows, joined to those before.
-fn join_column(bits: u32, buckets: usize, b: usize, counts: &[u32]) -> u32
-    requires { ⌜ (b < buckets) × (length (now counts) ≡ 11 * buckets) ⌝ }
-    ensures { λ r. ⌜ eqb r 0 ≡ both (eqb bits 0) (eqb (column buckets b 11 (now (counts .entry))) 0) ⌝ }
-{
-    let mut joined = bits;
-    let mut r = 0;
-    while r < SECONDS {
-        joined = joined | counts[r * buckets + b];
-        r += 1;
-    }
-    joined
-}
-
-// Every count is zero. The 11 of a bucket are read side by side, which takes fewer steps than row after row.
-fn counts_blank(buckets: usize, counts: &[u32]) -> bool
-    requires { ⌜ (0 < buckets) × (length (now counts) ≡ 11 * buckets) ⌝ }
-    ensures { λ r. ⌜ r ≡ blankFrom 0 (now (counts .entry)) ⌝ }
-{
-    let mut bits: u32 = 0;
-    let mut b = 0;
-    while b < buckets {
-        bits = join_column(bits, buckets, b, counts);
-        b += 1;
-    }
-    bits == 0
-}
-
 // Row sums equal to totals up to 4,294,967,295, and each sum that of its bucket, over all 11 rows. Where all totals are zero nothing is added.
 pub fn right(buckets: usize, totals: &[u64], counts: &[u32], sums: &[u64]) -> bool
     requires { ⌜ (0 < buckets) × (buckets ≤ bucketsLimit) × (length (now totals) ≡ 11) × (length (now counts) ≡ 11 * buckets) × (length (now sums) ≡ buckets) ⌝ }
     ensures { λ r. ⌜ r ≡ both (summed 11 buckets (now (totals .entry)) (now (counts .entry))) (rightSums (windowed 11 buckets 0 [] [] (now (counts .entry))) (now (sums .entry))) ⌝ }
 {
     if blank_u64(totals, 0) {
-        if !counts_blank(buckets, counts) {
+        if !blank_u32(counts, 0) {
             return false;
         }
         return blank_u64(sums, 0);

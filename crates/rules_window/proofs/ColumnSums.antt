@@ -4,7 +4,6 @@ use mathlib.Core.Bool.{true}
 use mathlib.Core.Path.{_≡_}
 use mathlib.Core.List.{List}
 use borrow.Author.Tests.{eq-eqb, eqb-true}
-use lib.Dec.{eqb}
 use lib.ListN.{length, getD}
 use Rattle.base.proofs.Points.{all-at, all-intro}
 use Rattle.base.proofs.Listed.{listed-length, listed-at, listed-is}

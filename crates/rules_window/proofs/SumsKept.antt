@@ -1,6 +1,5 @@
 -- The row of sums after each step of a push, and of a window without seconds. Assumes nothing.
-use Prim.Native.Nat.{ℕ, suc, _+_, _-_, _*_, _<_, _≤_}
-use mathlib.Core.Bool.{Bool, true, false}
+use Prim.Native.Nat.{ℕ, _+_, _-_, _*_, _<_, _≤_}
 use mathlib.Core.Path.{_≡_, refl, sym, ap, _∙_}
 use mathlib.Core.List.{List}
 use native.Mathlib.Nat.{add-mul}
@@ -8,7 +7,7 @@ use native.Mathlib.Omega.{arith}
 use borrow.Author.Tests.{eqb-true, eqb-false}
 use lib.Dec.{eqb}
 use lib.ListN.{length, getD, replicate, length-set, length-replicate}
-use Rattle.base.specs.Lists.{shifted, bumped, sum, listed}
+use Rattle.base.specs.Lists.{shifted, bumped, sum}
 use Rattle.base.specs.Limits.{timeLimit}
 use Rattle.base.proofs.Choices.{by-bool}
 use Rattle.base.proofs.Flat.{row-le, flat-lt, same-row}

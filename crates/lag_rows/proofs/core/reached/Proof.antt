@@ -1,9 +1,8 @@
 -- `lag_rows::core::reached` meets its contract. Assumes nothing.
 use Prim.Native.Nat.{_≤_, _<_, _-_}
-use mathlib.Core.Path.{_≡_, refl, sym, _∙_}
+use mathlib.Core.Path.{_≡_, sym, _∙_}
 use native.Mathlib.Nat.{sub-zero}
 use native.Mathlib.Omega.{arith}
-use borrow.Author.Needs.{needs}
 use Rattle.rules_window.specs.Quantile.{running, reach}
 use Rattle.rules_window.proofs.Reaching.{running-none, running-block, block-few, reach-block}
 use Rattle.lag_rows.proofs.core.reached.Statement.{statement}

@@ -6,7 +6,7 @@ use borrow.Author.Needs.{needs}
 use lib.ListN.{length}
 use Rattle.rules_window.specs.InPlace.{lessRows}
 use Rattle.rules_window.proofs.SumsKept.{less-none, less-more}
-use Rattle.lag_rows.proofs.Taken.{less-long, row-in-sums, less-end}
+use Rattle.lag_rows.proofs.Taken.{row-in-sums, less-end}
 use Rattle.lag_rows.proofs.core.take_rows.Statement.{statement}
 use Rattle.lag_rows.proofs.core.take_rows.Tie as tie
 

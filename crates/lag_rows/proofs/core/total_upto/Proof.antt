@@ -1,5 +1,4 @@
 -- `lag_rows::core::total_upto` meets its contract. Assumes nothing.
-use Prim.Native.Nat.{_+_}
 use native.Mathlib.Omega.{arith}
 use borrow.Author.Needs.{needs}
 use Rattle.rules_window.proofs.Reaching.{total-is, shown-few}

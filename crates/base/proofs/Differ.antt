@@ -1,19 +1,14 @@
--- A row of tests without a branch: a loop joins the bits that tell of a failure, and all held exactly where these are 0. Assumes nothing.
-use Prim.Native.Nat.{ℕ, zero, suc, _+_, _*_, _/_, _%_, _≤_}
-use mathlib.Core.Bool.{Bool, true, false}
+-- Numbers that differ in no bit are equal. Assumes nothing.
+use Prim.Native.Nat.{ℕ, zero, suc, _+_, _*_, _/_, _%_}
 use mathlib.Core.Path.{_≡_, refl, sym, ap, _∙_}
-use native.Mathlib.Nat.{le-antisymm, div-add-mod'}
-use native.Mathlib.Numerals.{add-one}
+use native.Mathlib.Nat.{div-add-mod'}
 use native.Mathlib.Omega.{arith}
 use borrow.Author.Tests.{eq-eqb, ne-eqb, eqb-true, eqb-false}
 use lib.Arith.{bin-ind}
-use lib.Bits.{bitOr, bitXor, xor-step, xor-self, differ}
+use lib.Bits.{bitXor, xor-step, xor-self, differ}
 use lib.Dec.{eqb}
-use Rattle.base.specs.Lists.{all}
-use Rattle.base.proofs.All.{or-zero}
 use Rattle.base.proofs.Choices.{by-bool}
 
--- numbers that differ in no bit are equal
 differ-zero : (x y : ℕ) → differ x y ≡ 0 → x ≡ y
 differ-zero zero y e = sym e
 differ-zero (suc x) zero e = e
@@ -34,15 +29,3 @@ xor-same a b =
     by-bool (eqb a b)
     (λ h. let e : a ≡ b = eqb-true a b h in rw (e, xor-self b) (sym (eq-eqb b b refl)))
     (λ h. rw h (ne-eqb (bitXor a b) 0 (λ z. eqb-false a b h (xor-zero a b z))))
-
-module _ (p : ℕ → Bool) where
-  pub joined-none : true ≡ all p 0
-  unfolding all
-  joined-none = refl
-
-  pub joined-more : (i bits x : ℕ) → eqb bits 0 ≡ all p i → eqb x 0 ≡ p i → eqb (bitOr bits x) 0 ≡ all p (i + 1)
-  unfolding all
-  joined-more i bits x e h = or-zero bits x ∙ rw (add-one, ← e, ← h)
-
-  pub joined-end : (n i bits : ℕ) → eqb bits 0 ≡ all p i → i ≤ n → n ≤ i → eqb bits 0 ≡ all p n
-  joined-end n i bits e h l = rw (← le-antisymm h l) e
