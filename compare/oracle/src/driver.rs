@@ -83,6 +83,8 @@ fn hold_fields(w: &mut Words) -> HoldFields {
 
 impl Driver {
     pub fn new() -> Self {
+        // The window alone begins with W 4, whatever a driver before this one had.
+        shim::set_w(4);
         Driver {
             sup: None,
             window: Window::new(4800),
