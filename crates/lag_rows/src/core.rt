@@ -12,6 +12,7 @@ ghost use Rattle.rules_window.specs.WholeWindow.{summed};
 ghost use Rattle.rules_window.specs.InPlace.{lessRow, lessRows};
 ghost use Rattle.rules_window.specs.Quantile.{column, running, reach, quantileUpto, Placeable};
 ghost use Rattle.rules_window.specs.ColumnSums.{rightSums, asOneSecond};
+ghost use Rattle.lag_rows.specs.Blocks.{Blocks};
 ghost use Rattle.lag_rows.specs.Tallies.{rowsTo, Covered, Columns, alike, totalsAre};
 use base::blank_u32;
 use base::blank_u64;
@@ -284,14 +285,35 @@ fn shown(buckets: usize, width: u32, limit: u32) -> usize
     if m < buckets { m } else { buckets }
 }
 
-// The lags in buckets that start at most at limit.
-fn total_upto(buckets: usize, width: u32, limit: u32, sums: &[u64]) -> u64
-    requires { ⌜ (1 ≤ width) × (length (now sums) ≡ buckets) ⌝ }
+// The sum of the first m numbers; on the way the sums of their blocks of 64 are kept, for the search.
+fn add_blocks(m: usize, sums: &[u64], blocks: &mut [u64]) -> u64
+    requires { ⌜ (m ≤ length (now sums)) × (m ≤ bucketsLimit) × (length (now blocks) ≡ 64) ⌝ }
+    requires { ⌜ sumFrom 0 m (now sums) ≤ 47244640245 ⌝ }
+    ensures { λ r. ⌜ r ≡ sumFrom 0 m (now (sums .entry)) ⌝ }
+    ensures { λ _. ⌜ Blocks m (now (sums .entry)) (now (blocks .exit)) ⌝ }
+{
+    let mut total: u64 = 0;
+    let mut i = 0;
+    let mut b = 0;
+    while b + 64 <= m {
+        let more = sum_from(sums, b, 64);
+        blocks[i] = more;
+        total += more;
+        i += 1;
+        b += 64;
+    }
+    total + sum_from(sums, b, m - b)
+}
+
+// The lags in buckets that start at most at limit, and their blocks.
+fn total_upto(buckets: usize, width: u32, limit: u32, sums: &[u64], blocks: &mut [u64]) -> u64
+    requires { ⌜ (1 ≤ width) × (buckets ≤ bucketsLimit) × (length (now sums) ≡ buckets) × (length (now blocks) ≡ 64) ⌝ }
     requires { ⌜ running limit width buckets 1 (now sums) buckets ≤ 47244640245 ⌝ }
     ensures { λ r. ⌜ r ≡ running limit width buckets 1 (now (sums .entry)) buckets ⌝ }
+    ensures { λ _. ⌜ Blocks (min buckets (limit / width + 1)) (now (sums .entry)) (now (blocks .exit)) ⌝ }
 {
     let m = shown(buckets, width, limit);
-    sum_from(sums, 0, m)
+    add_blocks(m, sums, blocks)
 }
 
 // The first bucket, of those from `from` on, where the running count reaches target; `before` is the running count up to there.
@@ -323,40 +345,50 @@ fn reached_from(
     Found::Nowhere
 }
 
-// The first bucket where the running count reaches target: blocks of 64 buckets are summed along memory,
-// and only the block that reaches it is walked bucket by bucket.
-fn reached(buckets: usize, width: u32, limit: u32, target: u64, sums: &[u64]) -> Found
-    requires { ⌜ (1 ≤ width) × (length (now sums) ≡ buckets) ⌝ }
+// The first bucket where the running count reaches target: only the block of 64 buckets that reaches it is walked bucket by bucket.
+fn reached(
+    buckets: usize,
+    width: u32,
+    limit: u32,
+    target: u64,
+    sums: &[u64],
+    blocks: &[u64],
+) -> Found
+    requires { ⌜ (1 ≤ width) × (buckets ≤ bucketsLimit) × (length (now sums) ≡ buckets) × (length (now blocks) ≡ 64) ⌝ }
     requires { ⌜ running limit width buckets 1 (now sums) buckets ≤ 47244640245 ⌝ }
+    requires { ⌜ Blocks (min buckets (limit / width + 1)) (now sums) (now blocks) ⌝ }
     ensures { λ r. ⌜ r ≡ reach target limit width buckets 1 (now (sums .entry)) buckets 0 ⌝ }
 {
     let m = shown(buckets, width, limit);
     let mut seen: u64 = 0;
+    let mut i = 0;
     let mut b = 0;
     while b + 64 <= m {
-        let more = sum_from(sums, b, 64);
+        let more = blocks[i];
         if target <= seen + more {
             return reached_from(buckets, width, limit, target, b, seen, sums);
         }
         seen += more;
+        i += 1;
         b += 64;
     }
     reached_from(buckets, width, limit, target, b, seen, sums)
 }
 
-// The quantile q of the lags up to limit: one pass sums the row, a second one finds the bucket.
+// The quantile q of the lags up to limit: one pass sums the row, and the sums of its blocks lead to the bucket.
 pub fn quantile_upto(buckets: usize, width: u32, q: f64, limit: u32, sums: &[u64]) -> Quantile
     requires { ⌜ (buckets ≤ bucketsLimit) × (1 ≤ width) × (width ≤ widthLimit) ⌝ }
     requires { ⌜ length (now sums) ≡ buckets ⌝ }
     requires { ⌜ Placeable q limit (asOneSecond buckets width (now sums)) ⌝ }
     ensures { λ r. ⌜ r ≡ quantileUpto q limit (asOneSecond buckets width (now (sums .entry))) ⌝ }
 {
-    let total = total_upto(buckets, width, limit, sums);
+    let mut blocks = [0u64; 64];
+    let total = total_upto(buckets, width, limit, sums, &mut blocks);
     if total == 0 {
         return Quantile::None;
     }
     let target = doubles::core::quantile_place(total, q);
-    let Found::At(b) = reached(buckets, width, limit, target, sums) else {
+    let Found::At(b) = reached(buckets, width, limit, target, sums, &blocks) else {
         return Quantile::None;
     };
     Quantile::End(edge(b + 1, width))

@@ -10,5 +10,6 @@ total-upto-spec =
     tie.close
     (tie.spec
     (λ c κs. search needs)  -- shown-requires
-    (λ c κs. (omega arith, search shown-few))  -- sum-from-requires
-    (λ c. search total-is))  -- returns
+    (λ c κs. (omega arith, search shown-few))  -- add-blocks-requires
+    (λ c. search needs)  -- same-length
+    (λ c. (total-is _ _ _ _ (c .before .before .before .before .before .before .before .pre .0 .0) _ (c .before .before .before .before .shown .ensures) _ (c .before .before .add-blocks .ensures .0), rw (c .before .before .before .before .shown .ensures) at (c .before .before .add-blocks .ensures .1))))  -- returns
