@@ -1,4 +1,4 @@
-//! Random calls over the whole range that document 01 admits, its boundaries
+//! Random calls over the whole range that the papers admit, its boundaries
 //! favoured, and calls that it refuses. Each call goes through the checked Rust,
 //! so that the next one can aim at what the record then holds.
 use crate::checks::{buckets, Checked, Settings};
@@ -8,6 +8,7 @@ use std::collections::BTreeMap;
 use std::fmt::Write;
 
 mod files;
+mod sums;
 
 pub struct Calls {
     pub r: Random,
@@ -375,10 +376,7 @@ impl Calls {
                     let wanted = self.r.pick(&[0, 1, channels, channels + 1, wanted, u32::MAX]);
                     self.call(format!("has {i} {channels} {wanted}"));
                 }
-                22..=24 => {
-                    let back = self.r.pick(&[0, 0, 0, 1, SECOND]);
-                    self.call(format!("settled {} {i}", now.saturating_sub(back).min(LATEST)));
-                }
+                22..=24 => self.settled(now, i),
                 25 => {
                     self.call("dump".into());
                 }
@@ -392,6 +390,11 @@ impl Calls {
                     self.call(tick_line(now, &looks, &lags));
                 }
             }
+            if let Some(i) = self.opened() {
+                if self.r.chance(25) {
+                    self.settled(now, i);
+                }
+            }
         }
         self.call("dump".into());
         match self.r.below(4) {
@@ -399,6 +402,26 @@ impl Calls {
             1 => self.load(),
             _ => (),
         }
+    }
+
+    /// The last input to which the last call sent SetInput.
+    fn opened(&self) -> Option<u64> {
+        let (_, sent) = self.lines.last()?.1.split_once(" C ")?;
+        let opened = sent.split(' ').take_while(|c| c.contains('.')).filter_map(|c| c.strip_prefix("1."));
+        opened.last()?.split_once('.')?.0.parse().ok()
+    }
+
+    /// Settled now, or where the last SetDelay or the last SetInput becomes hold old.
+    fn settled(&mut self, now: u64, i: u64) {
+        let hold = self.checked.settings.hold;
+        let (_, engine, _) = self.checked.driver.sup.as_ref().expect("made");
+        let at = [engine.set_delay_at[i as usize], engine.set_input_at[i as usize]];
+        let mut times = vec![now, now, now.saturating_sub(1), now.saturating_sub(SECOND)];
+        for edge in at.iter().flatten().map(|t| t.0.saturating_add(hold)) {
+            times.extend([edge.saturating_sub(1), edge, edge, edge.saturating_add(1)]);
+        }
+        let time = self.r.pick(&times).min(LATEST);
+        self.call(format!("settled {time} {i}"));
     }
 
     /// A counter that reached 2^63 starts over.
@@ -672,7 +695,8 @@ impl Calls {
         let line = self.r.pick(&[
             "", "tick", "tock 1", "route", "new 0", "confirm 1", "confirm 1 x", "settled -1 0", "has 0 1", "update 0 0 B",
             "status 0 0", "ms", "ms 4294967296", "ms 1 2", "samples xyz", "index_at 18446744073709551616", "dump 1",
-            "wpush 1", "co_set", "q_set 1", "put 0 nothing", "  dump", "confirm  1 0",
+            "wpush 1", "co_set", "q_set 1", "put 0 nothing", "  dump", "confirm  1 0", "put 0 sum 0", "put 0 sum 4096 0",
+            "put 0 sum 0 18446744073709551616", "wsum 0", "wsum 4096 0", "wsum 0 -1",
         ]);
         self.call(line.into());
     }
@@ -682,7 +706,7 @@ impl Calls {
     /// Put a part that is whole, at the limits of what is whole.
     fn craft(&mut self, now: u64, i: u64) {
         let Settings { max, .. } = self.checked.settings;
-        let line = match self.r.below(5) {
+        let line = match self.r.below(6) {
             0 | 1 => {
                 let rows = self.whole_rows(now);
                 format!("put {i} window{rows}")
@@ -698,6 +722,7 @@ impl Calls {
                 let (a, b, c) = (c(), c(), c());
                 format!("put {i} counters {a} {b} {c}")
             }
+            4 => self.put_right_sum(i),
             _ => {
                 let any = self.r.upto(max);
                 let delay = self.r.pick(&[0, max, any, 47.min(max), 48.min(max)]);
@@ -789,6 +814,10 @@ impl Calls {
     /// (all refused), and a whole part in its place.
     fn unwhole(&mut self, now: u64, i: u64, manner: &mut Manner) {
         let s = self.checked.settings;
+        if self.r.chance(20) {
+            self.put_wrong_sums(now, i, manner);
+            return;
+        }
         let (line, mended) = match self.r.below(4) {
             0 => {
                 let buckets = self.window_buckets();
@@ -814,6 +843,13 @@ impl Calls {
             }
         };
         self.call(line);
+        self.while_broken(now, i, manner);
+        // A refused `new` keeps the broken record; an accepted one would have made another.
+        self.call(mended);
+    }
+
+    /// Some calls, while input i is not whole.
+    fn while_broken(&mut self, now: u64, i: u64, manner: &mut Manner) {
         for _ in 0..self.r.pick(&[1, 2, 6]) {
             match self.r.below(9) {
                 0 => self.route(now, i, manner, true),
@@ -836,8 +872,6 @@ impl Calls {
                 }
             }
         }
-        // A refused `new` keeps the broken record; an accepted one would have made another.
-        self.call(mended);
     }
 
     fn broken_rows(&mut self, now: u64, buckets: u64) -> String {
@@ -923,6 +957,10 @@ impl Calls {
                 }
                 2 => format!("{short}wclear"),
                 3 => format!("{short}wspan"),
+                4 if self.r.chance(40) => {
+                    self.lone_sums(now, [offset, max, w]);
+                    continue;
+                }
                 4..=9 => {
                     let q = self.quantile();
                     let limit = self.r.pick(&[0, offset + max, bucket, bucket.saturating_sub(1), any, u32::MAX]);

@@ -162,7 +162,7 @@ pub fn run(args: &[String]) {
         }
         batch.truncate(calls - tally.calls);
         if let Some(a) = batch.iter().find(|a| a.1 == "panic") {
-            eprintln!("the Rust stops at a call that document 01 admits: {}", a.0);
+            eprintln!("the Rust stops at a call that the papers admit: {}", a.0);
             exit(2);
         }
         if let Some((at, _)) = difference(port, &batch) {

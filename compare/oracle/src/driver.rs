@@ -259,7 +259,7 @@ impl Driver {
         }
     }
 
-    /// Make a call that document 01 refuses and the Rust answers itself: what it does
+    /// Make a call that the papers refuse and the Rust answers itself: what it does
     /// wrong. `update` and `confirm` are to be errors, `has` a no, `status` to have no
     /// such input, `route` quiet; none may change the record or send a command.
     pub fn refused(&mut self, line: &str) -> Option<&'static str> {
@@ -357,13 +357,13 @@ impl Driver {
         inputs.has_channels(index, wanted)
     }
 
-    /// Not in the Rust: from its state and the commands it sent.
+    /// Not in the Rust: from its state and the times of the commands it sent (document 02, 4).
     fn settled(&mut self, w: &mut Words) {
         let now: u64 = num(w);
         let index: usize = num(w);
         let (inputs, engine, hold) = self.sup.as_ref().expect("new first");
-        let still = engine.set_delay_at[index].is_none_or(|t| now.saturating_sub(t.0) >= *hold);
-        let yes = inputs.running(index) && still;
+        let rested = |at: Option<Instant>| at.is_none_or(|t| now.saturating_sub(t.0) >= *hold);
+        let yes = inputs.running(index) && rested(engine.set_delay_at[index]) && rested(engine.set_input_at[index]);
         write!(self.out, "ok {}", u8::from(yes)).unwrap();
     }
 
@@ -379,6 +379,8 @@ impl Driver {
                 let (delay, proposed) = (num(w), maybe(w.next().unwrap()));
                 probe::set_delays(inputs, index, delay, proposed);
             }
+            // The Rust has no sums: checks.rs keeps which are wrong.
+            "sum" => (),
             part => panic!("unknown part {part}"),
         }
         self.out.push_str("ok");
@@ -408,6 +410,7 @@ impl Driver {
                 opt(out, Some(self.window.buckets()));
             }
             "wset" => self.window.set(rows(w)),
+            "wsum" => (),
             "wpush" => {
                 let (lag, now) = (num(w), num(w));
                 self.window.push(lag, now);

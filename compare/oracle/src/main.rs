@@ -1,5 +1,5 @@
 //! The original input supervisor behind a text protocol: as it stands (no argument)
-//! or with document 01's checks before it (`checked`); the comparison with the port
+//! or with the papers' checks before it (`checked`); the comparison with the port
 //! (`compare`, `replay`, `lists`); the third demand by brute force (`claims`),
 //! `roundtrip`, `speed`.
 #![allow(dead_code, unused_variables, unused_imports)]

@@ -46,8 +46,9 @@ below x = num x / den x
 more : (a d : ℕ) → a < 2 ^ 62 * d → a < 2 ^ 64 * d
 more a d h = omega arith
 
-pub in-range : (x : Float) → AboveZero x → T (lt (fin true 1 (pos 0)) x) × T (lt x (fin false 1 (pos 64)))
-in-range x h = (
+-- what truncation asks
+pub cut-asks : (x : Float) → AboveZero x → T (lt (fin true 1 (pos 0)) x) × T (lt x (fin false 1 (pos 64)))
+cut-asks x h = (
   above-minus-one x (num x) (den x) (own-value x h),
   lt-of-value x (num x) (den x) 64 (den-pos x) (own-value x h) (more (num x) (den x) (under x h)),
 )

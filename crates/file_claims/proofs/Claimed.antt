@@ -75,10 +75,10 @@ gives-the-remembered s l out t taken flows delays flows-long delays-long =
 
 -- ---- which files are accepted
 pub accepts-exactly : AcceptsExactly
-accepts-exactly file flows delays small flows-long delays-long = (λ taken. entries (is-read file flows delays taken), λ e. read-reply-number 1 7 file flows delays ∙ ap₂ (readNumber 1 7 file) flows-long delays-long ∙ of-entries e)
+accepts-exactly file flows delays = (λ small taken. entries small (is-read file flows delays taken), λ flows-long delays-long e. read-reply-number 1 7 file flows delays ∙ ap₂ (readNumber 1 7 file) flows-long delays-long ∙ of-entries e)
   where
-    entries : Readable 1 7 file (length flows) (length delays) → OfEntries file
-    entries r = record {
+    entries : AllBytes file → Readable 1 7 file (length flows) (length delays) → OfEntries file
+    entries small r = record {
       count = countIn file;
       flows = flowIn file 7;
       delays = delayIn file 7;

@@ -94,7 +94,7 @@ module _ (s : Inputs) (l : Lists) (whole : Whole s l) where
         let a = sorted-at table places-apart place (ap hasDelay e) in
         let m : rank table (flowOf table place) < countIn file = omega (arith, a .0, table-count) in
         record {
-          number = rank table (flowOf table place);
+          at = rank table (flowOf table place);
           there = m;
           of-flow = flow-is _ m ∙ ap (flowOf table) (a .1);
           is = delay-is _ m ∙ ap (λ (p : ℕ). delayOf (entryIn table p .remembered)) (a .1) ∙ ap delayOf e;

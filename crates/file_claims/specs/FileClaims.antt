@@ -1,6 +1,6 @@
 -- The delay file of version 1 as a whole (document 02, §2), over what `read_delays`, `new` and `write_delays` answer. Assumes nothing.
--- Two facts are asked of what a call is given, and every call has them by the types of its arguments: the inner functions promise them, of every file
--- (delay_files::reading::read: AllBytes) and of every flow table (delay_files::writing::write: TableWidths).
+-- Two facts are asked of what a call is given, and every call has them by the types of its arguments: the calls promise them, of every file
+-- (`read_delays`: AllBytes) and of every flow table (`write_delays`: TableWidths).
 use Prim.Native.Nat.{ℕ, _*_, _/_, _%_, _≤_, _<_}
 use mathlib.Core.Bool.{true}
 use mathlib.Core.Path.{_≡_}
@@ -69,10 +69,10 @@ ReadAgain =
 
 -- a delay among those that were read, and of which flow
 pub record Given (r : LeftByReader) (flow : Flow) (delay : ℕ) : Type 0 where
-  pub number : ℕ
-  pub there : number < r .count
-  pub of-flow : loadedFlow (r .flows) number ≡ flow
-  pub is : getD (r .delays) number 0 ≡ delay
+  pub at : ℕ
+  pub there : at < r .count
+  pub of-flow : loadedFlow (r .flows) at ≡ flow
+  pub is : getD (r .delays) at 0 ≡ delay
 
 -- they are exactly those that the record remembers: each of them, each flow once, and nothing else ("A known flow with no remembered delay is not written.")
 pub record ExactlyRemembered (s : Inputs) (r : LeftByReader) : Type 0 where
@@ -100,8 +100,8 @@ pub record OfEntries (file : List ℕ) : Type 0 where
 -- a file is accepted exactly if it is one, where the lent lists have their lengths
 abbrev pub AcceptsExactly : Type 0
 AcceptsExactly =
-    (file flows delays : List ℕ) → AllBytes file → length flows ≡ 1024 → length delays ≡ 64 →
-    (readDelays file flows delays .number ≡ 0 → OfEntries file) × (OfEntries file → readDelays file flows delays .number ≡ 0)
+    (file flows delays : List ℕ) →
+    (AllBytes file → readDelays file flows delays .number ≡ 0 → OfEntries file) × (length flows ≡ 1024 → length delays ≡ 64 → OfEntries file → readDelays file flows delays .number ≡ 0)
 
 -- all of it
 pub record FileClaims : Type 0 where

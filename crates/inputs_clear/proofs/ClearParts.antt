@@ -1,5 +1,5 @@
 -- A window and a hold cleared, as the code goes. Assumes nothing.
-use Prim.Native.Nat.{ℕ, _*_, _<_}
+use Prim.Native.Nat.{ℕ, _+_, _*_, _<_, _≤_}
 use mathlib.Core.Path.{_≡_, sym, ap, subst, _∙_}
 use mathlib.Core.List.{List}
 use lib.ListN.{length, replicate}
@@ -20,7 +20,7 @@ use Rattle.rules_record.specs.Lent.{Lists, lists, bucketsIn}
 use Rattle.inputs_window.specs.Windows.{windowIn}
 use Rattle.rules_record.specs.Checks.{Fitting}
 use Rattle.rules_record.specs.Effects.{silent}
-use Rattle.rules_record.proofs.Shapes.{window-held}
+use Rattle.rules_record.proofs.Shapes.{window-held, sums-within}
 use Rattle.rules_routing.specs.Clear.{cleared}
 
 -- ---- the hold
@@ -32,9 +32,11 @@ hold-by i times lags {k} is-k e =
     ∙ (λ t. held freshHold (patched (i * 600) (is-k t) (replicate (length (part (i * 600) (is-k t) times)) 0) times) (patched (i * 600) (is-k t) (replicate (length (part (i * 600) (is-k t) lags)) 0) lags))
 
 -- ---- the window
-pub before-held : (s : Inputs) (i : ℕ) (slot : Slot) {before : LagWindow} → before ≡ windowIn (s .policy) (s .width) slot → (l : Lists) → Fitting s l → i < s .count → parts.PartsIn i (lent before (l .starts) (l .totals) (l .counts))
+pub before-held : (s : Inputs) (i : ℕ) (slot : Slot) {before : LagWindow} → before ≡ windowIn (s .policy) (s .width) slot → (l : Lists) → Fitting s l → i < s .count
+    → parts.PartsIn i (lent before (l .starts) (l .totals) (l .counts)) × (i * before .buckets + before .buckets ≤ length (l .sums))
 unfolding bucketsIn
-before-held s i slot is-before l f h = subst (λ (w : LagWindow). parts.PartsIn i (lent w (l .starts) (l .totals) (l .counts))) (sym is-before) (window-held s l f i slot h)
+before-held s i slot is-before l f h =
+    subst (λ (w : LagWindow). parts.PartsIn i (lent w (l .starts) (l .totals) (l .counts)) × (i * w .buckets + w .buckets ≤ length (l .sums))) (sym is-before) (window-held s l f i slot h, sums-within s l f i h)
 
 -- ---- both
 module _ (s : Inputs) (i : ℕ) (slot : Slot) (a b c d times lags a′ b′ c′ d′ times′ lags′ : List ℕ) {before w : LagWindow} {hold : DelayHold} {counted changed : Slot} {r : Inputs}

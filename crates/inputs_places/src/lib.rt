@@ -82,7 +82,11 @@ pub fn whole_slot(maximum: u32, n: usize, slot: Slot) -> bool
         return false;
     }
     let last_set = slot.last_set;
-    moment_fits(last_set)
+    if !moment_fits(last_set) {
+        return false;
+    }
+    let last_input = slot.last_input;
+    moment_fits(last_input)
 }
 
 fn never_yet(moment: Moment) -> bool
@@ -210,7 +214,11 @@ fn unused_parts(slot: Slot) -> bool
         return false;
     }
     let last_set = slot.last_set;
-    never_yet(last_set)
+    if !never_yet(last_set) {
+        return false;
+    }
+    let last_input = slot.last_input;
+    never_yet(last_input)
 }
 
 // Every number is zero.

@@ -1,6 +1,6 @@
 // The record of one input and of all inputs, by value, with a function for each part that changes.
 ghost use mathlib.Core.Path.{_≡_};
-ghost use Rattle.rules_record.specs.Slots.{withConfig, withState, withRoute, withInode, withHead, withReopens, withLagSeconds, withLastLag, withDelay, withProposed, withHold, withDelayChanges, withLate, isAuto, emptySlot};
+ghost use Rattle.rules_record.specs.Slots.{withConfig, withState, withRoute, withInode, withHead, withReopens, withLagSeconds, withLastLag, withDelay, withProposed, withHold, withDelayChanges, withLate, withLastInput, isAuto, emptySlot};
 ghost use Rattle.rules_record.specs.States.{stateNumber};
 ghost use Rattle.rules_record.specs.Inputs.{slotAt, putSlot};
 use delay_hold::DelayHold;
@@ -72,6 +72,7 @@ pub fn empty_slot() -> Slot
         late_events: 0,
         late_before: false,
         last_set: Moment::Never,
+        last_input: Moment::Never,
     }
 }
 
@@ -196,4 +197,12 @@ pub fn with_late(slot: Slot, late_events: u64, late_before: bool) -> Slot
     changed.late_events = late_events;
     changed.late_before = late_before;
     changed
+}
+
+// A SetInput is sent at this time.
+pub fn with_last_input(slot: Slot, time: u64) -> Slot
+    ensures { λ r. ⌜ r ≡ withLastInput slot time ⌝ }
+{
+    let last_input = Moment::At(time);
+    Slot { last_input, ..slot }
 }

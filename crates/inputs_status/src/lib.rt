@@ -246,7 +246,7 @@ pub fn has_channels(
     }
 }
 
-// Running, and no SetDelay within the last hold: it is at least hold old, or there never was one.
+// Running, and neither a SetDelay nor a SetInput within the last hold: the last of each is at least hold old, or there never was one.
 fn settled_slot(slot: Slot, hold: u64, time: u64) -> bool
     ensures { λ r. ⌜ r ≡ settledSlot slot hold time ⌝ }
 {
@@ -255,10 +255,14 @@ fn settled_slot(slot: Slot, hold: u64, time: u64) -> bool
         return false;
     }
     let last_set = slot.last_set;
-    last_set.held(hold, time)
+    if !last_set.held(hold, time) {
+        return false;
+    }
+    let last_input = slot.last_input;
+    last_input.held(hold, time)
 }
 
-// Is the input running, with no SetDelay sent to it within the last hold?
+// Is the input running, with neither a SetDelay nor a SetInput sent to it within the last hold?
 pub fn settled(
     inputs: Inputs,
     input: usize,

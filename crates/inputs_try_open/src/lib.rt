@@ -20,11 +20,12 @@ pub fn reader_fits(reader: Reader) -> bool
     channels <= 64
 }
 
-// Inode and head are stored. A stalled input is still stalled until the head moves again.
+// The time of the SetInput, inode and head are stored. A stalled input is still stalled until the head moves again.
 fn running(slot: Slot, inode: u64, head: u64, time: u64) -> Slot
     ensures { λ r. ⌜ r ≡ runningSlot slot inode head time ⌝ }
 {
-    let placed = inputs_slots::with_inode(slot, Inode::Of(inode));
+    let told = inputs_slots::with_last_input(slot, time);
+    let placed = inputs_slots::with_inode(told, Inode::Of(inode));
     let state = slot.state;
     if inputs_slots::code(state) == inputs_slots::STALLED {
         return inputs_slots::with_head(placed, head, slot.head_changed);

@@ -187,7 +187,7 @@ module _ (B : ℕ) (ts cs us rows : List ℕ) (b bits : ℕ) (few : B ≤ bucket
   unfolding sumFrom
   row-small r g =
       let most : sum (λ i. getD cs (r * B + i) 0) B ≤ B * 1048575 = sum-bound (λ i. getD cs (r * B + i) 0) 1048575 B (λ i k. omega (arith, covered .at r i g (omega arith))) in
-      let all : B * 1048575 ≤ 4096 * 1048575 = omega arith in
+      let all : B * 1048575 ≤ bucketsLimit * 1048575 = omega arith in
       omega arith
 
   column-small : (i : ℕ) → i < B → column B i 11 cs ≤ 4294967295

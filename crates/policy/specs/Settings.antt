@@ -1,4 +1,4 @@
--- Document 01's checks 3 and 4, as far as they read a policy, and a percent as a share. Assumes nothing.
+-- Document 01's checks 3 and 4, as far as they read a policy, what 2 and 4 let through, and a percent as a share. Assumes nothing.
 use Prim.Native.Nat.{ℕ, zero, suc, _≤_}
 use mathlib.Core.Bool.{Bool, false}
 use lib.Dec.{T, leb}

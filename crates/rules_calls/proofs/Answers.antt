@@ -1,10 +1,10 @@
--- What `route` and `status` come to where they do little, in document 01's words. Assumes nothing.
+-- What `route` and `status` come to where they do little, in the papers' words. Assumes nothing.
 use Prim.Native.Nat.{ℕ, _-_}
 use mathlib.Core.Bool.{true, false, not}
 use mathlib.Core.Path.{_≡_, refl, sym, ap}
 use mathlib.Core.List.{List}
 use lib.ListN.{length}
-use Rattle.base.proofs.Choices.{yes-pick, no-pick}
+use Rattle.base.proofs.Choices.{yes-pick, no-pick, pick-all}
 use Rattle.base.proofs.Points.{true-both}
 use borrow.Author.Tests.{ne-eqb}
 use Rattle.rules_record.specs.declared.State.{State}
@@ -22,7 +22,7 @@ use Rattle.rules_record.specs.Effects.{silent}
 use Rattle.rules_routing.specs.declared.World.{World}
 use Rattle.rules_calls.specs.declared.Wanted.{Wanted}
 use Rattle.rules_calls.specs.declared.Milliseconds.the-variants as Milliseconds
-use Rattle.rules_calls.specs.Route.{equalRoute, otherFlow, startsOver, zeroing, routedTo}
+use Rattle.rules_calls.specs.Route.{equalRoute, otherFlow, startsOver, zeroing, startedOver, routedSlot, routedTo}
 use Rattle.rules_calls.specs.RouteChecks.{routeNumber}
 use Rattle.rules_calls.specs.RouteReply.{routeReply}
 use Rattle.rules_calls.specs.Status.{channelsShown, worstMs}
@@ -41,6 +41,11 @@ leaving-sets-zero i slot from auto some =
     yes-pick _ _
     (true-both _ _ (ap (otherFlow Nowhere) from)
     (true-both _ _ auto (ap not (ne-eqb _ _ some))))
+
+-- document 02, §4, of the time of the last SetInput: ClearInput, SetDelay 0 and the new route leave it; where the new flow opens, `try_open` stores its own
+pub routing-leaves-the-opening : (new : Routed) (time : ℕ) (slot : Slot) → routedSlot new time slot .«last_input» ≡ slot .«last_input»
+unfolding routedSlot startedOver
+routing-leaves-the-opening new time slot = pick-all (λ (x : Slot). x .«last_input» ≡ slot .«last_input») (startsOver new slot) refl refl
 
 -- "a no ends it with that number .. and record and buffers unchanged"
 pub refused-route-leaves : (s : Inputs) (l : Lists) (commands : List ℕ) (input : ℕ) (wanted : Wanted) (time : ℕ) (world : World) → (routeNumber s l (length commands) input wanted time world ≡ 0 → ⊥)

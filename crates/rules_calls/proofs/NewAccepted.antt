@@ -95,13 +95,14 @@ pub record AsStarted (kind : ExtraDelay) (time maximum : ℕ) (slot : Slot) : Ty
   pub lates : slot .«late_events» ≡ 0
   pub late-before : slot .«late_before» ≡ false
   pub last-set : slot .«last_set» ≡ startedSet kind time
+  pub last-input : slot .«last_input» ≡ Never
 
 pub as-started : (kind : ExtraDelay) (time maximum : ℕ) → AsStarted kind time maximum (startedSlot kind time maximum emptySlot)
 unfolding emptySlot
 as-started (Auto tag) time maximum =
-    record { config = refl; state = refl; route = refl; inode = refl; head = refl; head-changed = refl; reopens = refl; seconds = refl; last-lag = refl; delay = refl; proposed = refl; hold = refl; changes = refl; lates = refl; late-before = refl; last-set = refl }
+    record { config = refl; state = refl; route = refl; inode = refl; head = refl; head-changed = refl; reopens = refl; seconds = refl; last-lag = refl; delay = refl; proposed = refl; hold = refl; changes = refl; lates = refl; late-before = refl; last-set = refl; last-input = refl }
 as-started (Ms delay) time maximum =
-    record { config = refl; state = refl; route = refl; inode = refl; head = refl; head-changed = refl; reopens = refl; seconds = refl; last-lag = refl; delay = refl; proposed = refl; hold = refl; changes = refl; lates = refl; late-before = refl; last-set = refl }
+    record { config = refl; state = refl; route = refl; inode = refl; head = refl; head-changed = refl; reopens = refl; seconds = refl; last-lag = refl; delay = refl; proposed = refl; hold = refl; changes = refl; lates = refl; late-before = refl; last-set = refl; last-input = refl }
 
 -- ---- what it leaves
 module _ (settings : Settings) (kinds : List ExtraDelay) (bytes delays : List ℕ) (time : ℕ) (l : Lists) (words : ℕ) (h : newNumber settings bytes delays time l words ≡ 0) where

@@ -89,7 +89,7 @@ module _ (settings : Settings) where
   empty-whole : (maximum n : ℕ) → WholeSlot maximum n emptySlot
   unfolding emptySlot routeFits
   empty-whole maximum n =
-      record { delay = omega arith; proposed = refl; route = refl; reopens = omega arith; changes = omega arith; lates = omega arith; head = omega arith; set = refl }
+      record { delay = omega arith; proposed = refl; route = refl; reopens = omega arith; changes = omega arith; lates = omega arith; head = omega arith; set = refl; opened = refl }
 
 -- ---- over zeroed lists
 module _ (settings : Settings) (l : Lists) (allowed : Allowed (settings .count) (policyOf settings) (settings .width) (settings .stall)) (long : Long (settings .count) (bucketsIn (blankFor settings)) l) where

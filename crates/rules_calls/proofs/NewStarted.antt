@@ -106,7 +106,7 @@ module _ (s : Inputs) (l : Lists) (i time : ℕ) (c : Checked s l) (h : i < s .c
       fits : WholeSlot (s .policy .«delay_max») (s .«flow_count») (madeSlot kind time (slotAt s i))
       fits =
           let w = c .whole .inputs i h .slot in
-          record { delay = w .delay; proposed = w .proposed; route = w .route; reopens = w .reopens; changes = w .changes; lates = w .lates; head = soon; set = w .set }
+          record { delay = w .delay; proposed = w .proposed; route = w .route; reopens = w .reopens; changes = w .changes; lates = w .lates; head = soon; set = w .set; opened = w .opened }
 
   pub one-keeps : (kind : ExtraDelay) → Checked (startedOne i kind time s .inputs) l
   unfolding startedOne setDelayOf sendFirst quiet

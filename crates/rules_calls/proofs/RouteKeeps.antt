@@ -64,14 +64,14 @@ module _ (s : Inputs) (l : Lists) (i : ℕ) (c : Checked s l) (h : i < s .count)
   unfolding startedOver
   over-fits =
       pick-all (WholeSlot (s .policy .«delay_max») (s .«flow_count»)) (startsOver new (slotAt s i))
-      (record { delay = zero-le; proposed = refl; route = old .route; reopens = old .reopens; changes = old .changes; lates = old .lates; head = old .head; set = le-leb _ _ soon })
+      (record { delay = zero-le; proposed = refl; route = old .route; reopens = old .reopens; changes = old .changes; lates = old .lates; head = old .head; set = le-leb _ _ soon; opened = old .opened })
       old
 
   there-fits : WholeSlot (s .policy .«delay_max») (s .«flow_count») (routedHere new i time s)
   unfolding routedSlot
   there-fits =
       let w = over-fits in
-      record { delay = w .delay; proposed = w .proposed; route = fits; reopens = w .reopens; changes = w .changes; lates = w .lates; head = w .head; set = w .set }
+      record { delay = w .delay; proposed = w .proposed; route = fits; reopens = w .reopens; changes = w .changes; lates = w .lates; head = w .head; set = w .set; opened = w .opened }
 
   after-keeps : Checked (placedHere new i time s) (clearedLists i s l)
   unfolding routedSlot

@@ -69,23 +69,30 @@ module _ (slot : Slot) (channels wanted : ℕ) where
   unfolding hasChannels
   of-channels running enough = true-both _ _ (eq-eqb _ _ running) (le-leb _ _ enough)
 
--- ---- settled: yes exactly if Running, and the last SetDelay, if any, is at least hold old
+-- ---- settled: yes exactly if Running, and the last SetDelay and the last SetInput, if any, are each at least hold old
 module _ (hold time : ℕ) where
-  rested-of : (moment : Moment) → heldSince moment hold time ≡ true → (set : ℕ) → moment ≡ At set → hold ≤ time - set
-  rested-of moment e set is = leb-true _ _ (sym (ap (λ (x : Moment). heldSince x hold time) is) ∙ e)
+  -- a command sent at this moment, if one ever went, is at least hold old
+  abbrev pub Rested : Moment → Type 0
+  Rested moment = (sent : ℕ) → moment ≡ At sent → hold ≤ time - sent
 
-  of-rested : (moment : Moment) → ((set : ℕ) → moment ≡ At set → hold ≤ time - set) → heldSince moment hold time ≡ true
+  rested-of : (moment : Moment) → heldSince moment hold time ≡ true → Rested moment
+  rested-of moment e sent is = leb-true _ _ (sym (ap (λ (x : Moment). heldSince x hold time) is) ∙ e)
+
+  of-rested : (moment : Moment) → Rested moment → heldSince moment hold time ≡ true
   of-rested Never f = refl
-  of-rested (At set) f = le-leb _ _ (f set refl)
+  of-rested (At sent) f = le-leb _ _ (f sent refl)
 
   module _ (slot : Slot) where
-    pub of-settled : stateNumber (slot .state) ≡ 2 → ((set : ℕ) → slot .«last_set» ≡ At set → hold ≤ time - set) → settledSlot slot hold time ≡ true
+    pub of-settled : stateNumber (slot .state) ≡ 2 → Rested (slot .«last_set») → Rested (slot .«last_input») → settledSlot slot hold time ≡ true
     unfolding settledSlot
-    of-settled running f = true-both _ _ (eq-eqb _ _ running) (of-rested (slot .«last_set») f)
+    of-settled running delay input = true-both _ _ (eq-eqb _ _ running) (true-both _ _ (of-rested (slot .«last_set») delay) (of-rested (slot .«last_input») input))
 
-    pub settled-of : settledSlot slot hold time ≡ true → (stateNumber (slot .state) ≡ 2) × ((set : ℕ) → slot .«last_set» ≡ At set → hold ≤ time - set)
+    pub settled-of : settledSlot slot hold time ≡ true → (stateNumber (slot .state) ≡ 2) × (Rested (slot .«last_set») × Rested (slot .«last_input»))
     unfolding settledSlot
-    settled-of e = let t = both-true _ _ e in (eqb-true _ _ (t .0), rested-of (slot .«last_set») (t .1))
+    settled-of e =
+        let t = both-true _ _ e in
+        let u = both-true _ _ (t .1) in
+        (eqb-true _ _ (t .0), (rested-of (slot .«last_set») (u .0), rested-of (slot .«last_input») (u .1)))
 
 -- ---- the quantiles: all three as soon as a lag is counted, none before
 abbrev noLimit : ℕ

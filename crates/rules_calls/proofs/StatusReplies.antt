@@ -1,6 +1,6 @@
 -- The answers of the three calls, case by case, as the code goes. Assumes nothing.
 use Prim.Native.Nat.{ℕ, _-_}
-use mathlib.Core.Bool.{Bool, false}
+use mathlib.Core.Bool.{Bool, true, false}
 use mathlib.Core.Path.{_≡_, refl, sym, ap, _∙_}
 use borrow.Author.Tests.{eq-eqb, ne-eqb}
 use lib.Dec.{leb}
@@ -50,6 +50,10 @@ module _ {slot other : Slot} (is-slot : other ≡ slot) {code : ℕ} (is-code : 
   unfolding settledSlot
   settled-idle h hold time = both-no _ _ (ne-eqb _ _ (λ e. h (state-is ∙ e)))
 
-  pub settled-running : code ≡ 2 → (hold time : ℕ) {rested : Bool} → rested ≡ heldSince (slot .«last_set») hold time → rested ≡ settledSlot slot hold time
+  pub settled-lately : code ≡ 2 → (hold time : ℕ) → heldSince (slot .«last_set») hold time ≡ false → false ≡ settledSlot slot hold time
   unfolding settledSlot
-  settled-running h hold time e = both-yes _ _ _ (eq-eqb _ _ (sym state-is ∙ h)) e
+  settled-lately h hold time delay = both-yes _ _ _ (eq-eqb _ _ (sym state-is ∙ h)) (both-no _ _ delay)
+
+  pub settled-running : code ≡ 2 → (hold time : ℕ) → heldSince (slot .«last_set») hold time ≡ true → {rested : Bool} → rested ≡ heldSince (slot .«last_input») hold time → rested ≡ settledSlot slot hold time
+  unfolding settledSlot
+  settled-running h hold time delay e = both-yes _ _ _ (eq-eqb _ _ (sym state-is ∙ h)) (both-yes _ _ _ delay e)

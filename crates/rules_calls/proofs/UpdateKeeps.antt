@@ -59,11 +59,11 @@ module _ (s : Inputs) (l : Lists) (i : ℕ) (c : Checked s l) (h : i < s .count)
   -- ---- `update`
   kind-slot : (kind : ExtraDelay) → WholeSlot (s .policy .«delay_max») (s .«flow_count») (kindStored (slotAt s i) kind)
   kind-slot kind =
-      record { delay = old .delay; proposed = refl; route = old .route; reopens = old .reopens; changes = old .changes; lates = old .lates; head = old .head; set = old .set }
+      record { delay = old .delay; proposed = refl; route = old .route; reopens = old .reopens; changes = old .changes; lates = old .lates; head = old .head; set = old .set; opened = old .opened }
 
   cleared-slot : (kind : ExtraDelay) → WholeSlot (s .policy .«delay_max») (s .«flow_count») (clearedSlot (kindStored (slotAt s i) kind))
   cleared-slot kind =
-      record { delay = old .delay; proposed = refl; route = old .route; reopens = old .reopens; changes = old .changes; lates = old .lates; head = old .head; set = old .set }
+      record { delay = old .delay; proposed = refl; route = old .route; reopens = old .reopens; changes = old .changes; lates = old .lates; head = old .head; set = old .set; opened = old .opened }
 
   pub updated-keeps : (kind : ExtraDelay) (time : ℕ) → kindFits kind (s .policy .«delay_max») ≡ true → time ≤ timeLimit → Checked (updated i kind time s l .inputs) (updated i kind time s l .lists)
   unfolding updated cleared
@@ -74,7 +74,7 @@ module _ (s : Inputs) (l : Lists) (i : ℕ) (c : Checked s l) (h : i < s .count)
   -- ---- `confirm_delay`
   taken-slot : slotAt s i .«delay_changes» + 1 < counterLimit → WholeSlot (s .policy .«delay_max») (s .«flow_count») (taken (slotAt s i))
   taken-slot few =
-      record { delay = old .delay; proposed = refl; route = old .route; reopens = old .reopens; changes = few; lates = old .lates; head = old .head; set = old .set }
+      record { delay = old .delay; proposed = refl; route = old .route; reopens = old .reopens; changes = few; lates = old .lates; head = old .head; set = old .set; opened = old .opened }
 
   confirmed-by : (proposal : Proposal) → proposalFits proposal (s .policy .«delay_max») ≡ true → (time : ℕ) → slotAt s i .«delay_changes» + 1 < counterLimit → time ≤ timeLimit
       → Checked (confirmedBy proposal i time s l .inputs) (confirmedBy proposal i time s l .lists)

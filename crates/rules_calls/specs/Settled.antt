@@ -1,4 +1,4 @@
--- Document 01, "Supervision": "Added: settled .." of one input. Assumes nothing.
+-- Document 02, §4: settled, of one input. Assumes nothing.
 use Prim.Native.Nat.{ℕ}
 use mathlib.Core.Bool.{Bool}
 use Rattle.base.specs.Choice.{both}
@@ -12,9 +12,10 @@ use Rattle.rules_calls.specs.declared.Answer.{Answer}
 use Rattle.rules_calls.specs.StatusChecks.{settledNumber}
 use Rattle.rules_calls.specs.HasChannels.{answerBy}
 
--- "settled is yes exactly if Running and no SetDelay went to that input within the last hold (age at least hold, or none ever)"
+-- "Settled is now yes exactly if Running and neither a SetDelay nor a SetInput went to the input within the last hold (the last of each is at least hold old, or none ever went).
+-- This replaces the sentence marked Added in document 01."
 unfoldable pub settledSlot : (slot : Slot) (hold time : ℕ) → Bool
-settledSlot slot hold time = both (isRunning (slot .state)) (heldSince (slot .«last_set») hold time)
+settledSlot slot hold time = both (isRunning (slot .state)) (both (heldSince (slot .«last_set») hold time) (heldSince (slot .«last_input») hold time))
 
 unfoldable pub settledReply : (s : Inputs) (l : Lists) (input time : ℕ) → Answer
 settledReply s l input time = answerBy (settledNumber s l input time) (settledSlot (slotAt s input) (s .policy .hold) time)

@@ -33,13 +33,13 @@ use Rattle.rules_record.specs.declared.Slot.{Slot}
 use Rattle.rules_record.specs.declared.Instance.{Instance}
 use Rattle.rules_record.specs.declared.Extra.{Extra}
 use Rattle.rules_record.specs.declared.Inputs.{Inputs}
-use Rattle.rules_record.specs.Slots.{isAuto, emptySlot, withState, withRoute, withInode}
+use Rattle.rules_record.specs.Slots.{isAuto, emptySlot, withState, withRoute, withInode, withDelay, withLastInput}
 use Rattle.rules_record.specs.States.{stateNumber}
 use Rattle.rules_record.specs.Commands.{setInput, clearInput, setDelay}
 use Rattle.rules_record.specs.Flows.{flowPlace, admits, recalled, kept, differs, marked, remembered}
 use Rattle.rules_record.specs.Instances.{sameKey}
 use Rattle.rules_record.specs.Prune.{usesKey, isExtra, anyUses, wantedKey}
-use Rattle.rules_record.specs.WholePlaces.{routeFits}
+use Rattle.rules_record.specs.WholePlaces.{routeFits, wholeSlot, unusedTimer, unusedHold, unusedParts, unusedNumbers, unusedSlot}
 
 -- "States: 0 Unrouted, 1 Waiting, 2 Running, 3 Stalled."
 pub states-numbered : stateNumber Unrouted ∷ stateNumber Waiting ∷ stateNumber Running ∷ stateNumber Stalled ∷ [] ≡ 0 ∷ 1 ∷ 2 ∷ 3 ∷ []
@@ -110,6 +110,22 @@ unfolding wholeInput both
 wrong-sum-breaks s l i wrong =
     let broken : both (wholeWindow (windowOf s l i)) (rightSums (windowOf s l i) (sumsOf s l i)) ≡ false = rw wrong (pick-all (λ (b : Bool). b ≡ false) (wholeWindow (windowOf s l i)) refl refl) in
     sym (both-no _ _ broken)
+
+-- 6: "times within 8", of the last SetDelay and (document 02, §4) of the last SetInput: the limit passes, a nanosecond more does not
+pub times-up-to-the-limit :
+    wholeSlot 0 0 (withDelay emptySlot 0 4_000_000_000_000_000_000)
+    ∷ wholeSlot 0 0 (withDelay emptySlot 0 4_000_000_000_000_000_001)
+    ∷ wholeSlot 0 0 (withLastInput emptySlot 4_000_000_000_000_000_000)
+    ∷ wholeSlot 0 0 (withLastInput emptySlot 4_000_000_000_000_000_001)
+    ∷ []
+    ≡ true ∷ false ∷ true ∷ false ∷ []
+unfolding both routeFits wholeSlot emptySlot
+times-up-to-the-limit = refl
+
+-- 6: "unused places zero": a slot to which a command went, even at time 0, is not unused
+pub unused-slots-have-no-times : unusedSlot emptySlot ∷ unusedSlot (withDelay emptySlot 0 0) ∷ unusedSlot (withLastInput emptySlot 0) ∷ [] ≡ true ∷ false ∷ false ∷ []
+unfolding both unusedTimer unusedHold unusedParts unusedNumbers unusedSlot emptySlot
+unused-slots-have-no-times = refl
 
 -- "three u32 words a command: kind (1 SetInput, 2 ClearInput, 3 SetDelay), input from 0, then channels, forget as 0 or 1, or samples"
 pub commands-of-three-words : setInput 4 2 ∷ clearInput 4 1 ∷ setDelay 4 96 ∷ [] ≡ (1 ∷ 4 ∷ 2 ∷ []) ∷ (2 ∷ 4 ∷ 1 ∷ []) ∷ (3 ∷ 4 ∷ 96 ∷ []) ∷ []

@@ -30,6 +30,7 @@ module _ (maximum n : ℕ) (slot : Slot) where
       let t5 = both-true _ _ (t4 .1) in
       let t6 = both-true _ _ (t5 .1) in
       let t7 = both-true _ _ (t6 .1) in
+      let t8 = both-true _ _ (t7 .1) in
       record {
         delay = leb-true _ _ (t1 .0);
         proposed = t2 .0;
@@ -38,7 +39,8 @@ module _ (maximum n : ℕ) (slot : Slot) where
         changes = ltb-true _ _ (t5 .0);
         lates = ltb-true _ _ (t6 .0);
         head = leb-true _ _ (t7 .0);
-        set = t7 .1;
+        set = t8 .0;
+        opened = t8 .1;
       }
 
   pub of-slot : WholeSlot maximum n slot → wholeSlot maximum n slot ≡ true
@@ -50,7 +52,7 @@ module _ (maximum n : ℕ) (slot : Slot) where
       (true-both _ _ (lt-ltb _ _ (w .reopens))
       (true-both _ _ (lt-ltb _ _ (w .changes))
       (true-both _ _ (lt-ltb _ _ (w .lates))
-      (true-both _ _ (le-leb _ _ (w .head)) (w .set)))))))
+      (true-both _ _ (le-leb _ _ (w .head)) (true-both _ _ (w .set) (w .opened))))))))
 
 -- ---- one input
 module _ (s : Inputs) (l : Lists) (i : ℕ) where

@@ -15,7 +15,7 @@ use Rattle.rules_record.specs.declared.Slot.{Slot}
 use Rattle.rules_record.specs.declared.FlowEntry.{FlowEntry}
 use Rattle.rules_record.specs.declared.Instance.{Instance}
 use Rattle.rules_record.specs.declared.Inputs.{Inputs}
-use Rattle.rules_record.specs.Slots.{withConfig, withState, withRoute, withInode, withHead, withReopens, withLagSeconds, withLastLag, withDelay, withProposed, withHold, withDelayChanges, withLate}
+use Rattle.rules_record.specs.Slots.{withConfig, withState, withRoute, withInode, withHead, withReopens, withLagSeconds, withLastLag, withDelay, withProposed, withHold, withDelayChanges, withLate, withLastInput}
 use Rattle.rules_record.specs.Inputs.{withSlots, withFlows, withInstances}
 
 -- ---- a slot
@@ -69,6 +69,7 @@ module _ (slot : Slot) where
         «late_events» = slot .«late_events»;
         «late_before» = slot .«late_before»;
         «last_set» = set;
+        «last_input» = slot .«last_input»;
       }
 
   pub proposal-alone : (proposed : Proposal) → ((withProposed slot proposed) .proposed ≡ proposed) × (withProposed slot (slot .proposed) ≡ slot)
@@ -82,6 +83,34 @@ module _ (slot : Slot) where
 
   pub late-alone : (events : ℕ) (before : Bool) → ((withLate slot events before) .«late_events» ≡ events) × ((withLate slot events before) .«late_before» ≡ before) × (withLate slot (slot .«late_events») (slot .«late_before») ≡ slot)
   late-alone events before = (refl, refl, refl)
+
+  -- the time of a SetInput
+  pub input-alone : (time : ℕ) → (withLastInput slot time) .«last_input» ≡ At time
+  input-alone time = refl
+
+  pub same-input-again : (time : ℕ) → slot .«last_input» ≡ At time → withLastInput slot time ≡ slot
+  same-input-again time e = ap (λ (opened : Moment). again opened) (sym e)
+    where
+      again : Moment → Slot
+      again opened = record {
+        config = slot .config;
+        state = slot .state;
+        route = slot .route;
+        inode = slot .inode;
+        «last_head» = slot .«last_head»;
+        «head_changed» = slot .«head_changed»;
+        reopens = slot .reopens;
+        «lag_seconds» = slot .«lag_seconds»;
+        «last_lag» = slot .«last_lag»;
+        delay = slot .delay;
+        proposed = slot .proposed;
+        hold = slot .hold;
+        «delay_changes» = slot .«delay_changes»;
+        «late_events» = slot .«late_events»;
+        «late_before» = slot .«late_before»;
+        «last_set» = slot .«last_set»;
+        «last_input» = opened;
+      }
 
 -- ---- a record
 module _ (s : Inputs) where

@@ -47,6 +47,7 @@ slot-more maximum n m slot h w = record {
   lates = w .lates;
   head = w .head;
   set = w .set;
+  opened = w .opened;
 }
 
 -- an entry is stored elsewhere

@@ -114,6 +114,7 @@ unused-slot slot h =
     let p5 = both-true _ _ (p4 .1) in
     let p6 = both-true _ _ (p5 .1) in
     let p7 = both-true _ _ (p6 .1) in
+    let p8 = both-true _ _ (p7 .1) in
     let n1 = both-true _ _ (t .1) in
     let n2 = both-true _ _ (n1 .1) in
     let n3 = both-true _ _ (n2 .1) in
@@ -138,7 +139,8 @@ unused-slot slot h =
       «delay_changes» = eqb-true (slot .«delay_changes») 0 (n7 .0) i;
       «late_events» = eqb-true (slot .«late_events») 0 (n7 .1) i;
       «late_before» = not-true (slot .«late_before») (p7 .0) i;
-      «last_set» = is-never (slot .«last_set») (p7 .1) i;
+      «last_set» = is-never (slot .«last_set») (p8 .0) i;
+      «last_input» = is-never (slot .«last_input») (p8 .1) i;
     }
 
 pub empty-slot : unusedSlot emptySlot ≡ true

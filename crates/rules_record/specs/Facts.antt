@@ -26,6 +26,7 @@ pub record WholeSlot (maximum n : ℕ) (slot : Slot) : Type 0 where
   pub lates : slot .«late_events» < counterLimit
   pub head : slot .«head_changed» ≤ timeLimit
   pub set : momentTimely (slot .«last_set») ≡ true
+  pub opened : momentTimely (slot .«last_input») ≡ true
 
 pub record WholeInput (s : Inputs) (l : Lists) (i : ℕ) : Type 0 where
   pub window : wholeWindow (windowOf s l i) ≡ true

@@ -42,6 +42,7 @@ emptySlot = record {
   «late_events» = 0;
   «late_before» = false;
   «last_set» = Never;
+  «last_input» = Never;
 }
 
 abbrev pub withConfig : (slot : Slot) (config : InputConfig) → Slot
@@ -62,6 +63,7 @@ withConfig slot config = record {
   «late_events» = slot .«late_events»;
   «late_before» = slot .«late_before»;
   «last_set» = slot .«last_set»;
+  «last_input» = slot .«last_input»;
 }
 
 abbrev pub withState : (slot : Slot) (state : State) → Slot
@@ -82,6 +84,7 @@ withState slot state = record {
   «late_events» = slot .«late_events»;
   «late_before» = slot .«late_before»;
   «last_set» = slot .«last_set»;
+  «last_input» = slot .«last_input»;
 }
 
 abbrev pub withRoute : (slot : Slot) (route : Routed) → Slot
@@ -102,6 +105,7 @@ withRoute slot route = record {
   «late_events» = slot .«late_events»;
   «late_before» = slot .«late_before»;
   «last_set» = slot .«last_set»;
+  «last_input» = slot .«last_input»;
 }
 
 abbrev pub withInode : (slot : Slot) (inode : Inode) → Slot
@@ -122,6 +126,7 @@ withInode slot inode = record {
   «late_events» = slot .«late_events»;
   «late_before» = slot .«late_before»;
   «last_set» = slot .«last_set»;
+  «last_input» = slot .«last_input»;
 }
 
 abbrev pub withHead : (slot : Slot) (head time : ℕ) → Slot
@@ -142,6 +147,7 @@ withHead slot head time = record {
   «late_events» = slot .«late_events»;
   «late_before» = slot .«late_before»;
   «last_set» = slot .«last_set»;
+  «last_input» = slot .«last_input»;
 }
 
 abbrev pub withReopens : (slot : Slot) (reopens : ℕ) → Slot
@@ -162,6 +168,7 @@ withReopens slot reopens = record {
   «late_events» = slot .«late_events»;
   «late_before» = slot .«late_before»;
   «last_set» = slot .«last_set»;
+  «last_input» = slot .«last_input»;
 }
 
 abbrev pub withLagSeconds : (slot : Slot) → ℕ → Slot
@@ -182,6 +189,7 @@ withLagSeconds slot «lag_seconds» = record {
   «late_events» = slot .«late_events»;
   «late_before» = slot .«late_before»;
   «last_set» = slot .«last_set»;
+  «last_input» = slot .«last_input»;
 }
 
 abbrev pub withLastLag : (slot : Slot) → ℕ → Slot
@@ -202,6 +210,7 @@ withLastLag slot «last_lag» = record {
   «late_events» = slot .«late_events»;
   «late_before» = slot .«late_before»;
   «last_set» = slot .«last_set»;
+  «last_input» = slot .«last_input»;
 }
 
 abbrev pub withDelay : (slot : Slot) (delay time : ℕ) → Slot
@@ -222,6 +231,7 @@ withDelay slot delay time = record {
   «late_events» = slot .«late_events»;
   «late_before» = slot .«late_before»;
   «last_set» = At time;
+  «last_input» = slot .«last_input»;
 }
 
 abbrev pub withProposed : (slot : Slot) (proposed : Proposal) → Slot
@@ -242,6 +252,7 @@ withProposed slot proposed = record {
   «late_events» = slot .«late_events»;
   «late_before» = slot .«late_before»;
   «last_set» = slot .«last_set»;
+  «last_input» = slot .«last_input»;
 }
 
 abbrev pub withHold : (slot : Slot) (hold : DelayHold) → Slot
@@ -262,6 +273,7 @@ withHold slot hold = record {
   «late_events» = slot .«late_events»;
   «late_before» = slot .«late_before»;
   «last_set» = slot .«last_set»;
+  «last_input» = slot .«last_input»;
 }
 
 abbrev pub withDelayChanges : (slot : Slot) → ℕ → Slot
@@ -282,6 +294,7 @@ withDelayChanges slot «delay_changes» = record {
   «late_events» = slot .«late_events»;
   «late_before» = slot .«late_before»;
   «last_set» = slot .«last_set»;
+  «last_input» = slot .«last_input»;
 }
 
 abbrev pub withLate : (slot : Slot) → ℕ → Bool → Slot
@@ -302,4 +315,27 @@ withLate slot «late_events» «late_before» = record {
   «late_events» = «late_events»;
   «late_before» = «late_before»;
   «last_set» = slot .«last_set»;
+  «last_input» = slot .«last_input»;
+}
+
+-- a SetInput went to the input at this time
+abbrev pub withLastInput : (slot : Slot) (time : ℕ) → Slot
+withLastInput slot time = record {
+  config = slot .config;
+  state = slot .state;
+  route = slot .route;
+  inode = slot .inode;
+  «last_head» = slot .«last_head»;
+  «head_changed» = slot .«head_changed»;
+  reopens = slot .reopens;
+  «lag_seconds» = slot .«lag_seconds»;
+  «last_lag» = slot .«last_lag»;
+  delay = slot .delay;
+  proposed = slot .proposed;
+  hold = slot .hold;
+  «delay_changes» = slot .«delay_changes»;
+  «late_events» = slot .«late_events»;
+  «late_before» = slot .«late_before»;
+  «last_set» = slot .«last_set»;
+  «last_input» = At time;
 }

@@ -46,7 +46,7 @@ abbrev pub counterFits : ℕ → Bool
 counterFits n = ltb n counterLimit
 
 -- the slot of an input, with this maximum and n flows known: its delay and proposal, its route, its counters, and "times within 8"
--- (those of its hold and its window stand in their own checks)
+-- (those of its hold and its window stand in their own checks); the last one by document 02, §4: "The check of a whole record (number 6) bounds it like the other times."
 unfoldable pub wholeSlot : (maximum n : ℕ) (slot : Slot) → Bool
 wholeSlot maximum n slot =
     both (leb (slot .delay) maximum)
@@ -56,7 +56,8 @@ wholeSlot maximum n slot =
     (both (counterFits (slot .«delay_changes»))
     (both (counterFits (slot .«late_events»))
     (both (timely (slot .«head_changed»))
-    (momentTimely (slot .«last_set»))))))))
+    (both (momentTimely (slot .«last_set»))
+    (momentTimely (slot .«last_input»)))))))))
 
 -- ---- "unused places zero"
 abbrev pub neverYet : Moment → Bool
@@ -108,7 +109,8 @@ unusedParts slot =
     (both (noProposal (slot .proposed))
     (both (unusedHold (slot .hold))
     (both (not (slot .«late_before»))
-    (neverYet (slot .«last_set»))))))))
+    (both (neverYet (slot .«last_set»))
+    (neverYet (slot .«last_input»)))))))))
 
 -- .. and whose numbers are zero
 unfoldable pub unusedNumbers : Slot → Bool

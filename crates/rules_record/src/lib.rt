@@ -70,6 +70,8 @@ pub struct Slot {
     pub late_before: bool,
     // When the last SetDelay went to this input.
     pub last_set: Moment,
+    // When the last SetInput went to this input.
+    pub last_input: Moment,
 }
 
 // A flow's 16 bytes, the first weighing most: eight in high, eight in low.

@@ -20,7 +20,7 @@ module _ (s : Inputs) (l : Lists) (i delay time : ℕ) (c : Checked s l) (h : i 
   slot-fits : WholeSlot (s .policy .«delay_max») (s .«flow_count») (withDelay (slotAt s i) delay time)
   slot-fits =
       let w = c .whole .inputs i h .slot in
-      record { delay = fits; proposed = w .proposed; route = w .route; reopens = w .reopens; changes = w .changes; lates = w .lates; head = w .head; set = le-leb _ _ soon }
+      record { delay = fits; proposed = w .proposed; route = w .route; reopens = w .reopens; changes = w .changes; lates = w .lates; head = w .head; set = le-leb _ _ soon; opened = w .opened }
 
   placed-checked : Checked placed l
   placed-checked = slot-keeps s l i (withDelay (slotAt s i) delay time) c h slot-fits refl refl

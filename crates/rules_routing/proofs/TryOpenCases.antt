@@ -19,7 +19,7 @@ use Rattle.rules_record.specs.declared.Inode.{Inode}
 use Rattle.rules_record.specs.declared.Inode.the-variants.{Gone, Of}
 use Rattle.rules_record.specs.declared.Remembered.{Remembered}
 use Rattle.rules_record.specs.declared.Remembered.the-variants.{Never, Delay}
-use Rattle.rules_record.specs.Slots.{isAuto, withState, withInode, withHead, withReopens, withHold}
+use Rattle.rules_record.specs.Slots.{isAuto, withState, withInode, withHead, withReopens, withHold, withLastInput}
 use Rattle.rules_record.specs.States.{stateNumber}
 use Rattle.rules_record.specs.Inputs.{slotAt, putSlot}
 use Rattle.rules_record.specs.Commands.{setInput, quiet, sendFirst}
@@ -36,16 +36,19 @@ use Rattle.rules_routing.specs.TryOpen.{runningSlot, openedSlot, startsA
 
 -- ---- the slot
 module _ (slot : Slot) (inode head time : ℕ) {number : ℕ} (code : number ≡ stateNumber (slot .state)) where
-  module _ {placed : Slot} (e : placed ≡ withInode slot (Of inode)) where
+  module _ {told placed : Slot} (t : told ≡ withLastInput slot time) (e : placed ≡ withInode told (Of inode)) where
+    placed-is : placed ≡ withInode (withLastInput slot time) (Of inode)
+    placed-is = e ∙ ap (λ (x : Slot). withInode x (Of inode)) t
+
     pub running-stalled : number ≡ 3 → {r : Slot} → r ≡ withHead placed head (slot .«head_changed») → r ≡ runningSlot slot inode head time
     unfolding runningSlot
-    running-stalled h f = f ∙ ap (λ (x : Slot). withHead x head (slot .«head_changed»)) e ∙ sym (yes-pick _ _ (eq-eqb _ _ (sym code ∙ h)))
+    running-stalled h f = f ∙ ap (λ (x : Slot). withHead x head (slot .«head_changed»)) placed-is ∙ sym (yes-pick _ _ (eq-eqb _ _ (sym code ∙ h)))
 
     pub running-now : (number ≡ 3 → ⊥) → {runs r : Slot} → runs ≡ withState placed Running → r ≡ withHead runs head time → r ≡ runningSlot slot inode head time
     unfolding runningSlot
     running-now h g f =
         f
-        ∙ ap (λ (x : Slot). withHead x head time) (g ∙ ap (λ (x : Slot). withState x Running) e)
+        ∙ ap (λ (x : Slot). withHead x head time) (g ∙ ap (λ (x : Slot). withState x Running) placed-is)
         ∙ sym (no-pick _ _ (ne-eqb _ _ (λ q. h (code ∙ q))))
 
   module _ {runs : Slot} (e : runs ≡ runningSlot slot inode head time) where

@@ -64,14 +64,14 @@ route-state (To route) old new n h k fits = true-both (ltb (route .flow) n) (isR
 module _ (maximum n : ℕ) (slot : Slot) (w : WholeSlot maximum n slot) where
   pub reopens-fit : (reopens : ℕ) → reopens < counterLimit → WholeSlot maximum n (withReopens slot reopens)
   reopens-fit reopens few =
-      record { delay = w .delay; proposed = w .proposed; route = w .route; reopens = few; changes = w .changes; lates = w .lates; head = w .head; set = w .set }
+      record { delay = w .delay; proposed = w .proposed; route = w .route; reopens = few; changes = w .changes; lates = w .lates; head = w .head; set = w .set; opened = w .opened }
 
   module _ (inode head time : ℕ) (soon : time ≤ timeLimit) (routed : 1 ≤ stateNumber (slot .state)) where
     running-fits : WholeSlot maximum n (runningSlot slot inode head time)
     unfolding runningSlot
     running-fits =
         pick-all (WholeSlot maximum n) (isStalled (slot .state))
-        (record { delay = w .delay; proposed = w .proposed; route = w .route; reopens = w .reopens; changes = w .changes; lates = w .lates; head = w .head; set = w .set })
+        (record { delay = w .delay; proposed = w .proposed; route = w .route; reopens = w .reopens; changes = w .changes; lates = w .lates; head = w .head; set = w .set; opened = le-leb _ _ soon })
         (record {
           delay = w .delay;
           proposed = w .proposed;
@@ -81,6 +81,7 @@ module _ (maximum n : ℕ) (slot : Slot) (w : WholeSlot maximum n slot) where
           lates = w .lates;
           head = soon;
           set = w .set;
+          opened = le-leb _ _ soon;
         })
 
 opened-fits : (maximum n : ℕ) (slot : Slot) (inode head time : ℕ) → WholeSlot maximum n slot → time ≤ timeLimit → 1 ≤ stateNumber (slot .state) → ReopenFits slot → WholeSlot maximum n (openedSlot slot inode head time)
@@ -140,6 +141,7 @@ module _ (l : Lists) (i time : ℕ) (soon : time ≤ timeLimit) where
         lates = w .slot .lates;
         head = w .slot .head;
         set = w .slot .set;
+        opened = w .slot .opened;
       })
 
   by-keeps : (remembered : Remembered) (s : Inputs) → Checked s l → i < s .count → Checked (startBy remembered s i time .inputs) l

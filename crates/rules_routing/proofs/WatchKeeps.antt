@@ -33,7 +33,7 @@ use Rattle.rules_routing.proofs.TryOpenKeeps.{routed-state, route-state
 module _ (maximum n : ℕ) (slot : Slot) (w : WholeSlot maximum n slot) where
   pub head-fits : (head time : ℕ) → time ≤ timeLimit → WholeSlot maximum n (withHead slot head time)
   head-fits head time soon =
-      record { delay = w .delay; proposed = w .proposed; route = w .route; reopens = w .reopens; changes = w .changes; lates = w .lates; head = soon; set = w .set }
+      record { delay = w .delay; proposed = w .proposed; route = w .route; reopens = w .reopens; changes = w .changes; lates = w .lates; head = soon; set = w .set; opened = w .opened }
 
   -- a routed input changes to another state of a routed one
   pub state-fits : (state : State) → 1 ≤ stateNumber (slot .state) → 1 ≤ stateNumber state → WholeSlot maximum n (withState slot state)
@@ -47,6 +47,7 @@ module _ (maximum n : ℕ) (slot : Slot) (w : WholeSlot maximum n slot) where
         lates = w .lates;
         head = w .head;
         set = w .set;
+        opened = w .opened;
       }
 
   lost-fits : 1 ≤ stateNumber (slot .state) → slot .reopens + 1 < counterLimit → WholeSlot maximum n (lostSlot slot)

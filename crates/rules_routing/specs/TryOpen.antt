@@ -14,7 +14,7 @@ use Rattle.rules_record.specs.declared.Inode.{Inode}
 use Rattle.rules_record.specs.declared.Inode.the-variants.{Gone, Of}
 use Rattle.rules_record.specs.declared.Remembered.{Remembered}
 use Rattle.rules_record.specs.declared.Remembered.the-variants.{Never, Delay}
-use Rattle.rules_record.specs.Slots.{isAuto, withState, withInode, withHead, withReopens, withHold}
+use Rattle.rules_record.specs.Slots.{isAuto, withState, withInode, withHead, withReopens, withHold, withLastInput}
 use Rattle.rules_record.specs.States.{isWaiting, isStalled}
 use Rattle.rules_record.specs.Inputs.{slotAt, putSlot}
 use Rattle.rules_record.specs.Commands.{Done, setInput, quiet, sendFirst, changed}
@@ -27,12 +27,13 @@ use Rattle.rules_routing.specs.declared.Reader.{Reader}
 use Rattle.rules_routing.specs.declared.Reader.the-variants.{Shut, Open}
 use Rattle.rules_routing.specs.declared.World.{World}
 
--- "inode and head stored; a Stalled input remains Stalled, another is Running with head time now"
+-- "If opened: SetInput, inode and head stored; a Stalled input remains Stalled, another is Running with head time now"
+-- document 02, §4: "The time of the last SetInput joins the input's record."
 unfoldable pub runningSlot : (slot : Slot) (inode head time : ℕ) → Slot
 runningSlot slot inode head time =
     pick (isStalled (slot .state))
-    (withHead (withInode slot (Of inode)) head (slot .«head_changed»))
-    (withHead (withState (withInode slot (Of inode)) Running) head time)
+    (withHead (withInode (withLastInput slot time) (Of inode)) head (slot .«head_changed»))
+    (withHead (withState (withInode (withLastInput slot time) (Of inode)) Running) head time)
 
 -- "Was not Waiting: reopens + 1."
 unfoldable pub openedSlot : (slot : Slot) (inode head time : ℕ) → Slot

@@ -167,7 +167,7 @@ module _ (i : ℕ) (largest : Lag) (time : ℕ) (s : Inputs) (l : Lists) where
         (ready .window)
         (ready .sums)
         (interrupt-keeps-whole (s .policy) (s .width) (heldOf s l i) (ready .hold))
-        (record { delay = old .delay; proposed = old .proposed; route = old .route; reopens = old .reopens; changes = old .changes; lates = old .lates; head = old .head; set = old .set })
+        (record { delay = old .delay; proposed = old .proposed; route = old .route; reopens = old .reopens; changes = old .changes; lates = old .lates; head = old .head; set = old .set; opened = old .opened })
 
     -- the slot with its new hold, and perhaps more
     module _ (new : Slot) (seconds : new .«lag_seconds» ≡ slotAt s i .«lag_seconds») (hold : new .hold ≡ decision .held .hold) (fits : WholeSlot (s .policy .«delay_max») (s .«flow_count») new) where
@@ -176,14 +176,14 @@ module _ (i : ℕ) (largest : Lag) (time : ℕ) (s : Inputs) (l : Lists) where
           hold-keeps s l i new c h fits (decision .held) (next-long i largest time s l ready soon .0) (next-long i largest time s l ready soon .1) (next-whole i largest time s l ready soon) seconds hold
 
     keep-fits : WholeSlot (s .policy .«delay_max») (s .«flow_count») slot
-    keep-fits = record { delay = old .delay; proposed = old .proposed; route = old .route; reopens = old .reopens; changes = old .changes; lates = old .lates; head = old .head; set = old .set }
+    keep-fits = record { delay = old .delay; proposed = old .proposed; route = old .route; reopens = old .reopens; changes = old .changes; lates = old .lates; head = old .head; set = old .set; opened = old .opened }
 
     propose-fits : (delay : ℕ) → delay ≤ s .policy .«delay_max» → WholeSlot (s .policy .«delay_max») (s .«flow_count») (withProposed slot (Pending delay))
     propose-fits delay most =
-        record { delay = old .delay; proposed = le-leb _ _ most; route = old .route; reopens = old .reopens; changes = old .changes; lates = old .lates; head = old .head; set = old .set }
+        record { delay = old .delay; proposed = le-leb _ _ most; route = old .route; reopens = old .reopens; changes = old .changes; lates = old .lates; head = old .head; set = old .set; opened = old .opened }
 
     change-fits : slotAt s i .«delay_changes» + 1 < counterLimit → WholeSlot (s .policy .«delay_max») (s .«flow_count») (withDelayChanges slot (slot .«delay_changes» + 1))
-    change-fits few = record { delay = old .delay; proposed = old .proposed; route = old .route; reopens = old .reopens; changes = few; lates = old .lates; head = old .head; set = old .set }
+    change-fits few = record { delay = old .delay; proposed = old .proposed; route = old .route; reopens = old .reopens; changes = few; lates = old .lates; head = old .head; set = old .set; opened = old .opened }
 
     pub auto-keeps : slotAt s i .«delay_changes» + 1 < counterLimit → Checked (autoDelayed i largest time s l .inputs) (autoDelayed i largest time s l .lists)
     unfolding setDelayOf sendFirst quiet

@@ -113,4 +113,4 @@ module _ (i time : ℕ) (lags : List ℕ) (s : Inputs) (l : Lists) where
       fits : WholeSlot (s .policy .«delay_max») (s .«flow_count») slot
       fits =
           let w = c .whole .inputs i h .slot in
-          record { delay = w .delay; proposed = w .proposed; route = w .route; reopens = w .reopens; changes = w .changes; lates = w .lates; head = w .head; set = w .set }
+          record { delay = w .delay; proposed = w .proposed; route = w .route; reopens = w .reopens; changes = w .changes; lates = w .lates; head = w .head; set = w .set; opened = w .opened }

@@ -71,4 +71,5 @@ module _ (i applied : ℕ) (largest : Lag) (s : Inputs) where
             lates = omega (arith, events-most (slotAt s i) (lateNow (s .policy) (slotAt s i) applied largest));
             head = w .head;
             set = w .set;
+            opened = w .opened;
           }

@@ -1,7 +1,7 @@
 -- The checks of the calls on a window: what a number says, and what a call answers and leaves. Assumes nothing.
 use Prim.Native.Nat.{ℕ, zero, suc, _+_, _-_, _*_, _<_, _≤_}
 use mathlib.Core.Bool.{Bool, true, false, not}
-use mathlib.Core.Path.{_≡_, refl, sym, ap, subst, _∙_}
+use mathlib.Core.Path.{_≡_, refl, sym, ap, _∙_}
 use mathlib.Core.List.{List}
 use native.Mathlib.Omega.{arith}
 use borrow.Author.Tests.{le-leb, lt-leb, leb-true, eqb-true, not-true, not-false}
@@ -24,7 +24,7 @@ use Rattle.rules_window.specs.Checks.{checked, newest, roomFor, fromZero
 use Rattle.rules_window.proofs.WholeAt.{whole-of}
 use Rattle.rules_window.proofs.Totals.{total-few}
 use Rattle.rules_window.proofs.ColumnSums.{sums-length, right-are-own}
-use Rattle.rules_window.proofs.OneSecond.{summedUp, same-total, same-quantile}
+use Rattle.rules_window.proofs.OneSecond.{row-placeable, same-quantile}
 use Rattle.doubles.proofs.Values.{is}
 
 -- ---- 17, 18, 5 and 6, and then the rest
@@ -229,10 +229,6 @@ sound-placeable q limit w s h =
     let b = both-true _ _ h in
     record { few = total-few limit w s; low = is (b .0); high = is (b .1) }
 
--- .. and so does its row of sums, read as one second
-sums-placeable : (q : Float) (limit : ℕ) (w : Window) → Placeable q limit w → Placeable q limit (summedUp w)
-sums-placeable q limit w p = rw (same-total w limit) p
-
 -- what the quantile over the row of sums asks, of a window that its checks let through
 pub quantile-asks : (q : Float) (limit : ℕ) (w : Window) (sums : List ℕ) (n : ℕ) → n ≡ quantileNumber q w sums → n ≡ 0
     → ((w .buckets ≤ bucketsLimit) × (1 ≤ w .width) × (w .width ≤ widthLimit)) × ((length sums ≡ w .buckets) × Placeable q limit (asOneSecond (w .buckets) (w .width) sums))
@@ -243,7 +239,7 @@ quantile-asks q limit w sums n e z =
     let s = a .0 .0 in
     let own = a .0 .1 in (
       (s .shaped .buckets-high, s .shaped .width-low, s .shaped .width-high),
-      (ap length own ∙ sums-length w, subst (λ (us : List ℕ). Placeable q limit (asOneSecond (w .buckets) (w .width) us)) (sym own) (sums-placeable q limit w (sound-placeable q limit w s (b .0)))),
+      (ap length own ∙ sums-length w, row-placeable w limit q own (sound-placeable q limit w s (b .0))),
     )
 
 pub span-asks : (w : Window) (sums : List ℕ) (n : ℕ) → n ≡ checked w sums 0 → n ≡ 0 → w .seconds ≤ length (w .starts)

@@ -1,5 +1,6 @@
 -- An input's delay in the record that an accepted call leaves is the samples of the last SetDelay among its commands, or where there is none
--- the delay that it had before: of `new`, `route`, `update`, `confirm_delay` and `tick`. Assumes nothing.
+-- the delay that it had before, and so are the times of the last SetDelay and SetInput: of `new`, `route`, `update`, `confirm_delay` and `tick`.
+-- Assumes nothing.
 use Prim.Native.Nat.{ℕ, _<_}
 use mathlib.Core.Path.{_≡_, refl, sym, ap, subst, _∙_}
 use mathlib.Core.List.{List}
@@ -38,11 +39,12 @@ use Rattle.rules_tick.specs.Tick.{ticked}
 use Rattle.rules_tick.specs.TickReply.{tickReply}
 use Rattle.sent_delays.specs.Last.{lastDelay}
 use Rattle.sent_delays.specs.Delays.{Told, SentDelays}
-use Rattle.sent_delays.proofs.Words.{last-padded}
+use Rattle.sent_delays.specs.Times.{Timed, TimedFresh, SentTimes}
+use Rattle.sent_delays.proofs.Notes.{Notes, notesOf, notesAfter, notes-padded}
 use Rattle.sent_delays.proofs.Steps.{TellsEffect}
 use Rattle.sent_delays.proofs.Ticks.{tells-ticked}
 use Rattle.sent_delays.proofs.OneInput.{tells-routed, tells-updated, tells-confirmed}
-use Rattle.sent_delays.proofs.Starts.{blank-delay, tells-started}
+use Rattle.sent_delays.proofs.Starts.{nothing, blank-notes, tells-started}
 
 -- the same of an accepted call
 pub accepted-told : {s : Inputs} {reply : Reply} → Told s reply → reply .number ≡ 0 → (j : ℕ) → j < 16 → slotAt (reply .inputs) j .delay ≡ lastDelay j (slotAt s j .delay) (reply .commands)
@@ -54,8 +56,8 @@ module _ (number : ℕ) (s : Inputs) (l : Lists) (commands : List ℕ) (effect :
   abbrev reply : Reply
   reply = replied number s l commands effect
 
-  padded-delays : {t : Inputs} → TellsEffect t effect → (j : ℕ) → j < 16 → slotAt (effect .inputs) j .delay ≡ lastDelay j (slotAt t j .delay) (padded (length commands) (effect .words))
-  padded-delays {t} f j low = f .delays j low ∙ sym (last-padded j (slotAt t j .delay) (length commands) (effect .words) (f .whole))
+  padded-notes : {t : Inputs} {time : ℕ} → TellsEffect time t effect → (j : ℕ) → j < 16 → notesOf (slotAt (effect .inputs) j) ≡ notesAfter j time (notesOf (slotAt t j)) (padded (length commands) (effect .words))
+  padded-notes {t} {time} f j low = f .notes j low ∙ sym (notes-padded j time (notesOf (slotAt t j)) (length commands) (effect .words) (f .whole))
 
   reply-number : reply .number ≡ number
   reply-number = accepted-all (λ (r : Reply). r .number ≡ number) number _ _ refl (λ e. refl)
@@ -63,43 +65,76 @@ module _ (number : ℕ) (s : Inputs) (l : Lists) (commands : List ℕ) (effect :
   reply-sized : Sized s → (number ≡ 0 → Sized (effect .inputs)) → Sized (reply .inputs)
   reply-sized h f = accepted-all (λ (r : Reply). Sized (r .inputs)) number _ _ h f
 
-  reply-told : Sized s → (number ≡ 0 → TellsEffect s effect) → Told s reply
-  reply-told h f = record {
-    sized = reply-sized h (λ e. f e .sized);
-    delays = λ j low.
-        let P : Reply → Type 0 = λ (r : Reply). slotAt (r .inputs) j .delay ≡ accepted (r .number) (slotAt s j .delay) (lastDelay j (slotAt s j .delay) (r .commands)) in
+  module _ {time : ℕ} (sized : Sized s) (tells : number ≡ 0 → TellsEffect time s effect) where
+    -- each part of what is noted
+    reply-part : {A : Type 0} (part : Notes → A) (j : ℕ) → j < 16 → part (notesOf (slotAt (reply .inputs) j)) ≡ accepted (reply .number) (part (notesOf (slotAt s j))) (part (notesAfter j time (notesOf (slotAt s j)) (reply .commands)))
+    reply-part part j low =
+        let P : Reply → Type 0 = λ (r : Reply). part (notesOf (slotAt (r .inputs) j)) ≡ accepted (r .number) (part (notesOf (slotAt s j))) (part (notesAfter j time (notesOf (slotAt s j)) (r .commands))) in
         by-zero number
-        (λ e. subst P (sym (accepted-new number _ _ e)) (padded-delays (f e) j low ∙ sym (accepted-new number _ _ e)))
-        (λ none. subst P (sym (refused-old number _ _ none)) (sym (refused-old number _ _ none)));
-  }
+        (λ e. subst P (sym (accepted-new number _ _ e)) (ap part (padded-notes (tells e) j low) ∙ sym (accepted-new number _ _ e)))
+        (λ none. subst P (sym (refused-old number _ _ none)) (sym (refused-old number _ _ none)))
+
+    reply-told : Told s reply
+    reply-told = record { sized = reply-sized sized (λ e. tells e .sized); delays = reply-part (λ (n : Notes). n .delay) }
+
+    reply-timed : Timed s time reply
+    reply-timed = record { set = reply-part (λ (n : Notes). n .set); input = reply-part (λ (n : Notes). n .input) }
 
 -- ---- the calls on a record, accepted or refused
 module _ (s : Inputs) (sized : Sized s) (l : Lists) (commands : List ℕ) where
-  pub route-told : (input : ℕ) (wanted : Wanted) (time : ℕ) (world : World) → Told s (routeReply s l commands input wanted time world)
-  unfolding routeReply routeNumber
-  route-told input wanted time world =
-      reply-told (routeNumber s l (length commands) input wanted time world) s l commands (routed input wanted time world s l) sized
-      (λ e. tells-routed input (call-low s l (length commands) input time _ e) time wanted world s l sized)
+  module _ (input : ℕ) (wanted : Wanted) (time : ℕ) (world : World) where
+    route-tells : routeNumber s l (length commands) input wanted time world ≡ 0 → TellsEffect time s (routed input wanted time world s l)
+    unfolding routeNumber
+    route-tells e = tells-routed input (call-low s l (length commands) input time _ e) time wanted world s l sized
 
-  pub update-told : (input : ℕ) (kind : ExtraDelay) (time : ℕ) → Told s (updateReply s l commands input kind time)
-  unfolding updateReply updateNumber
-  update-told input kind time =
-      reply-told (updateNumber s l (length commands) input kind time) s l commands (updated input kind time s l) sized
-      (λ e. tells-updated input (call-low s l (length commands) input time _ e) time kind s l sized)
+    pub route-told : Told s (routeReply s l commands input wanted time world)
+    unfolding routeReply
+    route-told = reply-told (routeNumber s l (length commands) input wanted time world) s l commands (routed input wanted time world s l) sized route-tells
 
-  pub confirm-told : (input time : ℕ) → Told s (confirmReply s l commands input time)
-  unfolding confirmReply confirmNumber
-  confirm-told input time =
-      reply-told (confirmNumber s l (length commands) input time) s l commands (confirmed input time s l) sized
-      (λ e. tells-confirmed input (call-low s l (length commands) input time _ e) time s l sized)
+    pub route-timed : Timed s time (routeReply s l commands input wanted time world)
+    unfolding routeReply
+    route-timed = reply-timed (routeNumber s l (length commands) input wanted time world) s l commands (routed input wanted time world s l) sized route-tells
 
-  pub tick-told : (looks : List Look) (lags : List ℕ) (time : ℕ) → Told s (tickReply s l commands looks lags time)
-  unfolding tickReply tickNumber
-  tick-told looks lags time =
-      reply-told (tickNumber s l (length commands) looks lags time) s l commands (ticked looks lags time s l) sized
-      (λ e. tells-ticked looks lags time s l sized (settings-told s l (Words (length commands)) _ e .0 .allowed .most))
+  module _ (input : ℕ) (kind : ExtraDelay) (time : ℕ) where
+    update-tells : updateNumber s l (length commands) input kind time ≡ 0 → TellsEffect time s (updated input kind time s l)
+    unfolding updateNumber
+    update-tells e = tells-updated input (call-low s l (length commands) input time _ e) time kind s l sized
 
--- ---- `new`: "0 before any"
+    pub update-told : Told s (updateReply s l commands input kind time)
+    unfolding updateReply
+    update-told = reply-told (updateNumber s l (length commands) input kind time) s l commands (updated input kind time s l) sized update-tells
+
+    pub update-timed : Timed s time (updateReply s l commands input kind time)
+    unfolding updateReply
+    update-timed = reply-timed (updateNumber s l (length commands) input kind time) s l commands (updated input kind time s l) sized update-tells
+
+  module _ (input time : ℕ) where
+    confirm-tells : confirmNumber s l (length commands) input time ≡ 0 → TellsEffect time s (confirmed input time s l)
+    unfolding confirmNumber
+    confirm-tells e = tells-confirmed input (call-low s l (length commands) input time _ e) time s l sized
+
+    pub confirm-told : Told s (confirmReply s l commands input time)
+    unfolding confirmReply
+    confirm-told = reply-told (confirmNumber s l (length commands) input time) s l commands (confirmed input time s l) sized confirm-tells
+
+    pub confirm-timed : Timed s time (confirmReply s l commands input time)
+    unfolding confirmReply
+    confirm-timed = reply-timed (confirmNumber s l (length commands) input time) s l commands (confirmed input time s l) sized confirm-tells
+
+  module _ (looks : List Look) (lags : List ℕ) (time : ℕ) where
+    tick-tells : tickNumber s l (length commands) looks lags time ≡ 0 → TellsEffect time s (ticked looks lags time s l)
+    unfolding tickNumber
+    tick-tells e = tells-ticked looks lags time s l sized (settings-told s l (Words (length commands)) _ e .0 .allowed .most)
+
+    pub tick-told : Told s (tickReply s l commands looks lags time)
+    unfolding tickReply
+    tick-told = reply-told (tickNumber s l (length commands) looks lags time) s l commands (ticked looks lags time s l) sized tick-tells
+
+    pub tick-timed : Timed s time (tickReply s l commands looks lags time)
+    unfolding tickReply
+    tick-timed = reply-timed (tickNumber s l (length commands) looks lags time) s l commands (ticked looks lags time s l) sized tick-tells
+
+-- ---- `new`: "0 before any", and none ever went
 module _ (settings : Settings) (kinds : List ExtraDelay) (bytes delays : List ℕ) (time : ℕ) (l : Lists) (commands : List ℕ) where
   abbrev fresh : Reply
   fresh = newReply settings kinds bytes delays time l commands
@@ -111,7 +146,7 @@ module _ (settings : Settings) (kinds : List ExtraDelay) (bytes delays : List �
   unfolding newReply
   new-number = reply-number number noInputs l commands (started settings kinds bytes delays time l)
 
-  new-tells : number ≡ 0 → TellsEffect (blankFor settings) (started settings kinds bytes delays time l)
+  new-tells : number ≡ 0 → TellsEffect time (blankFor settings) (started settings kinds bytes delays time l)
   new-tells e = tells-started settings kinds bytes delays time l (accepted-of settings l (length commands) bytes delays time e .0 .allowed .most)
 
   module _ (passed : fresh .number ≡ 0) where
@@ -119,14 +154,20 @@ module _ (settings : Settings) (kinds : List ExtraDelay) (bytes delays : List �
     unfolding newReply
     new-sized = subst (λ (r : Reply). Sized (r .inputs)) (sym (accepted-new number _ _ (sym new-number ∙ passed))) (new-tells (sym new-number ∙ passed) .sized)
 
-    pub new-delays : (j : ℕ) → j < 16 → slotAt (fresh .inputs) j .delay ≡ lastDelay j 0 (fresh .commands)
+    new-notes : (j : ℕ) → j < 16 → notesOf (slotAt (fresh .inputs) j) ≡ notesAfter j time nothing (fresh .commands)
     unfolding newReply
-    new-delays j low =
-        subst (λ (r : Reply). slotAt (r .inputs) j .delay ≡ lastDelay j 0 (r .commands)) (sym (accepted-new number _ _ (sym new-number ∙ passed)))
-        (padded-delays number noInputs l commands (started settings kinds bytes delays time l) (new-tells (sym new-number ∙ passed)) j low
-        ∙ ap (λ (d : ℕ). lastDelay j d (padded (length commands) (started settings kinds bytes delays time l .words))) (blank-delay settings j low))
+    new-notes j low =
+        subst (λ (r : Reply). notesOf (slotAt (r .inputs) j) ≡ notesAfter j time nothing (r .commands)) (sym (accepted-new number _ _ (sym new-number ∙ passed)))
+        (padded-notes number noInputs l commands (started settings kinds bytes delays time l) (new-tells (sym new-number ∙ passed)) j low
+        ∙ ap (λ (n : Notes). notesAfter j time n (padded (length commands) (started settings kinds bytes delays time l .words))) (blank-notes settings j low))
 
--- ---- the claim
+    pub new-delays : (j : ℕ) → j < 16 → slotAt (fresh .inputs) j .delay ≡ lastDelay j 0 (fresh .commands)
+    new-delays j low = ap (λ (n : Notes). n .delay) (new-notes j low)
+
+    pub new-timed : TimedFresh time fresh
+    new-timed = record { set = λ j low. ap (λ (n : Notes). n .set) (new-notes j low); input = λ j low. ap (λ (n : Notes). n .input) (new-notes j low) }
+
+-- ---- the claims
 pub sent-delays : SentDelays
 sent-delays = record {
   new = λ settings kinds bytes delays time l commands passed. record {
@@ -138,3 +179,6 @@ sent-delays = record {
   confirm = confirm-told;
   tick = tick-told;
 }
+
+pub sent-times : SentTimes
+sent-times = record { new = new-timed; route = route-timed; update = update-timed; confirm = confirm-timed; tick = tick-timed }

@@ -1,5 +1,6 @@
 -- Laws of what the commands tell.
 pub mod Words
+pub mod Notes
 pub mod Steps
 pub mod Ticks
 pub mod OneInput

@@ -1,4 +1,4 @@
--- `tick` tells the delays, whether confirmation is on or off. Assumes nothing.
+-- `tick` tells the delays and the times, whether confirmation is on or off. Assumes nothing.
 use Prim.Native.Nat.{ℕ, zero, suc, _≤_, _<_}
 use mathlib.Core.Path.{_≡_, refl, ap}
 use mathlib.Core.List.{List, []}
@@ -27,53 +27,54 @@ use Rattle.rules_tick.specs.AutoDelay.{nextFor, changing, answered, decidedFor,
 use Rattle.rules_tick.specs.declared.Look.{Look}
 use Rattle.rules_tick.specs.Looks.{lookAt, lagsOf}
 use Rattle.rules_tick.specs.Tick.{heard, looked, tickedInput, tickedBelow, tickedAll, saved, lastly, ticked}
+use Rattle.sent_delays.proofs.Notes.{notesOf}
 use Rattle.sent_delays.proofs.Steps.{Tells, TellsDone, TellsEffect, tells-then, tells-followed, tells-changed, tells-same, tells-none, tells-quiet, tells-put, tells-set, tells-open, tells-watch}
 
 -- ---- one input
 module _ (i : ℕ) (input : i < 16) where
-  pub tells-arrived : (time : ℕ) (lags : List ℕ) (s : Inputs) (l : Lists) → Sized s → TellsEffect s (arrived i time lags s l)
+  pub tells-arrived : (time : ℕ) (lags : List ℕ) (s : Inputs) (l : Lists) → Sized s → TellsEffect time s (arrived i time lags s l)
   unfolding arrived
-  tells-arrived time lags s l h = tells-put i input s h _ refl
+  tells-arrived time lags s l h = tells-put i input s h time _ refl
 
-  pub tells-late : (applied : ℕ) (largest : Lag) (s : Inputs) → Sized s → Tells s (lateEvent i applied largest s) []
+  pub tells-late : (time applied : ℕ) (largest : Lag) (s : Inputs) → Sized s → Tells time s (lateEvent i applied largest s) []
   unfolding lateEvent
-  tells-late applied largest s h = tells-put i input s h _ refl
+  tells-late time applied largest s h = tells-put i input s h time _ refl
 
-  pub tells-heard : (look : Look) (lags : List ℕ) (time : ℕ) (s : Inputs) (l : Lists) → Sized s → TellsEffect s (heard i look lags time s l)
+  pub tells-heard : (look : Look) (lags : List ℕ) (time : ℕ) (s : Inputs) (l : Lists) → Sized s → TellsEffect time s (heard i look lags time s l)
   unfolding heard
   tells-heard look lags time s l h =
       let f = tells-arrived time lags s l h in
-      tells-followed s (arrived i time lags s l) _ f (tells-late (look .applied) (largestOf lags) _ (f .sized))
+      tells-followed s (arrived i time lags s l) _ f (tells-late time (look .applied) (largestOf lags) _ (f .sized))
 
-  pub tells-looked : (look : Look) (time : ℕ) (s : Inputs) → Sized s → TellsDone s (looked i look time s)
+  pub tells-looked : (look : Look) (time : ℕ) (s : Inputs) → Sized s → TellsDone time s (looked i look time s)
   unfolding looked
   tells-looked look time s h =
-      pick-all (TellsDone s) (isWaiting (slotAt s i .state))
+      pick-all (TellsDone time s) (isWaiting (slotAt s i .state))
       (tells-open i input s h time (look .world))
-      (pick-all (TellsDone s) (isOpen (slotAt s i .state)) (tells-watch i input s h time (look .seen) (look .world)) (tells-quiet h))
+      (pick-all (TellsDone time s) (isOpen (slotAt s i .state)) (tells-watch i input s h time (look .seen) (look .world)) (tells-quiet h))
 
   -- "an answer becomes the proposal (confirmation on) or delay changes + 1 and `set_delay`"
-  pub tells-answered : (change : Change) (time : ℕ) (slot : Slot) (s : Inputs) → Sized s → slot .delay ≡ slotAt s i .delay → TellsDone s (answered change i time slot s)
+  pub tells-answered : (change : Change) (time : ℕ) (slot : Slot) (s : Inputs) → Sized s → notesOf slot ≡ notesOf (slotAt s i) → TellsDone time s (answered change i time slot s)
   unfolding answered quiet
-  tells-answered Keep time slot s h same = tells-put i input s h slot same
+  tells-answered Keep time slot s h same = tells-put i input s h time slot same
   tells-answered (To delay) time slot s h same =
-      let f : Tells s (changing i slot s) [] = tells-put i input s h _ same in
-      pick-all (TellsDone s) (s .confirm)
-      (tells-put i input s h _ same)
-      (tells-then f (tells-set i input (changing i slot s) (f .sized) delay time))
+      let f : Tells time s (changing i slot s) [] = tells-put i input s h time _ same in
+      pick-all (TellsDone time s) (s .confirm)
+      (tells-put i input s h time _ same)
+      (tells-then f (tells-set i input (changing i slot s) (f .sized) time delay))
 
-  pub tells-decided : (d : Decided) (time : ℕ) (s : Inputs) (l : Lists) → Sized s → TellsEffect s (decidedFor d i time s l)
+  pub tells-decided : (d : Decided) (time : ℕ) (s : Inputs) (l : Lists) → Sized s → TellsEffect time s (decidedFor d i time s l)
   unfolding decidedFor
   tells-decided d time s l h = tells-answered (d .change) time (withHold (slotAt s i) (d .held .hold)) s h refl
 
-  pub tells-auto : (largest : Lag) (time : ℕ) (s : Inputs) (l : Lists) → Sized s → TellsEffect s (autoDelayed i largest time s l)
+  pub tells-auto : (largest : Lag) (time : ℕ) (s : Inputs) (l : Lists) → Sized s → TellsEffect time s (autoDelayed i largest time s l)
   unfolding autoDelayed
   tells-auto largest time s l h =
-      pick-all (TellsEffect s) (isStalled (slotAt s i .state))
-      (tells-put i input s h _ refl)
-      (pick-all (TellsEffect s) (goesOn (slotAt s i)) (tells-decided (nextFor i largest time s l) time s l h) (tells-none h))
+      pick-all (TellsEffect time s) (isStalled (slotAt s i .state))
+      (tells-put i input s h time _ refl)
+      (pick-all (TellsEffect time s) (goesOn (slotAt s i)) (tells-decided (nextFor i largest time s l) time s l h) (tells-none h))
 
-  pub tells-input : (look : Look) (lags : List ℕ) (time : ℕ) (s : Inputs) (l : Lists) → Sized s → TellsEffect s (tickedInput i look lags time s l)
+  pub tells-input : (look : Look) (lags : List ℕ) (time : ℕ) (s : Inputs) (l : Lists) → Sized s → TellsEffect time s (tickedInput i look lags time s l)
   unfolding tickedInput
   tells-input look lags time s l h =
       let f = tells-heard look lags time s l h in
@@ -82,7 +83,7 @@ module _ (i : ℕ) (input : i < 16) where
 
 -- ---- all inputs
 -- "inputs in order"
-pub tells-below : (n : ℕ) → n ≤ 16 → (looks : List Look) (lags : List ℕ) (time : ℕ) (s : Inputs) (l : Lists) → Sized s → TellsEffect s (tickedBelow n looks lags time s l)
+pub tells-below : (n : ℕ) → n ≤ 16 → (looks : List Look) (lags : List ℕ) (time : ℕ) (s : Inputs) (l : Lists) → Sized s → TellsEffect time s (tickedBelow n looks lags time s l)
 unfolding tickedBelow
 tells-below zero most looks lags time s l h = tells-none h
 tells-below (suc n) most looks lags time s l h =
@@ -90,18 +91,18 @@ tells-below (suc n) most looks lags time s l h =
     tells-followed s (tickedBelow n looks lags time s l) _ f (tells-input n (omega arith) (lookAt looks n) (lagsOf looks lags n) time _ _ (f .sized))
 
 -- pruning and saving change no slot
-pub tells-pruned : (s : Inputs) (extra : Extra) → Sized s → Tells s (pruned s extra) []
+pub tells-pruned : {time : ℕ} (s : Inputs) (extra : Extra) → Sized s → Tells time s (pruned s extra) []
 unfolding slotAt
 tells-pruned s extra h = tells-same (pruned-sized s extra h) (λ j. ap (λ (z : Inputs). slotAt z j) (pruned-rest s extra))
 
-pub tells-saved : (s : Inputs) → Sized s → Tells s (saved s) []
+pub tells-saved : {time : ℕ} (s : Inputs) → Sized s → Tells time s (saved s) []
 unfolding slotAt
 tells-saved s h = tells-same (record { slots = h .slots; flows = h .flows; instances = h .instances }) (λ j. refl)
 
-pub tells-lastly : (s : Inputs) → Sized s → Tells s (lastly s) []
+pub tells-lastly : {time : ℕ} (s : Inputs) → Sized s → Tells time s (lastly s) []
 tells-lastly s h = let f = tells-pruned s Nothing h in tells-then f (tells-saved (pruned s Nothing) (f .sized))
 
-pub tells-ticked : (looks : List Look) (lags : List ℕ) (time : ℕ) (s : Inputs) (l : Lists) → Sized s → s .count ≤ 16 → TellsEffect s (ticked looks lags time s l)
+pub tells-ticked : (looks : List Look) (lags : List ℕ) (time : ℕ) (s : Inputs) (l : Lists) → Sized s → s .count ≤ 16 → TellsEffect time s (ticked looks lags time s l)
 unfolding ticked tickedAll
 tells-ticked looks lags time s l h most =
     let f = tells-below (s .count) most looks lags time s l h in

@@ -1,5 +1,6 @@
 // What a line crafts: the rows of a window, one of its sums, the peaks of a hold, a part of an input's record. It is no call and is never refused.
 // Its words were read before (crate text_read): here they are stored. Of more rows or peaks than there are places only their number is kept.
+ghost use mathlib.Core.Path.{_≡_};
 use base::least_usize;
 use base::place_u32;
 use base::product_usize;

@@ -1,4 +1,4 @@
--- "the file's bytes as lower-case hex, two digits a byte, `-` for none" (compare/README.md, `dread1`). Assumes nothing.
+-- "the bytes of a delay file, two lower-case hex digits each, or `-` for none" (compare/README.md, `dread1`). Assumes nothing.
 use Prim.Native.Nat.{ℕ, _+_, _*_}
 use mathlib.Core.List.{List, [], _∷_}
 use lib.Dec.{leb, eqb}

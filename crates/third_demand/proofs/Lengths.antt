@@ -138,7 +138,7 @@ module _ (i : ℕ) (low : i < 16) (time : ℕ) (world : World) where
 
   pub routed-few : (wanted : Wanted) (s : Inputs) (l : Lists) → Sized s → Few 12 (routed i wanted time world s l .words)
   unfolding routed
-  routed-few wanted s l sized = routed-to-few (routeFor (enrolledFor s wanted) wanted) (enrolledFor s wanted) l (tells-wanted s wanted sized .sized)
+  routed-few wanted s l sized = routed-to-few (routeFor (enrolledFor s wanted) wanted) (enrolledFor s wanted) l (tells-wanted {time = time} s wanted sized .sized)
 
 -- ---- `new`
 started-one-few : (i : ℕ) (kind : ExtraDelay) (time : ℕ) (s : Inputs) → Few 3 (startedOne i kind time s .words)

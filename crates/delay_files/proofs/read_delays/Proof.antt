@@ -14,7 +14,7 @@ same-length-2 : tie.Need-same-length-2
 same-length-2 c = search needs
 
 returns : tie.Need-returns
-returns c = c .before .before .before .before .read .ensures .0
+returns c = c .before .before .before .before .read .ensures
 
 pub read-delays-spec : {M : Type 1} → statement M
 read-delays-spec = tie.close (tie.spec read-requires same-length same-length-2 returns)

@@ -59,7 +59,14 @@ never-yet-requires c κs = search needs
 
 returns-8 : tie.Need-returns-8
 unfolding unusedParts
-returns-8 c = both-yes _ _ _ (told-yes _ _ (c .before .before .before .before .before .before .before .before .before .before .before .before .before .before .automatic .ensures) (c .before .before .before .before .before .before .before .before .before .before .before .before .before .if1 .left)) (both-yes _ _ _ (eq-eqb _ _ (sym (c .before .before .before .before .before .before .before .before .before .before .before .before .code .ensures) ∙ c .before .before .before .before .before .before .before .before .before .before .before .if2 .left)) (both-yes _ _ _ (told-yes _ _ (c .before .before .before .before .before .before .before .before .before .before .no-route .ensures) (c .before .before .before .before .before .before .before .before .before .if3 .left)) (both-yes _ _ _ (told-yes _ _ (c .before .before .before .before .before .before .before .before .no-inode .ensures) (c .before .before .before .before .before .before .before .if4 .left)) (both-yes _ _ _ (told-yes _ _ (c .before .before .before .before .before .before .no-proposal .ensures) (c .before .before .before .before .before .if5 .left)) (both-yes _ _ _ (told-yes _ _ (c .before .before .before .unused-hold .ensures) (c .before .before .if6 .left)) (both-yes _ _ _ (ap not (c .before .if7 .left)) (c .never-yet .ensures)))))))
+returns-8 c = both-yes _ _ _ (told-yes _ _ (c .before .before .before .before .before .before .before .before .before .before .before .before .before .before .before .automatic .ensures) (c .before .before .before .before .before .before .before .before .before .before .before .before .before .before .if1 .left)) (both-yes _ _ _ (eq-eqb _ _ (sym (c .before .before .before .before .before .before .before .before .before .before .before .before .before .code .ensures) ∙ c .before .before .before .before .before .before .before .before .before .before .before .before .if2 .left)) (both-yes _ _ _ (told-yes _ _ (c .before .before .before .before .before .before .before .before .before .before .before .no-route .ensures) (c .before .before .before .before .before .before .before .before .before .before .if3 .left)) (both-yes _ _ _ (told-yes _ _ (c .before .before .before .before .before .before .before .before .before .no-inode .ensures) (c .before .before .before .before .before .before .before .before .if4 .left)) (both-yes _ _ _ (told-yes _ _ (c .before .before .before .before .before .before .before .no-proposal .ensures) (c .before .before .before .before .before .before .if5 .left)) (both-yes _ _ _ (told-yes _ _ (c .before .before .before .before .unused-hold .ensures) (c .before .before .before .if6 .left)) (both-yes _ _ _ (ap not (c .before .before .if7 .left)) (both-no _ _ (told-no _ _ (c .before .never-yet .ensures) (c .if8 .taken)))))))))
+
+never-yet-requires-2 : tie.Need-never-yet-requires-2
+never-yet-requires-2 c κs = search needs
+
+returns-9 : tie.Need-returns-9
+unfolding unusedParts
+returns-9 c = both-yes _ _ _ (told-yes _ _ (c .before .before .before .before .before .before .before .before .before .before .before .before .before .before .before .before .automatic .ensures) (c .before .before .before .before .before .before .before .before .before .before .before .before .before .before .before .if1 .left)) (both-yes _ _ _ (eq-eqb _ _ (sym (c .before .before .before .before .before .before .before .before .before .before .before .before .before .before .code .ensures) ∙ c .before .before .before .before .before .before .before .before .before .before .before .before .before .if2 .left)) (both-yes _ _ _ (told-yes _ _ (c .before .before .before .before .before .before .before .before .before .before .before .before .no-route .ensures) (c .before .before .before .before .before .before .before .before .before .before .before .if3 .left)) (both-yes _ _ _ (told-yes _ _ (c .before .before .before .before .before .before .before .before .before .before .no-inode .ensures) (c .before .before .before .before .before .before .before .before .before .if4 .left)) (both-yes _ _ _ (told-yes _ _ (c .before .before .before .before .before .before .before .before .no-proposal .ensures) (c .before .before .before .before .before .before .before .if5 .left)) (both-yes _ _ _ (told-yes _ _ (c .before .before .before .before .before .unused-hold .ensures) (c .before .before .before .before .if6 .left)) (both-yes _ _ _ (ap not (c .before .before .before .if7 .left)) (both-yes _ _ _ (told-yes _ _ (c .before .before .never-yet .ensures) (c .before .if8 .left)) (c .never-yet2 .ensures))))))))
 
 pub unused-parts-spec : {M : Type 1} → statement M
 unused-parts-spec =
@@ -79,4 +86,6 @@ unused-parts-spec =
     returns-6
     returns-7
     never-yet-requires
-    returns-8)
+    returns-8
+    never-yet-requires-2
+    returns-9)

@@ -45,7 +45,14 @@ moment-fits-requires c κs = search needs
 
 returns-8 : tie.Need-returns-8
 unfolding wholeSlot
-returns-8 c = both-yes _ _ _ (le-leb _ _ (c .before .before .before .before .before .before .before .before .before .before .before .before .before .if1 .left)) (both-yes _ _ _ (told-yes _ _ (c .before .before .before .before .before .before .before .before .before .before .before .before .proposal-fits .ensures) (c .before .before .before .before .before .before .before .before .before .before .before .if2 .left)) (both-yes _ _ _ (told-yes _ _ (c .before .before .before .before .before .before .before .before .before .before .route-fits .ensures) (c .before .before .before .before .before .before .before .before .before .if3 .left)) (both-yes _ _ _ (lt-ltb _ _ (c .before .before .before .before .before .before .before .if4 .left)) (both-yes _ _ _ (lt-ltb _ _ (c .before .before .before .before .before .if5 .left)) (both-yes _ _ _ (lt-ltb _ _ (c .before .before .before .if6 .left)) (both-yes _ _ _ (le-leb _ _ (c .before .if7 .left)) (c .moment-fits .ensures)))))))
+returns-8 c = both-yes _ _ _ (le-leb _ _ (c .before .before .before .before .before .before .before .before .before .before .before .before .before .before .if1 .left)) (both-yes _ _ _ (told-yes _ _ (c .before .before .before .before .before .before .before .before .before .before .before .before .before .proposal-fits .ensures) (c .before .before .before .before .before .before .before .before .before .before .before .before .if2 .left)) (both-yes _ _ _ (told-yes _ _ (c .before .before .before .before .before .before .before .before .before .before .before .route-fits .ensures) (c .before .before .before .before .before .before .before .before .before .before .if3 .left)) (both-yes _ _ _ (lt-ltb _ _ (c .before .before .before .before .before .before .before .before .if4 .left)) (both-yes _ _ _ (lt-ltb _ _ (c .before .before .before .before .before .before .if5 .left)) (both-yes _ _ _ (lt-ltb _ _ (c .before .before .before .before .if6 .left)) (both-yes _ _ _ (le-leb _ _ (c .before .before .if7 .left)) (both-no _ _ (told-no _ _ (c .before .moment-fits .ensures) (c .if8 .taken)))))))))
+
+moment-fits-requires-2 : tie.Need-moment-fits-requires-2
+moment-fits-requires-2 c κs = search needs
+
+returns-9 : tie.Need-returns-9
+unfolding wholeSlot
+returns-9 c = both-yes _ _ _ (le-leb _ _ (c .before .before .before .before .before .before .before .before .before .before .before .before .before .before .before .if1 .left)) (both-yes _ _ _ (told-yes _ _ (c .before .before .before .before .before .before .before .before .before .before .before .before .before .before .proposal-fits .ensures) (c .before .before .before .before .before .before .before .before .before .before .before .before .before .if2 .left)) (both-yes _ _ _ (told-yes _ _ (c .before .before .before .before .before .before .before .before .before .before .before .before .route-fits .ensures) (c .before .before .before .before .before .before .before .before .before .before .before .if3 .left)) (both-yes _ _ _ (lt-ltb _ _ (c .before .before .before .before .before .before .before .before .before .if4 .left)) (both-yes _ _ _ (lt-ltb _ _ (c .before .before .before .before .before .before .before .if5 .left)) (both-yes _ _ _ (lt-ltb _ _ (c .before .before .before .before .before .if6 .left)) (both-yes _ _ _ (le-leb _ _ (c .before .before .before .if7 .left)) (both-yes _ _ _ (told-yes _ _ (c .before .before .moment-fits .ensures) (c .before .if8 .left)) (c .moment-fits2 .ensures))))))))
 
 pub whole-slot-spec : {M : Type 1} → statement M
 whole-slot-spec =
@@ -61,4 +68,6 @@ whole-slot-spec =
     returns-6
     returns-7
     moment-fits-requires
-    returns-8)
+    returns-8
+    moment-fits-requires-2
+    returns-9)

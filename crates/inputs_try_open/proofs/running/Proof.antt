@@ -10,6 +10,9 @@ use Rattle.inputs_slots.proofs.with_head.Reads as with-head-reads
 use Rattle.inputs_slots.proofs.with_inode.Reads as with-inode-reads
 use Rattle.inputs_slots.proofs.with_state.Reads as with-state-reads
 
+with-last-input-requires : tie.Need-with-last-input-requires
+with-last-input-requires c κs = search needs
+
 with-inode-requires : tie.Need-with-inode-requires
 with-inode-requires c κs = search needs
 
@@ -20,7 +23,7 @@ with-head-requires : tie.Need-with-head-requires
 with-head-requires c κs = search needs
 
 returns : tie.Need-returns
-returns c = running-stalled _ _ _ _ (c .before .before .code .ensures) (c .before .before .before .with-inode .ensures) (c .before .if1 .taken) (c .with-head .ensures)
+returns c = running-stalled _ _ _ _ (c .before .before .code .ensures) (c .before .before .before .before .with-last-input .ensures) (c .before .before .before .with-inode .ensures) (c .before .if1 .taken) (c .with-head .ensures)
 
 with-state-requires : tie.Need-with-state-requires
 with-state-requires c κs = search needs
@@ -29,12 +32,13 @@ with-head-requires-2 : tie.Need-with-head-requires-2
 with-head-requires-2 c κs = search needs
 
 returns-2 : tie.Need-returns-2
-returns-2 c = running-now _ _ _ _ (c .before .before .before .code .ensures) (c .before .before .before .before .with-inode .ensures) (c .before .before .if1 .left) (c .before .with-state .ensures) (c .with-head2 .ensures)
+returns-2 c = running-now _ _ _ _ (c .before .before .before .code .ensures) (c .before .before .before .before .before .with-last-input .ensures) (c .before .before .before .before .with-inode .ensures) (c .before .before .if1 .left) (c .before .with-state .ensures) (c .with-head2 .ensures)
 
 pub running-spec : {M : Type 1} → statement M
 running-spec =
     tie.close
     (tie.spec
+    with-last-input-requires
     with-inode-requires
     code-requires
     with-head-requires

@@ -10,7 +10,7 @@ use lib.Ieee.{Float, binary64, ofBits, sub, lt, eq, fits}
 use Rattle.doubles.specs.Doubles.{double}
 use Rattle.doubles.proofs.Values.{is, isnt}
 use Rattle.doubles.proofs.Halves.{halves-none}
-use Rattle.doubles.proofs.Bracket.{AboveZero, in-range, below, cut, below-lt, distanceBelow, half, above-nearest, tie-above, below-nearest}
+use Rattle.doubles.proofs.Bracket.{AboveZero, cut-asks, below, cut, below-lt, distanceBelow, half, above-nearest, tie-above, below-nearest}
 use Rattle.doubles.proofs.core.round_half_away.Statement.{statement}
 use Rattle.doubles.proofs.core.round_half_away.Tie as tie
 
@@ -28,7 +28,7 @@ distance-is : (c : tie.After-nearest-u64-to-f64) → sub binary64 (c .before .be
 distance-is c = ap (λ (y : Float). sub binary64 (c .before .before .before .args .x) y) (c .nearest-u64-to-f64 .ensures ∙ ap (λ (n : ℕ). double n) (below-is (c .before)))
 
 truncating-f64-to-u64-requires : tie.Need-truncating-f64-to-u64-requires
-truncating-f64-to-u64-requires c κs = in-range (c .before .args .x) (above-zero c)
+truncating-f64-to-u64-requires c κs = cut-asks (c .before .args .x) (above-zero c)
 
 add-above : tie.Need-add-above
 add-above c = omega (arith, below-is c, below-lt (c .before .before .args .x) (above-zero (c .before)))
