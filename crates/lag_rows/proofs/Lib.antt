@@ -2,3 +2,4 @@
 pub mod Divisions
 pub mod Tallies
 pub mod Taken
+pub mod BlockSums

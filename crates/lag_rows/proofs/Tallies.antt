@@ -8,6 +8,8 @@ use native.Mathlib.Nat.{le-antisymm, eq-or-lt-of-le}
 use native.Mathlib.Numerals.{add-one}
 use native.Mathlib.Omega.{arith}
 use borrow.Author.Tests.{eq-eqb, ne-eqb, le-leb, lt-leb, not-true, not-false}
+use mir.Syntax.{w64}
+use mir.Val.{Fits}
 use lib.Bits.{bitOr, bitXor}
 use lib.Dec.{leb, eqb}
 use lib.ListN.{length, getD, set, replicate}
@@ -18,6 +20,7 @@ use Rattle.base.specs.Lists.{all, sumFrom, rowSum, sum}
 use Rattle.base.proofs.All.{all-none, all-more, all-stop, all-end, from-none, from-more, or-zero, le-or, le-or-second, both-no, both-yes}
 use Rattle.base.proofs.Choices.{by-le}
 use Rattle.base.proofs.Differ.{xor-same}
+use Rattle.base.proofs.Flat.{flat-lt}
 use Rattle.base.proofs.Listed.{listed-length, listed-at, listed-is}
 use Rattle.base.proofs.Points.{zeros-at}
 use Rattle.base.proofs.Tests.{all-cong, all-split}
@@ -28,11 +31,36 @@ use Rattle.rules_window.specs.Quantile.{column}
 use Rattle.rules_window.specs.ColumnSums.{rightSums}
 use Rattle.rules_window.proofs.Reaching.{column-none, column-more}
 use Rattle.rules_window.proofs.Sums.{sum-bound}
-use Rattle.lag_rows.specs.Tallies.{rowsTo, Covered, Columns, alike, alikeTo, totalsAre}
+use Rattle.lag_rows.specs.Tallies.{rowPlaces, rowsTo, Covered, Columns, alike, alikeTo, totalsAre}
 
 -- ---- a sum modulo 2^32 and one number more
 wraps : (s v r x : ℕ) → s ≡ x % 4294967296 → r ≡ (s + v) % 4294967296 → r ≡ (x + v) % 4294967296
 wraps s v r x e h = omega arith
+
+-- ---- where the rows begin
+module _ (B : ℕ) where
+  places-long : length (rowPlaces B) ≡ 11
+  unfolding rowPlaces
+  places-long = listed-length _ 11
+
+  module _ (r : ℕ) (xs s : List ℕ) (long : length s ≡ 11) (e : xs ≡ toward (rowPlaces B) s r) where
+    pub places-next : r < 11 → set xs r (r * B) ≡ toward (rowPlaces B) s (r + 1)
+    unfolding rowPlaces
+    places-next l = rw e (toward-more (rowPlaces B) s (places-long ∙ sym long) r (r * B) (rw long l) (listed-at _ 11 r l))
+
+    pub places-end : 11 ≤ r → xs ≡ rowPlaces B
+    places-end l = e ∙ toward-all (rowPlaces B) s (places-long ∙ sym long) r (rw long l)
+
+  module _ (r b : ℕ) (xs : List ℕ) (e : xs ≡ rowPlaces B) (l : r < 11) (h : b < B) where
+    pub place-is : getD xs r 0 + b ≡ r * B + b
+    unfolding rowPlaces
+    place-is = ap (λ (y : ℕ). y + b) (ap (λ (y : List ℕ). getD y r 0) e ∙ listed-at _ 11 r l)
+
+    pub place-in : getD xs r 0 + b < 11 * B
+    place-in = rw place-is (flat-lt r 11 B b l h)
+
+    pub place-fits : B ≤ bucketsLimit → Fits w64 (getD xs r 0 + b)
+    place-fits k = omega (arith, place-in)
 
 -- ---- one column: each count goes to its row and to the column
 module _ (B b : ℕ) (cs : List ℕ) where

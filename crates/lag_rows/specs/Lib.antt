@@ -1,2 +1,3 @@
--- What the code keeps while it sums all rows and columns at once: no rule.
+-- What the code keeps while it sums: no rule.
 pub mod Tallies
+pub mod Blocks

@@ -8,6 +8,10 @@ use lib.ListN.{getD}
 use Rattle.base.specs.Lists.{all, listed, sumFrom}
 use Rattle.rules_window.specs.Quantile.{column}
 
+-- where each of the eleven rows begins
+unfoldable pub rowPlaces : (buckets : ℕ) → List ℕ
+rowPlaces buckets = listed (λ r. r * buckets) 11
+
 -- the sums of the eleven rows over the first b buckets, each modulo 2^32
 unfoldable pub rowsTo : (buckets b : ℕ) (counts : List ℕ) → List ℕ
 rowsTo buckets b counts = listed (λ r. sumFrom (r * buckets) b counts % 4294967296) 11

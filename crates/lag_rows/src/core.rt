@@ -1,31 +1,29 @@
-// These functions ask something of their caller; the crates above use them after their checks.
+// Whether totals and sums are right (check 6), and the sums when seconds go. These functions ask something of their caller; the crates above use them after their checks.
 ghost use mathlib.Core.Path.{_≡_};
 ghost use mathlib.Core.List.{[]};
-ghost use Prim.Native.Nat.{ℕ, _+_, _-_, _*_, _/_, _%_, _≤_, _<_, min};
+ghost use Prim.Native.Nat.{ℕ, _+_, _*_, _%_, _≤_, _<_};
 ghost use lib.Dec.{eqb};
 ghost use lib.ListN.{length, getD};
 ghost use Rattle.base.specs.Choice.{both};
-ghost use Rattle.base.specs.Limits.{widthLimit, bucketsLimit};
+ghost use Rattle.base.specs.Limits.{bucketsLimit};
 ghost use Rattle.base.specs.Lists.{sumFrom};
 ghost use Rattle.rules_window.specs.Window.{windowed};
 ghost use Rattle.rules_window.specs.WholeWindow.{summed};
 ghost use Rattle.rules_window.specs.InPlace.{lessRow, lessRows};
-ghost use Rattle.rules_window.specs.Quantile.{column, running, reach, quantileUpto, Placeable};
-ghost use Rattle.rules_window.specs.ColumnSums.{rightSums, asOneSecond};
-ghost use Rattle.lag_rows.specs.Tallies.{rowsTo, Covered, Columns, alike, totalsAre};
+ghost use Rattle.rules_window.specs.Quantile.{column};
+ghost use Rattle.rules_window.specs.ColumnSums.{rightSums};
+ghost use Rattle.lag_rows.specs.Tallies.{rowPlaces, rowsTo, Covered, Columns, alike, totalsAre};
 use base::blank_u32;
 use base::blank_u64;
 use base::least_usize;
-use rules_window::Found;
-use rules_window::Quantile;
 
 // The seconds that a window has room for, and the most lags that one of them counts.
-const SECONDS: usize = 11;
+pub const SECONDS: usize = 11;
 
-const MOST: u64 = 4_294_967_295;
+pub const MOST: u64 = 4_294_967_295;
 
 // How many columns are summed before they are compared.
-const BLOCK: usize = 256;
+const BLOCK: usize = 512;
 
 fn wide(x: u32) -> u64
     ensures { λ r. ⌜ (r ≡ x) × (r ≤ 4294967295) ⌝ }
@@ -96,6 +94,27 @@ fn long_columns(buckets: usize, counts: &[u32], sums: &[u64]) -> bool
 }
 
 // ---- all rows and columns at once, in 32 bits
+// Where each of the 11 rows begins. A caller makes this list and lends it to `right`: a loop over the buckets then reads every row by a pointer of its own and computes no address.
+pub fn row_places(buckets: usize, places: &mut [usize])
+    requires { ⌜ (buckets ≤ bucketsLimit) × (length (now places) ≡ 11) ⌝ }
+    ensures { λ _. ⌜ now (places .exit) ≡ rowPlaces buckets ⌝ }
+{
+    let mut r = 0;
+    while r < SECONDS {
+        places[r] = r * buckets;
+        r += 1;
+    }
+}
+
+// Where bucket b of row r stands.
+fn place(places: &[usize], buckets: usize, r: usize, b: usize) -> usize
+    requires { ⌜ (r < 11) × (b < buckets) × (buckets ≤ bucketsLimit) × (length (now places) ≡ 11) ⌝ }
+    requires { ⌜ now places ≡ rowPlaces buckets ⌝ }
+    ensures { λ p. ⌜ (p ≡ r * buckets + b) × (p < 11 * buckets) ⌝ }
+{
+    places[r] + b
+}
+
 // The sum of a column modulo 2^32, and the bits of all counts passed, joined: no count is larger.
 struct Column {
     sum: u32,
@@ -103,8 +122,16 @@ struct Column {
 }
 
 // Bucket b of the 11 rows: each count is added to its row's sum and to the column's.
-fn add_column(rows: &mut [u32], bits: u32, buckets: usize, b: usize, counts: &[u32]) -> Column
-    requires { ⌜ (b < buckets) × (length (now counts) ≡ 11 * buckets) × (length (now rows) ≡ 11) ⌝ }
+fn add_column(
+    rows: &mut [u32],
+    bits: u32,
+    places: &[usize],
+    buckets: usize,
+    b: usize,
+    counts: &[u32],
+) -> Column
+    requires { ⌜ (b < buckets) × (buckets ≤ bucketsLimit) × (length (now counts) ≡ 11 * buckets) × (length (now rows) ≡ 11) ⌝ }
+    requires { ⌜ (length (now places) ≡ 11) × (now places ≡ rowPlaces buckets) ⌝ }
     requires { ⌜ now rows ≡ rowsTo buckets b (now counts) ⌝ }
     requires { ⌜ Covered buckets b bits (now counts) ⌝ }
     ensures { λ _. ⌜ now (rows .exit) ≡ rowsTo buckets (b + 1) (now (counts .entry)) ⌝ }
@@ -115,7 +142,8 @@ fn add_column(rows: &mut [u32], bits: u32, buckets: usize, b: usize, counts: &[u
     let mut joined = bits;
     let mut r = 0;
     while r < SECONDS {
-        let x = counts[r * buckets + b];
+        let at = place(places, buckets, r, b);
+        let x = counts[at];
         rows[r] = std::num::wrapping_add_u32(rows[r], x);
         sum = std::num::wrapping_add_u32(sum, x);
         joined = joined | x;
@@ -129,12 +157,14 @@ fn add_columns(
     rows: &mut [u32],
     columns: &mut [u32],
     bits: u32,
+    places: &[usize],
     buckets: usize,
     from: usize,
     k: usize,
     counts: &[u32],
 ) -> u32
-    requires { ⌜ (from + k ≤ buckets) × (length (now counts) ≡ 11 * buckets) × (length (now rows) ≡ 11) × (k ≤ length (now columns)) ⌝ }
+    requires { ⌜ (from + k ≤ buckets) × (buckets ≤ bucketsLimit) × (length (now counts) ≡ 11 * buckets) × (length (now rows) ≡ 11) × (k ≤ length (now columns)) ⌝ }
+    requires { ⌜ (length (now places) ≡ 11) × (now places ≡ rowPlaces buckets) ⌝ }
     requires { ⌜ now rows ≡ rowsTo buckets from (now counts) ⌝ }
     requires { ⌜ Covered buckets from bits (now counts) ⌝ }
     ensures { λ _. ⌜ now (rows .exit) ≡ rowsTo buckets (from + k) (now (counts .entry)) ⌝ }
@@ -144,7 +174,7 @@ fn add_columns(
     let mut joined = bits;
     let mut i = 0;
     while i < k {
-        let column = add_column(rows, joined, buckets, from + i, counts);
+        let column = add_column(rows, joined, places, buckets, from + i, counts);
         columns[i] = column.sum;
         joined = column.bits;
         i += 1;
@@ -183,18 +213,25 @@ fn totals_are(rows: &[u32], totals: &[u64]) -> bool
 
 // Row sums equal to totals, and column sums to the sums: one pass reads each count once, and the 11 of a bucket side by side.
 // 11 counts below 2^20 have a sum below 2^24, and 4,096 one below 2^32, so that sums of 32 bits have not wrapped; else those of 64 bits are taken.
-fn sums_right(buckets: usize, totals: &[u64], counts: &[u32], sums: &[u64]) -> bool
+fn sums_right(
+    buckets: usize,
+    places: &[usize],
+    totals: &[u64],
+    counts: &[u32],
+    sums: &[u64],
+) -> bool
     requires { ⌜ (buckets ≤ bucketsLimit) × (length (now totals) ≡ 11) × (length (now counts) ≡ 11 * buckets) × (length (now sums) ≡ buckets) ⌝ }
+    requires { ⌜ (length (now places) ≡ 11) × (now places ≡ rowPlaces buckets) ⌝ }
     ensures { λ r. ⌜ r ≡ both (summed 11 buckets (now (totals .entry)) (now (counts .entry))) (rightSums (windowed 11 buckets 0 [] [] (now (counts .entry))) (now (sums .entry))) ⌝ }
 {
-    let mut rows = [0u32; 11];
-    let mut columns = [0u32; 256];
+    let mut rows = [0u32; SECONDS];
+    let mut columns = [0u32; BLOCK];
     let mut bits: u32 = 0;
     let mut wrong: u64 = 0;
     let mut b = 0;
     while b < buckets {
         let k = least_usize(BLOCK, buckets - b);
-        bits = add_columns(&mut rows, &mut columns, bits, buckets, b, k, counts);
+        bits = add_columns(&mut rows, &mut columns, bits, places, buckets, b, k, counts);
         wrong = differing(&columns, b, k, wrong, sums);
         b += k;
     }
@@ -211,8 +248,9 @@ fn sums_right(buckets: usize, totals: &[u64], counts: &[u32], sums: &[u64]) -> b
 }
 
 // Row sums equal to totals up to 4,294,967,295, and each sum that of its bucket, over all 11 rows. Where all totals are zero nothing is added.
-pub fn right(buckets: usize, totals: &[u64], counts: &[u32], sums: &[u64]) -> bool
+pub fn right(buckets: usize, places: &[usize], totals: &[u64], counts: &[u32], sums: &[u64]) -> bool
     requires { ⌜ (0 < buckets) × (buckets ≤ bucketsLimit) × (length (now totals) ≡ 11) × (length (now counts) ≡ 11 * buckets) × (length (now sums) ≡ buckets) ⌝ }
+    requires { ⌜ (length (now places) ≡ 11) × (now places ≡ rowPlaces buckets) ⌝ }
     ensures { λ r. ⌜ r ≡ both (summed 11 buckets (now (totals .entry)) (now (counts .entry))) (rightSums (windowed 11 buckets 0 [] [] (now (counts .entry))) (now (sums .entry))) ⌝ }
 {
     if blank_u64(totals, 0) {
@@ -221,7 +259,7 @@ pub fn right(buckets: usize, totals: &[u64], counts: &[u32], sums: &[u64]) -> bo
         }
         return blank_u64(sums, 0);
     }
-    sums_right(buckets, totals, counts, sums)
+    sums_right(buckets, places, totals, counts, sums)
 }
 
 // ---- seconds go
@@ -250,114 +288,4 @@ pub fn take_rows(buckets: usize, k: usize, counts: &[u32], sums: &mut [u64])
         take_row(buckets, r, counts, sums);
         r += 1;
     }
-}
-
-// ---- the quantile of a row of sums
-// The sum of n numbers from a on.
-fn sum_from(s: &[u64], a: usize, n: usize) -> u64
-    requires { ⌜ (a + n ≤ length (now s)) × (sumFrom a n (now s) ≤ 47244640245) ⌝ }
-    ensures { λ r. ⌜ r ≡ sumFrom a n (now (s .entry)) ⌝ }
-{
-    let mut total: u64 = 0;
-    let mut b = 0;
-    while b < n {
-        total += s[a + b];
-        b += 1;
-    }
-    total
-}
-
-// b times the width.
-fn edge(b: usize, width: u32) -> u32
-    requires { ⌜ (b ≤ bucketsLimit) × (width ≤ widthLimit) ⌝ }
-    ensures { λ r. ⌜ r ≡ b * width ⌝ }
-{
-    (b as u32) * width
-}
-
-// How many buckets start at most at limit.
-fn shown(buckets: usize, width: u32, limit: u32) -> usize
-    requires { ⌜ 1 ≤ width ⌝ }
-    ensures { λ r. ⌜ r ≡ min buckets (limit / width + 1) ⌝ }
-{
-    let m = (limit / width) as usize + 1;
-    if m < buckets { m } else { buckets }
-}
-
-// The lags in buckets that start at most at limit.
-fn total_upto(buckets: usize, width: u32, limit: u32, sums: &[u64]) -> u64
-    requires { ⌜ (1 ≤ width) × (length (now sums) ≡ buckets) ⌝ }
-    requires { ⌜ running limit width buckets 1 (now sums) buckets ≤ 47244640245 ⌝ }
-    ensures { λ r. ⌜ r ≡ running limit width buckets 1 (now (sums .entry)) buckets ⌝ }
-{
-    let m = shown(buckets, width, limit);
-    sum_from(sums, 0, m)
-}
-
-// The first bucket, of those from `from` on, where the running count reaches target; `before` is the running count up to there.
-fn reached_from(
-    buckets: usize,
-    width: u32,
-    limit: u32,
-    target: u64,
-    from: usize,
-    before: u64,
-    sums: &[u64],
-) -> Found
-    requires { ⌜ (1 ≤ width) × (length (now sums) ≡ buckets) ⌝ }
-    requires { ⌜ running limit width buckets 1 (now sums) buckets ≤ 47244640245 ⌝ }
-    requires { ⌜ (from ≤ min buckets (limit / width + 1)) × (1 ≤ from → before < target) ⌝ }
-    requires { ⌜ before ≡ running limit width buckets 1 (now sums) from ⌝ }
-    ensures { λ r. ⌜ r ≡ reach target limit width buckets 1 (now (sums .entry)) (buckets - from) from ⌝ }
-{
-    let m = shown(buckets, width, limit);
-    let mut seen: u64 = before;
-    let mut b = from;
-    while b < m {
-        seen += sums[b];
-        if target <= seen {
-            return Found::At(b);
-        }
-        b += 1;
-    }
-    Found::Nowhere
-}
-
-// The first bucket where the running count reaches target: blocks of 64 buckets are summed along memory,
-// and only the block that reaches it is walked bucket by bucket.
-fn reached(buckets: usize, width: u32, limit: u32, target: u64, sums: &[u64]) -> Found
-    requires { ⌜ (1 ≤ width) × (length (now sums) ≡ buckets) ⌝ }
-    requires { ⌜ running limit width buckets 1 (now sums) buckets ≤ 47244640245 ⌝ }
-    ensures { λ r. ⌜ r ≡ reach target limit width buckets 1 (now (sums .entry)) buckets 0 ⌝ }
-{
-    let m = shown(buckets, width, limit);
-    let mut seen: u64 = 0;
-    let mut b = 0;
-    while b + 64 <= m {
-        let more = sum_from(sums, b, 64);
-        if target <= seen + more {
-            return reached_from(buckets, width, limit, target, b, seen, sums);
-        }
-        seen += more;
-        b += 64;
-    }
-    reached_from(buckets, width, limit, target, b, seen, sums)
-}
-
-// The quantile q of the lags up to limit: one pass sums the row, a second one finds the bucket.
-pub fn quantile_upto(buckets: usize, width: u32, q: f64, limit: u32, sums: &[u64]) -> Quantile
-    requires { ⌜ (buckets ≤ bucketsLimit) × (1 ≤ width) × (width ≤ widthLimit) ⌝ }
-    requires { ⌜ length (now sums) ≡ buckets ⌝ }
-    requires { ⌜ Placeable q limit (asOneSecond buckets width (now sums)) ⌝ }
-    ensures { λ r. ⌜ r ≡ quantileUpto q limit (asOneSecond buckets width (now (sums .entry))) ⌝ }
-{
-    let total = total_upto(buckets, width, limit, sums);
-    if total == 0 {
-        return Quantile::None;
-    }
-    let target = doubles::core::quantile_place(total, q);
-    let Found::At(b) = reached(buckets, width, limit, target, sums) else {
-        return Quantile::None;
-    };
-    Quantile::End(edge(b + 1, width))
 }

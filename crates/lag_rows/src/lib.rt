@@ -1,3 +1,4 @@
-// The rows of counts of a lag window and their row of sums: whether totals and sums are right (check 6), the sums when seconds go, and the quantile that
-// the row of sums tells (document 01, "LagWindow"; document 02, §5). They know of no `LagWindow`: they take how many buckets a second has, and a bucket's width.
+// The rows of counts of a lag window and their row of sums (document 01, "LagWindow"; document 02, §5).
+// They know of no `LagWindow`: they take how many buckets a second has, and a bucket's width.
 pub mod core;
+pub mod quantile;

@@ -26,6 +26,7 @@ use base::shift_u64;
 use base::zero_u32;
 use base::zero_u64;
 use lag_rows::core::right;
+use lag_rows::core::row_places;
 use lag_rows::core::take_rows;
 
 // ---- a push
@@ -250,7 +251,9 @@ pub fn whole(
     if !blank_u64(totals, n) {
         return false;
     }
-    right(buckets, totals, counts, sums)
+    let mut places = [0usize; LagWindow::SECONDS];
+    row_places(buckets, &mut places);
+    right(buckets, &places, totals, counts, sums)
 }
 
 // ---- an emptied window

@@ -24,7 +24,7 @@ pub struct WindowAnswer {
 }
 
 impl LagWindow {
-    pub const SECONDS: usize = 11;
+    pub const SECONDS: usize = lag_rows::core::SECONDS;
 
     // A second goes once it is older than this: 10 s.
     pub const LAG_WINDOW: u64 = 10 * base::NANOS;
@@ -36,7 +36,7 @@ impl LagWindow {
     pub(crate) const LATEST: u64 = base::TIME_LIMIT;
 
     // The most lags that one second counts (check 11).
-    pub(crate) const MOST: u64 = 4_294_967_295;
+    pub(crate) const MOST: u64 = lag_rows::core::MOST;
 
     // The checks of `new`, 2, 17, 18 and 5: the number of the first that says no, or 0.
     fn new_number(
@@ -280,6 +280,6 @@ impl LagWindow {
         if number != 0 {
             return Quantile::Refused(number);
         }
-        lag_rows::core::quantile_upto(self.buckets, self.width, q, limit, sums)
+        lag_rows::quantile::quantile_upto(self.buckets, self.width, q, limit, sums)
     }
 }

@@ -2,13 +2,13 @@
 use Prim.Native.Nat.{ℕ, zero, suc, _+_, _*_, _-_, _<_, _≤_}
 use mathlib.Core.Path.{_≡_, refl, sym, ap, _∙_}
 use mathlib.Core.List.{List}
-use native.Mathlib.Nat.{not-suc-le-zero, suc-mul}
+use native.Mathlib.Nat.{add-assoc, not-suc-le-zero, suc-mul}
 use native.Mathlib.Omega.{arith}
 use lib.ListN.{getD}
 use Rattle.base.specs.Lists.{sum, sumFrom}
 use Rattle.base.proofs.All.{sum-more}
 use Rattle.base.proofs.Choices.{by-le}
-use Rattle.base.proofs.Points.{sum-zero}
+use Rattle.base.proofs.Points.{sum-cong, sum-zero}
 
 pub sum-add : (f g : ℕ → ℕ) (n : ℕ) → sum (λ i. f i + g i) n ≡ sum f n + sum g n
 unfolding sum
@@ -54,3 +54,7 @@ sum-bound f most (suc n) h = omega (arith, sum-bound f most n (λ i l. h i (omeg
 pub from-next : (a i n s : ℕ) (xs : List ℕ) → s ≡ sumFrom a i xs → i < n → s + getD xs (a + i) 0 ≤ sumFrom a n xs
 unfolding sumFrom
 from-next a i n s xs e h = omega (arith, sum-more (λ b. getD xs (a + b) 0) i s _ e refl, sum-rises (λ b. getD xs (a + b) 0) (i + 1) n (omega arith))
+
+pub from-split : (a m n : ℕ) (xs : List ℕ) → sumFrom a (m + n) xs ≡ sumFrom a m xs + sumFrom (a + m) n xs
+unfolding sumFrom
+from-split a m n xs = sum-split (λ i. getD xs (a + i) 0) m n ∙ ap (λ (x : ℕ). sum (λ i. getD xs (a + i) 0) m + x) (sum-cong _ _ n (λ i l. ap (λ (x : ℕ). getD xs x 0) (sym (add-assoc a m i))))

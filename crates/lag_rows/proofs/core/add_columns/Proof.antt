@@ -11,10 +11,10 @@ use Rattle.lag_rows.proofs.core.add_columns.Statement.{statement}
 use Rattle.lag_rows.proofs.core.add_columns.Tie as tie
 
 abbrev Inv-loop : tie.InvT-loop
-Inv-loop rows₀ columns₀ bits buckets from k counts joined₀ i₀ rows columns joined i = (i ≤ k) × (length rows ≡ 11) × (length columns ≡ length columns₀) × (rows ≡ rowsTo buckets (from + i) counts) × Covered buckets (from + i) joined counts × Columns buckets from i counts columns
+Inv-loop rows₀ columns₀ bits places buckets from k counts joined₀ i₀ rows columns joined i = (i ≤ k) × (length rows ≡ 11) × (length columns ≡ length columns₀) × (rows ≡ rowsTo buckets (from + i) counts) × Covered buckets (from + i) joined counts × Columns buckets from i counts columns
 
 abbrev μ-loop : tie.MeasureT-loop
-μ-loop rows₀ columns₀ bits buckets from k counts joined₀ i₀ rows columns joined i = k - i
+μ-loop rows₀ columns₀ bits places buckets from k counts joined₀ i₀ rows columns joined i = k - i
 
 pub add-columns-spec : {M : Type 1} → statement M
 add-columns-spec =
@@ -22,9 +22,9 @@ add-columns-spec =
     (tie.spec
     Inv-loop
     μ-loop
-    (λ c. (omega arith, omega arith, refl, rw add-zero (c .before .before .before .pre .1 .0), rw add-zero (c .before .before .before .pre .1 .1), search columns-none))  -- loop-holds
+    (λ c. (omega arith, omega arith, refl, rw add-zero (c .before .before .before .before .pre .1 .1 .0), rw add-zero (c .before .before .before .before .pre .1 .1 .1), search columns-none))  -- loop-holds
     (λ c. search needs)  -- add-add-column
-    (λ c κs. ((omega arith, omega arith, omega arith), (c .before .before .loop .inv .3, c .before .before .loop .inv .4)))  -- add-column-requires
+    (λ c κs. ((omega arith, omega arith, omega arith, omega arith), (c .before .before .before .before .before .before .before .pre .1 .0, (c .before .before .loop .inv .3, c .before .before .loop .inv .4))))  -- add-column-requires
     (λ c. search needs)  -- mul-columns
     (λ c. search needs)  -- slice-write-columns
     (λ c. search needs)  -- add-i

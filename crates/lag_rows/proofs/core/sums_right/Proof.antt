@@ -11,10 +11,10 @@ use Rattle.lag_rows.proofs.core.sums_right.Statement.{statement}
 use Rattle.lag_rows.proofs.core.sums_right.Tie as tie
 
 abbrev Inv-loop : tie.InvT-loop
-Inv-loop buckets totals counts sums rows₀ columns₀ bits₀ wrong₀ b₀ rows columns bits wrong b = (b ≤ buckets) × (length rows ≡ 11) × (length columns ≡ 256) × (rows ≡ rowsTo buckets b counts) × Covered buckets b bits counts × (eqb wrong 0 ≡ alikeTo buckets b counts sums)
+Inv-loop buckets places totals counts sums rows₀ columns₀ bits₀ wrong₀ b₀ rows columns bits wrong b = (b ≤ buckets) × (length rows ≡ 11) × (length columns ≡ 512) × (rows ≡ rowsTo buckets b counts) × Covered buckets b bits counts × (eqb wrong 0 ≡ alikeTo buckets b counts sums)
 
 abbrev μ-loop : tie.MeasureT-loop
-μ-loop buckets totals counts sums rows₀ columns₀ bits₀ wrong₀ b₀ rows columns bits wrong b = buckets - b
+μ-loop buckets places totals counts sums rows₀ columns₀ bits₀ wrong₀ b₀ rows columns bits wrong b = buckets - b
 
 pub sums-right-spec : {M : Type 1} → statement M
 sums-right-spec =
@@ -27,16 +27,16 @@ sums-right-spec =
     (λ c κs. search needs)  -- least-usize-requires
     (λ c. search needs)  -- slice-aggregate-add-columns
     (λ c. search needs)  -- slice-aggregate-add-columns-2
-    (λ c κs. (omega arith, (c .before .before .before .before .loop .inv .3, c .before .before .before .before .loop .inv .4)))  -- add-columns-requires
+    (λ c κs. (omega arith, (c .before .before .before .before .before .before .before .before .before .pre .1, (c .before .before .before .before .loop .inv .3, c .before .before .before .before .loop .inv .4))))  -- add-columns-requires
     (λ c. search needs)  -- slice-aggregate-differing
     (λ c κs. omega arith)  -- differing-requires
     (λ c. omega arith)  -- add-b
     (λ c. omega arith)  -- loop-less
     (λ c. (omega arith, omega arith, omega arith, c .before .before .before .before .add-columns .ensures .0, c .before .before .before .before .add-columns .ensures .1 .0, alike-to-more _ _ _ _ _ (c .before .before .before .before .before .before .before .before .before .loop .wrong) (c .differing .result) _ (c .before .before .before .before .before .before .before .before .before .loop .inv .5) (c .before .before .before .before .add-columns .ensures .1 .1) (c .differing .ensures)))  -- loop-again
-    (λ c. columns-fail _ _ _ _ _ _ _ (c .before .before .before .before .before .before .before .pre .0) (c .before .before .before .loop .inv .0) (c .before .before .loop-test .left) (c .before .if1 .taken) (c .before .before .before .loop .inv .4) (c .before .before .before .loop .inv .3) (c .before .before .before .loop .wrong) (c .before .before .before .loop .inv .5) (c .if2 .taken))  -- returns
+    (λ c. columns-fail _ _ _ _ _ _ _ (c .before .before .before .before .before .before .before .before .pre .0 .0) (c .before .before .before .loop .inv .0) (c .before .before .loop-test .left) (c .before .if1 .taken) (c .before .before .before .loop .inv .4) (c .before .before .before .loop .inv .3) (c .before .before .before .loop .wrong) (c .before .before .before .loop .inv .5) (c .if2 .taken))  -- returns
     (λ c. search needs)  -- slice-aggregate-totals-are
     (λ c κs. search needs)  -- totals-are-requires
-    (λ c. totals-tell _ _ _ _ _ _ _ (c .before .before .before .before .before .before .before .before .before .pre .0) (c .before .before .before .before .before .loop .inv .0) (c .before .before .before .before .loop-test .left) (c .before .before .before .if1 .taken) (c .before .before .before .before .before .loop .inv .4) (c .before .before .before .before .before .loop .inv .3) (c .before .before .before .before .before .loop .wrong) (c .before .before .before .before .before .loop .inv .5) (c .before .before .if2 .left) _ (c .totals-are .ensures))  -- returns-2
+    (λ c. totals-tell _ _ _ _ _ _ _ (c .before .before .before .before .before .before .before .before .before .before .pre .0 .0) (c .before .before .before .before .before .loop .inv .0) (c .before .before .before .before .loop-test .left) (c .before .before .before .if1 .taken) (c .before .before .before .before .before .loop .inv .4) (c .before .before .before .before .before .loop .inv .3) (c .before .before .before .before .before .loop .wrong) (c .before .before .before .before .before .loop .inv .5) (c .before .before .if2 .left) _ (c .totals-are .ensures))  -- returns-2
     (λ c κs. search needs)  -- long-rows-requires
     (λ c. long-fails _ _ _ (c .before .long-rows .ensures) (c .if3 .taken))  -- returns-3
     (λ c κs. search needs)  -- long-columns-requires
