@@ -28,8 +28,9 @@ use Rattle.rules_calls.specs.declared.Wanted.{Wanted}
 use Rattle.rules_calls.specs.RouteChecks.{routeNumber}
 use Rattle.rules_calls.specs.Route.{routed}
 use Rattle.rules_calls.specs.RouteReply.{routeReply}
+use Rattle.rules_calls.specs.declared.DelaySetting.{DelaySetting}
 use Rattle.rules_calls.specs.UpdateChecks.{updateNumber, confirmNumber}
-use Rattle.rules_calls.specs.Update.{updated}
+use Rattle.rules_calls.specs.Update.{kindOf, updated}
 use Rattle.rules_calls.specs.ConfirmDelay.{confirmed}
 use Rattle.rules_calls.specs.UpdateReply.{updateReply, confirmReply}
 use Rattle.rules_tick.specs.declared.Look.{Look}
@@ -81,11 +82,11 @@ module _ (s : Inputs) (sized : Sized s) (l : Lists) (commands : List ℕ) where
       reply-told (routeNumber s l (length commands) input wanted time world) s l commands (routed input wanted time world s l) sized
       (λ e. tells-routed input (call-low s l (length commands) input time _ e) time wanted world s l sized)
 
-  pub update-told : (input : ℕ) (kind : ExtraDelay) (time : ℕ) → Told s (updateReply s l commands input kind time)
+  pub update-told : (input : ℕ) (setting : DelaySetting) (time : ℕ) → Told s (updateReply s l commands input setting time)
   unfolding updateReply updateNumber
-  update-told input kind time =
-      reply-told (updateNumber s l (length commands) input kind time) s l commands (updated input kind time s l) sized
-      (λ e. tells-updated input (call-low s l (length commands) input time _ e) time kind s l sized)
+  update-told input setting time =
+      reply-told (updateNumber s l (length commands) input setting time) s l commands (updated input (kindOf setting) time s l) sized
+      (λ e. tells-updated input (call-low s l (length commands) input time _ e) time (kindOf setting) s l sized)
 
   pub confirm-told : (input time : ℕ) → Told s (confirmReply s l commands input time)
   unfolding confirmReply confirmNumber
