@@ -15,7 +15,7 @@ import subprocess
 import sys
 
 sys.dont_write_bytecode = True
-from replay import alone, files, supervisor
+from replay import alone, desk, files, supervisor
 from replay.words import LINES, SECTIONS
 
 HERE = pathlib.Path(__file__).resolve().parent
@@ -28,6 +28,7 @@ def main():
     files.reading()
     supervisor.calls()
     files.writing()
+    desk.calls()
     if sys.argv[1:] == ["--print"]:
         print("\n".join(LINES))
         return
