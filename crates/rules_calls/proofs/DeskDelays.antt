@@ -11,7 +11,7 @@ use lib.ListN.{length}
 use Rattle.base.specs.Choice.{both, ask}
 use Rattle.base.specs.Limits.{samplesLimit}
 use Rattle.base.specs.Lists.{padded}
-use Rattle.base.proofs.Choices.{by-bool, yes-ask, no-ask, asked, accepted-new}
+use Rattle.base.proofs.Choices.{by-bool, by-zero, yes-ask, no-ask, asked, accepted-new}
 use Rattle.base.proofs.Points.{both-true}
 use Rattle.doubles.specs.Doubles.{msOf, samplesOf}
 use Rattle.doubles.proofs.Delays.{manual-fits}
@@ -24,7 +24,7 @@ use Rattle.rules_record.specs.Commands.{setDelay}
 use Rattle.rules_record.specs.Lent.{Lists}
 use Rattle.rules_record.specs.Checks.{timedNumber}
 use Rattle.rules_record.specs.Reply.{Reply, carriedOut, replied}
-use Rattle.rules_record.proofs.Numbers.{input-told, call-low}
+use Rattle.rules_record.proofs.Numbers.{input-told, refused-by, passed-by, call-low}
 use Rattle.rules_calls.specs.declared.DelaySetting.{DelaySetting}
 use Rattle.rules_calls.specs.declared.DelaySetting.the-variants.{Auto, Ms, Desk}
 use Rattle.rules_calls.specs.UpdateChecks.{manualFits, kindFits, deskReach, deskLimit, deskFits, manualNumber, updateNumber}
@@ -124,6 +124,40 @@ module _ (s : Inputs) (l : Lists) (commands : List ℕ) (input : ℕ) (delay : F
   unfolding updateNumber manualNumber
   same-number e = ap (timedNumber s l (length commands) input time) (told e .2 ∙ sym (yes-ask 12 (ask 21 true 0) (told e .0) ∙ yes-ask 21 0 refl))
 
+  -- 1 to 8 are asked first, of both
+  module _ (n : ℕ) (first : n ≡ timedNumber s l (length commands) input time 0) where
+    both-refused : (n ≡ 0 → ⊥) → updateNumber s l (length commands) input (Desk delay) time ≡ updateNumber s l (length commands) input (Ms delay) time
+    unfolding updateNumber
+    both-refused some = sym (refused-by s l (length commands) input time first some _) ∙ refused-by s l (length commands) input time first some _
+
+    number-is : n ≡ 0 → (setting : DelaySetting) → updateNumber s l (length commands) input setting time ≡ manualNumber setting (s .policy .«delay_max»)
+    unfolding updateNumber
+    number-is none setting = sym (passed-by s l (length commands) input time first none (manualNumber setting (s .policy .«delay_max»)) refl)
+
+  alike : (updateNumber s l (length commands) input (Ms delay) time ≡ 0 → ⊥) → updateNumber s l (length commands) input (Desk delay) time ≡ updateNumber s l (length commands) input (Ms delay) time
+  unfolding manualNumber
+  alike refused =
+      by-zero (timedNumber s l (length commands) input time 0)
+      (λ none.
+      by-bool (manualFits delay (s .policy .«delay_max»))
+      (λ fits. absurd (refused (number-is _ refl none (Ms delay) ∙ yes-ask 12 _ fits ∙ yes-ask 21 0 refl)))
+      (λ beyond. number-is _ refl none (Desk delay) ∙ no-ask 12 _ beyond ∙ sym (number-is _ refl none (Ms delay) ∙ no-ask 12 _ beyond)))
+      (λ some. both-refused _ refl some)
+
+  -- what number 0 says of the scoring program's delay
+  scoring-told : updateNumber s l (length commands) input (Ms delay) time ≡ 0 → (timedNumber s l (length commands) input time 0 ≡ 0) × (manualFits delay (s .policy .«delay_max») ≡ true)
+  unfolding updateNumber manualNumber
+  scoring-told e =
+      let rest = input-told s l (length commands) input time _ e .3 in
+      (subst (λ (n : ℕ). timedNumber s l (length commands) input time n ≡ 0) rest e, asked 11 _ _ rest .0)
+
+  beyond : updateNumber s l (length commands) input (Ms delay) time ≡ 0 → deskFits (Desk delay) (s .policy .«delay_max») ≡ false → updateNumber s l (length commands) input (Desk delay) time ≡ 21
+  beyond e above = number-is _ refl (scoring-told e .0) (Desk delay) ∙ then-twenty-one (Desk delay) _ (scoring-told e .1) above
+
+  up-to : updateNumber s l (length commands) input (Ms delay) time ≡ 0 → deskFits (Desk delay) (s .policy .«delay_max») ≡ true → updateNumber s l (length commands) input (Desk delay) time ≡ 0
+  unfolding manualNumber
+  up-to e fits = number-is _ refl (scoring-told e .0) (Desk delay) ∙ yes-ask 12 _ (scoring-told e .1) ∙ yes-ask 21 0 fits
+
   as-scoring-leaves : updateNumber s l (length commands) input (Desk delay) time ≡ 0 → updateReply s l commands input (Desk delay) time ≡ updateReply s l commands input (Ms delay) time
   unfolding updateReply
   as-scoring-leaves e = ap (λ (n : ℕ). replied n s l commands (updated input (kindOf (Ms delay)) time s l)) (same-number e)
@@ -144,4 +178,4 @@ module _ (s : Inputs) (l : Lists) (commands : List ℕ) (input : ℕ) (delay : F
       )
 
   pub desk-delays : DeskDelays s l commands input delay time
-  desk-delays = record { within-limit = within; as-scoring = as-scoring-leaves; scoring-legal = legal; scoring-uncut = uncut }
+  desk-delays = record { within-limit = within; refused-alike = alike; beyond-limit = beyond; up-to-limit = up-to; as-scoring = as-scoring-leaves; scoring-legal = legal; scoring-uncut = uncut }
