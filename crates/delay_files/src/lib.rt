@@ -35,5 +35,17 @@ pub fn write_delays(
     ensures { λ r. ⌜ leftWritten r (now (file .exit)) ≡ writeReply 1 7 0 inputs (lists (now (starts .entry)) (now (totals .entry)) (now (counts .entry)) (now (sums .entry)) (now (times .entry)) (now (peaks .entry))) (now (file .entry)) ⌝ }
     ensures { λ _. ⌜ TableWidths (inputs .flows) ⌝ }
 {
-    writing::write(1, 7, 0, inputs, starts, totals, counts, sums, times, peaks, file)
+    writing::write(
+        1,
+        7,
+        0,
+        inputs,
+        starts,
+        totals,
+        counts,
+        sums,
+        times,
+        peaks,
+        file,
+    )
 }

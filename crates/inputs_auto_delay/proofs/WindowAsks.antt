@@ -70,6 +70,6 @@ module _ (s : Inputs) (slot : Slot) (i : ℕ) (starts sums : List ℕ) (asked : 
         (
           asked .window .sums-in,
           row-placeable own limit q (asked .window .sums)
-          (subst (λ (x : Float). Placeable x limit own) (sym is-q) (sound-placeable (thousandths 999) limit _ sound (thousandths-in 999 (omega arith)))),
+              (subst (λ (x : Float). Placeable x limit own) (sym is-q) (sound-placeable (thousandths 999) limit _ sound (thousandths-in 999 (omega arith)))),
         ),
       )

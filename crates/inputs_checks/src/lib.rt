@@ -57,7 +57,16 @@ fn first_refused(
         return 4;
     }
     let buckets = buckets::core::buckets_of(policy.read_offset, policy.delay_max, inputs.width);
-    if !core::lists_fit(inputs.count, buckets, starts, totals, counts, sums, times, peaks) {
+    if !core::lists_fit(
+        inputs.count,
+        buckets,
+        starts,
+        totals,
+        counts,
+        sums,
+        times,
+        peaks,
+    ) {
         return 5;
     }
     if !core::output_fits(inputs.count, output) {

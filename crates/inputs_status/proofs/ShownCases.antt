@@ -38,11 +38,10 @@ use Rattle.inputs_status.specs.StatusAsked.{Countable}
 pub quantile-asks : {w : LagWindow} {i : ℕ} {sums : List ℕ} → Countable w i sums → {q : Float} (k : ℕ) → q ≡ thousandths k → k ≤ 1000 →
     ((w .buckets ≤ bucketsLimit) × (1 ≤ w .width) × (w .width ≤ widthLimit))
     × ((i * w .buckets + w .buckets ≤ length sums) × Placeable q 4294967295 (asOneSecond (w .buckets) (w .width) (part (i * w .buckets) (w .buckets) sums)))
-quantile-asks {w} {i} {sums} c k is-q h =
-    (
-      (c .buckets-most, c .width-least, c .width-most),
-      (c .sums-in, subst (λ (x : Float). Placeable x 4294967295 (asOneSecond (w .buckets) (w .width) (part (i * w .buckets) (w .buckets) sums))) (sym is-q) (c .placeable (thousandths k) (thousandths-in k h))),
-    )
+quantile-asks {w} {i} {sums} c k is-q h = (
+  (c .buckets-most, c .width-least, c .width-most),
+  (c .sums-in, subst (λ (x : Float). Placeable x 4294967295 (asOneSecond (w .buckets) (w .width) (part (i * w .buckets) (w .buckets) sums))) (sym is-q) (c .placeable (thousandths k) (thousandths-in k h))),
+)
 
 -- ---- what the inner functions ask
 -- the end of a part `a..a + k` comes back as `a + k - a`

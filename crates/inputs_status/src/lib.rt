@@ -276,7 +276,17 @@ pub fn settled(
 ) -> Answer
     ensures { λ r. ⌜ r ≡ settledReply inputs (lists (now (starts .entry)) (now (totals .entry)) (now (counts .entry)) (now (sums .entry)) (now (times .entry)) (now (peaks .entry))) input time ⌝ }
 {
-    let number = settled_number(inputs, input, time, starts, totals, counts, sums, times, peaks);
+    let number = settled_number(
+        inputs,
+        input,
+        time,
+        starts,
+        totals,
+        counts,
+        sums,
+        times,
+        peaks,
+    );
     if number != 0 {
         return Answer {
             number,

@@ -110,7 +110,16 @@ pub fn tick_input(
     requires { ⌜ used + 9 ≤ length (now commands) ⌝ }
     ensures { λ r. ⌜ Effected 9 (tickedInput i look (now (lags .entry)) time inputs (lists (now (starts .entry)) (now (totals .entry)) (now (counts .entry)) (now (sums .entry)) (now (times .entry)) (now (peaks .entry)))) r (lists (now (starts .exit)) (now (totals .exit)) (now (counts .exit)) (now (sums .exit)) (now (times .exit)) (now (peaks .exit))) (now (commands .entry)) (now (commands .exit)) used ⌝ }
 {
-    let arrived = inputs_auto_delay::core::arrive(inputs, i, lags, time, starts, totals, counts, sums);
+    let arrived = inputs_auto_delay::core::arrive(
+        inputs,
+        i,
+        lags,
+        time,
+        starts,
+        totals,
+        counts,
+        sums,
+    );
     let max_lag = inputs_auto_delay::core::max_lag(lags);
     let policy = inputs.policy;
     let heard = inputs_auto_delay::core::late_event(policy, arrived, look.applied, max_lag);
