@@ -15,7 +15,7 @@ import subprocess
 import sys
 
 sys.dont_write_bytecode = True
-from replay import alone, files, settled, supervisor
+from replay import alone, files, settled, sums, supervisor
 from replay.words import LINES, SECTIONS
 
 HERE = pathlib.Path(__file__).resolve().parent
@@ -26,9 +26,11 @@ CRATE = HERE.parent / "crates" / "supervise"
 def main():
     alone.calls()
     files.reading()
+    sums.alone()
     supervisor.calls()
     files.writing()
     settled.calls()
+    sums.supervised()
     if sys.argv[1:] == ["--print"]:
         print("\n".join(LINES))
         return

@@ -8,6 +8,7 @@ use std::collections::BTreeMap;
 use std::fmt::Write;
 
 mod files;
+mod sums;
 
 pub struct Calls {
     pub r: Random,
@@ -694,7 +695,8 @@ impl Calls {
         let line = self.r.pick(&[
             "", "tick", "tock 1", "route", "new 0", "confirm 1", "confirm 1 x", "settled -1 0", "has 0 1", "update 0 0 B",
             "status 0 0", "ms", "ms 4294967296", "ms 1 2", "samples xyz", "index_at 18446744073709551616", "dump 1",
-            "wpush 1", "co_set", "q_set 1", "put 0 nothing", "  dump", "confirm  1 0",
+            "wpush 1", "co_set", "q_set 1", "put 0 nothing", "  dump", "confirm  1 0", "put 0 sum 0", "put 0 sum 4096 0",
+            "put 0 sum 0 18446744073709551616", "wsum 0", "wsum 4096 0", "wsum 0 -1",
         ]);
         self.call(line.into());
     }
@@ -704,7 +706,7 @@ impl Calls {
     /// Put a part that is whole, at the limits of what is whole.
     fn craft(&mut self, now: u64, i: u64) {
         let Settings { max, .. } = self.checked.settings;
-        let line = match self.r.below(5) {
+        let line = match self.r.below(6) {
             0 | 1 => {
                 let rows = self.whole_rows(now);
                 format!("put {i} window{rows}")
@@ -720,6 +722,7 @@ impl Calls {
                 let (a, b, c) = (c(), c(), c());
                 format!("put {i} counters {a} {b} {c}")
             }
+            4 => self.put_right_sum(i),
             _ => {
                 let any = self.r.upto(max);
                 let delay = self.r.pick(&[0, max, any, 47.min(max), 48.min(max)]);
@@ -811,6 +814,10 @@ impl Calls {
     /// (all refused), and a whole part in its place.
     fn unwhole(&mut self, now: u64, i: u64, manner: &mut Manner) {
         let s = self.checked.settings;
+        if self.r.chance(20) {
+            self.put_wrong_sums(now, i, manner);
+            return;
+        }
         let (line, mended) = match self.r.below(4) {
             0 => {
                 let buckets = self.window_buckets();
@@ -836,6 +843,13 @@ impl Calls {
             }
         };
         self.call(line);
+        self.while_broken(now, i, manner);
+        // A refused `new` keeps the broken record; an accepted one would have made another.
+        self.call(mended);
+    }
+
+    /// Some calls, while input i is not whole.
+    fn while_broken(&mut self, now: u64, i: u64, manner: &mut Manner) {
         for _ in 0..self.r.pick(&[1, 2, 6]) {
             match self.r.below(9) {
                 0 => self.route(now, i, manner, true),
@@ -858,8 +872,6 @@ impl Calls {
                 }
             }
         }
-        // A refused `new` keeps the broken record; an accepted one would have made another.
-        self.call(mended);
     }
 
     fn broken_rows(&mut self, now: u64, buckets: u64) -> String {
@@ -945,6 +957,10 @@ impl Calls {
                 }
                 2 => format!("{short}wclear"),
                 3 => format!("{short}wspan"),
+                4 if self.r.chance(40) => {
+                    self.lone_sums(now, [offset, max, w]);
+                    continue;
+                }
                 4..=9 => {
                     let q = self.quantile();
                     let limit = self.r.pick(&[0, offset + max, bucket, bucket.saturating_sub(1), any, u32::MAX]);

@@ -215,6 +215,24 @@ fn whole_window(seconds: &[Second]) -> bool {
         && span <= 10 * SECOND
         && seconds.iter().all(|s| s.sum == s.total && s.total <= COUNT_MOST && s.start <= LATEST)
 }
+/// Document 02, 5: a sum as it is crafted, and its bucket, which exists.
+fn crafted_sum(w: &mut Words, buckets: u64) -> Read<(usize, u64)> {
+    let (bucket, sum) = (w.u32()?, w.u64()?);
+    w.end()?;
+    if u64::from(bucket) < buckets {
+        Ok((bucket as usize, sum))
+    } else {
+        Err(BadLine)
+    }
+}
+/// 6, of a window's sums: "requires each sum to be right".
+fn note(wrong: &mut BTreeSet<usize>, bucket: usize, right: bool) {
+    if right {
+        wrong.remove(&bucket);
+    } else {
+        wrong.insert(bucket);
+    }
+}
 /// 6, of a hold.
 fn whole_hold(h: &HoldFields, offset: u32, max: u32, w: u32, window: u64) -> bool {
     let spaced = h.peaks.windows(2).all(|p| p[1].0 >= p[0].0.saturating_add(SECOND));
@@ -239,6 +257,10 @@ pub struct Checked {
     pub flows: BTreeSet<u128>,
     /// Inputs with a crafted window, whose row sums are asked.
     crafted: [bool; 16],
+    /// Of each input, and of the window alone, the buckets whose sum was crafted wrong. The Rust keeps no sums, and
+    /// the port's are right but for these: while one stands no call can change the window.
+    pub wrong_sums: [BTreeSet<usize>; 16],
+    pub wrong_lone: BTreeSet<usize>,
     /// W and the buckets of the window alone.
     window: (u32, u64),
     pub no: Option<No>,
@@ -251,6 +273,8 @@ impl Checked {
             settings: Settings::default(),
             flows: BTreeSet::new(),
             crafted: [false; 16],
+            wrong_sums: Default::default(),
+            wrong_lone: BTreeSet::new(),
             window: (4, 1202),
             no: None,
         }
@@ -345,6 +369,11 @@ impl Checked {
         let (inputs, _, _) = self.driver.sup.as_ref().expect("made");
         probe::view(inputs, input as usize)
     }
+    /// An input's right sums.
+    pub fn columns(&self, input: usize) -> Vec<u64> {
+        let (inputs, _, _) = self.driver.sup.as_ref().expect("made");
+        probe::columns_of(inputs, input)
+    }
     fn exists(&self, input: u64) -> Read<()> {
         ask(7, input < self.settings.n as u64)
     }
@@ -358,6 +387,7 @@ impl Checked {
         for i in 0..s.n {
             let v = probe::view(inputs, i);
             ask(6, !self.crafted[i] || whole_window(&probe::seconds_of(inputs, i)))?;
+            ask(6, self.wrong_sums[i].is_empty())?;
             ask(6, whole_hold(&v.hold, s.offset, s.max, s.w, s.window))?;
             ask(6, v.delay <= s.max && v.proposed.is_none_or(|p| p <= s.max))?;
             ask(6, v.counters.iter().all(|c| *c < 1 << 63))?;
@@ -392,6 +422,7 @@ impl Checked {
         self.settings = Settings { n, offset, max, w: bucket, hold, window, stall, confirm };
         self.flows = flows;
         self.crafted = [false; 16];
+        self.wrong_sums = Default::default();
         Ok(())
     }
 
@@ -472,6 +503,7 @@ impl Checked {
             "window" => {
                 rows(w)?;
                 self.crafted[input] = true;
+                self.wrong_sums[input].clear();
                 Ok(())
             }
             "hold" => hold_fields(w),
@@ -485,6 +517,12 @@ impl Checked {
                 w.u32()?;
                 maybe(w.word()?, small)?;
                 w.end()
+            }
+            "sum" => {
+                let (bucket, sum) = crafted_sum(w, self.settings.buckets())?;
+                let right = sum == self.columns(input)[bucket];
+                note(&mut self.wrong_sums[input], bucket, right);
+                Ok(())
             }
             _ => Err(BadLine),
         }
@@ -525,9 +563,20 @@ impl Checked {
                 ranges(offset, max, bucket)?;
                 ask(5, !short)?;
                 self.window = (bucket, buckets(offset, max, bucket));
+                self.wrong_lone.clear();
                 Ok(())
             }
-            "wset" => rows(w),
+            "wset" => {
+                rows(w)?;
+                self.wrong_lone.clear();
+                Ok(())
+            }
+            "wsum" => {
+                let (bucket, sum) = crafted_sum(w, self.window.1)?;
+                let right = sum == self.driver.window.columns()[bucket];
+                note(&mut self.wrong_lone, bucket, right);
+                Ok(())
+            }
             "wpush" => {
                 let (_lag, now) = (w.u32()?, w.u64()?);
                 w.end()?;
@@ -619,6 +668,7 @@ impl Checked {
         ask(5, !short)?;
         let seconds = self.driver.window.seconds();
         ask(6, whole_window(&seconds))?;
+        ask(6, self.wrong_lone.is_empty())?;
         Ok(seconds)
     }
 

@@ -118,6 +118,9 @@ impl Window {
     pub fn seconds(&self) -> Vec<Second> {
         seconds(&self.0)
     }
+    pub fn columns(&self) -> Vec<u64> {
+        columns(&self.0)
+    }
 }
 
 /// A second's start, its total and the sum of its counts.
@@ -134,6 +137,12 @@ fn seconds(l: &LagWindow) -> Vec<Second> {
         sum: row.iter().map(|&c| u64::from(c)).sum(),
     };
     l.seconds.iter().map(second).collect()
+}
+
+/// Of each bucket the lags that it has in all seconds.
+fn columns(l: &LagWindow) -> Vec<u64> {
+    let column = |b| l.seconds.iter().map(|(_, row, _)| u64::from(row[b])).sum();
+    (0..l.buckets).map(column).collect()
 }
 
 /// What an input's record holds, as plain numbers.
@@ -169,6 +178,10 @@ pub fn view(inputs: &Inputs, i: usize) -> View {
 }
 pub fn seconds_of(inputs: &Inputs, i: usize) -> Vec<Second> {
     seconds(&inputs.slots[i].lag)
+}
+
+pub fn columns_of(inputs: &Inputs, i: usize) -> Vec<u64> {
+    columns(&inputs.slots[i].lag)
 }
 
 /// The remembered delays, by their flows' bytes.

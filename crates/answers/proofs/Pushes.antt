@@ -7,11 +7,16 @@ use lib.ListN.{length}
 use Rattle.base.specs.Limits.{timeLimit}
 use Rattle.rules_window.specs.Window.{Window, pushed, pushedAll}
 use Rattle.rules_window.specs.WholeWindow.{Sound}
-use Rattle.rules_window.specs.Checks.{newest}
+use Rattle.rules_window.specs.ColumnSums.{columnSums}
+use Rattle.rules_window.specs.Checks.{Reply, newest}
 use Rattle.rules_window.proofs.Ticks.{newest-pushed, push-keeps-sound, push-accepted}
 use Rattle.answers.specs.Fifteen.{after}
 
-pub after-pushed : (lags : List ℕ) (w : Window) → Sound w → newest 5 w + length lags ≤ 4294967295 → after lags w ≡ pushedAll 5 lags w
+-- what a call leaves that was accepted: the window with its sums
+abbrev pub leftOf : (w : Window) → Reply
+leftOf w = record { number = 0; window = w; sums = columnSums w }
+
+pub after-pushed : (lags : List ℕ) (w : Window) → Sound w → newest 5 w + length lags ≤ 4294967295 → after lags (leftOf w) ≡ leftOf (pushedAll 5 lags w)
 unfolding after pushedAll
 after-pushed [] w s room = refl
 after-pushed (lag ∷ lags) w s room =

@@ -12,8 +12,8 @@ use Rattle.doubles.specs.Doubles.{msOf, samplesOf}
 use Rattle.policy.specs.declared.DelayPolicy.{DelayPolicy}
 use Rattle.policy.specs.declared.Need.the-variants as Need
 use Rattle.policy.specs.Need.{needReply}
+use Rattle.rules_window.specs.declared.Quantile.{Quantile}
 use Rattle.rules_window.specs.declared.Quantile.the-variants.{End}
-use Rattle.rules_window.specs.Window.{Window}
 use Rattle.rules_window.specs.Quantile.{thousandths}
 use Rattle.rules_window.specs.Checks as window
 use Rattle.delay_hold.specs.declared.Lag.{Lag}
@@ -27,14 +27,21 @@ use Rattle.delay_hold.specs.Checks as hold
 abbrev pub settings : DelayPolicy
 settings = record { «read_offset» = 480; «delay_max» = 4800; hold = 30_000_000_000; window = 10_000_000_000; margin = 96; «margin_share» = fin false 1 (negsuc 0) }
 
--- a window of W 48 that `LagWindow::new` made on lists which were not zero, with the fewest buckets that there are at this W
-abbrev pub made : Window
-made = window.newReply 0 0 48 (replicate 11 7) (replicate 11 7) (replicate (11 * bucketsOf 0 0 48) 7) .window
+-- what `LagWindow::new` leaves: a window of W 48, made on lists which were not zero, with the fewest buckets that there are at this W, and its sums
+abbrev pub made : window.Reply
+made = window.newReply 0 0 48 (replicate 11 7) (replicate 11 7) (replicate (11 * bucketsOf 0 0 48) 7) (replicate (bucketsOf 0 0 48) 7)
 
--- it after these lags were pushed, one after the other, at one time: each `push` on the lists that the one before left
-unfoldable pub after : List ℕ → (w : Window) → Window
-after [] w = w
-after (lag ∷ lags) w = after lags (window.pushReply lag 5 w .window)
+-- what is left after these lags were pushed, one after the other, at one time: each `push` on the lists and the sums that the one before left
+unfoldable pub after : List ℕ → (left : window.Reply) → window.Reply
+after [] left = left
+after (lag ∷ lags) left = after lags (window.pushReply lag 5 (left .window) (left .sums))
+
+-- `quantile_upto` and `quantile` of what the call before left
+abbrev pub quantileUptoLeft : (q : Float) (limit : ℕ) (left : window.Reply) → Quantile
+quantileUptoLeft q limit left = window.quantileUptoReply q limit (left .window) (left .sums)
+
+abbrev pub quantileLeft : (q : Float) (left : window.Reply) → Quantile
+quantileLeft q left = window.quantileReply q (left .window) (left .sums)
 
 -- q 1
 abbrev pub one : Float
@@ -55,9 +62,9 @@ pub record Fifteen : Type 0 where
   -- "need(480) = 96, need(485) = 104, need(5280) = 4800"
   pub needs : needReply settings 480 ∷ needReply settings 485 ∷ needReply settings 5280 ∷ [] ≡ Need.Of 96 ∷ Need.Of 104 ∷ Need.Of 4800 ∷ []
   -- "W 48, lags 0 and 100, q 1: limit 95 gives 48, limit 96 gives 144. 999 lags of 0 and one of 48 at 0.999: 48. 998 and two: 96."
-  pub limited : window.quantileUptoReply one 95 (after (0 ∷ 100 ∷ []) made) ∷ window.quantileUptoReply one 96 (after (0 ∷ 100 ∷ []) made) ∷ [] ≡ End 48 ∷ End 144 ∷ []
-  pub one-above : window.quantileReply (thousandths 999) (after (replicate 999 0 ++ 48 ∷ []) made) ≡ End 48
-  pub two-above : window.quantileReply (thousandths 999) (after (replicate 998 0 ++ 48 ∷ 48 ∷ []) made) ≡ End 96
+  pub limited : quantileUptoLeft one 95 (after (0 ∷ 100 ∷ []) made) ∷ quantileUptoLeft one 96 (after (0 ∷ 100 ∷ []) made) ∷ [] ≡ End 48 ∷ End 144 ∷ []
+  pub one-above : quantileLeft (thousandths 999) (after (replicate 999 0 ++ 48 ∷ []) made) ≡ End 48
+  pub two-above : quantileLeft (thousandths 999) (after (replicate 998 0 ++ 48 ∷ 48 ∷ []) made) ≡ End 96
   -- "Current 0: lag 485 gives 104, lag 480 none, lag 5281 none. p999 480, no lag: current 47 raises to 96, 48 does not"
   pub decisions :
       firstNext None (Of 485) 0 ∷ firstNext None (Of 480) 0 ∷ firstNext None (Of 5281) 0 ∷ firstNext (Of 480) None 47 ∷ firstNext (Of 480) None 48 ∷ []

@@ -1,13 +1,13 @@
 -- Lists given by their places, and a loop that writes one, padded with zeros. Assumes nothing.
 use Prim.Native.Nat.{ℕ, zero, suc, _+_, _<_, _≤_}
-use mathlib.Core.Path.{_≡_, refl, sym, ap, ap₂, _∙_}
+use mathlib.Core.Path.{_≡_, refl, sym, ap₂, _∙_}
 use mathlib.Core.Logic.{⊎-elim}
 use mathlib.Core.List.{List, [], _∷_, _++_}
 use native.Mathlib.Nat.{eq-or-lt-of-le, le-of-suc-le-suc}
 use native.Mathlib.Omega.{arith}
 use lib.Dec.{ltb}
 use lib.ListN.{length, getD, set, length-append, List·getD-append}
-use lib.Seq.{getD-at}
+use lib.Seq.{getD-at, ext-getD}
 use Rattle.base.specs.Choice.{pick}
 use Rattle.base.specs.Lists.{padded, listed}
 use Rattle.base.proofs.Choices.{lt-yes, lt-no, by-le}
@@ -29,6 +29,10 @@ module _ (f : ℕ → ℕ) where
       (λ e. rw e (getD-at (listed f n) (f n) [] 0 n (listed-length n)))
       (λ m. List·getD-append (listed f n) (f n ∷ []) 0 i (rw (listed-length n) m) ∙ listed-at n i m)
       (eq-or-lt-of-le (le-of-suc-le-suc l))
+
+  -- a list with f at each of its n places
+  pub listed-is : (n : ℕ) (xs : List ℕ) → length xs ≡ n → ((i : ℕ) → i < n → getD xs i 0 ≡ f i) → xs ≡ listed f n
+  listed-is n xs e h = ext-getD 0 xs (listed f n) (e ∙ sym (listed-length n)) (λ i l. let k : i < n = rw e at l in h i k ∙ sym (listed-at n i k))
 
   -- padded with zeros
   pub listed-padded : (m n i : ℕ) → getD (padded m (listed f n)) i 0 ≡ pick (ltb i n) (f i) 0

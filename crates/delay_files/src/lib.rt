@@ -27,12 +27,25 @@ pub fn write_delays(
     starts: &[u64],
     totals: &[u64],
     counts: &[u32],
+    sums: &[u64],
     times: &[u64],
     peaks: &[u32],
     file: &mut [u8],
 ) -> DelayWritten
-    ensures { λ r. ⌜ leftWritten r (now (file .exit)) ≡ writeReply 1 7 0 inputs (lists (now (starts .entry)) (now (totals .entry)) (now (counts .entry)) (now (times .entry)) (now (peaks .entry))) (now (file .entry)) ⌝ }
+    ensures { λ r. ⌜ leftWritten r (now (file .exit)) ≡ writeReply 1 7 0 inputs (lists (now (starts .entry)) (now (totals .entry)) (now (counts .entry)) (now (sums .entry)) (now (times .entry)) (now (peaks .entry))) (now (file .entry)) ⌝ }
     ensures { λ _. ⌜ TableWidths (inputs .flows) ⌝ }
 {
-    writing::write(1, 7, 0, inputs, starts, totals, counts, times, peaks, file)
+    writing::write(
+        1,
+        7,
+        0,
+        inputs,
+        starts,
+        totals,
+        counts,
+        sums,
+        times,
+        peaks,
+        file,
+    )
 }

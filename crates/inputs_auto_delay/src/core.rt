@@ -3,8 +3,9 @@ ghost use mathlib.Core.Path.{_≡_};
 ghost use mathlib.Core.List.{List, []};
 ghost use Prim.Native.Nat.{ℕ, _+_, _≤_};
 ghost use lib.ListN.{length};
-ghost use Rattle.rules_record.specs.Inputs.{putSlot};
+ghost use Rattle.rules_record.specs.Inputs.{slotAt, putSlot};
 ghost use Rattle.rules_record.specs.Lent.{lists};
+ghost use Rattle.rules_record.specs.Facts.{OwnSums};
 ghost use Rattle.rules_record.specs.Effects.{silent, Effected};
 ghost use Rattle.rules_tick.specs.Lags.{arrived, largestOf};
 ghost use Rattle.rules_tick.specs.LateEvents.{lateSlot};
@@ -26,14 +27,15 @@ pub fn arrive(
     starts: &mut [u64],
     totals: &mut [u64],
     counts: &mut [u32],
+    sums: &mut [u64],
 ) -> Slot
-    requires { ⌜ ArriveAsked inputs (lists (now starts) (now totals) (now counts) [] []) i time (length (now lags)) ⌝ }
-    ensures { λ r. ⌜ ((times peaks : List ℕ) → silent (putSlot inputs i r) (lists (now (starts .exit)) (now (totals .exit)) (now (counts .exit)) times peaks) ≡ arrived i time (now (lags .entry)) inputs (lists (now (starts .entry)) (now (totals .entry)) (now (counts .entry)) times peaks)) ⌝ }
+    requires { ⌜ ArriveAsked inputs (lists (now starts) (now totals) (now counts) (now sums) [] []) i time (length (now lags)) ⌝ }
+    ensures { λ r. ⌜ ((times peaks : List ℕ) → silent (putSlot inputs i r) (lists (now (starts .exit)) (now (totals .exit)) (now (counts .exit)) (now (sums .exit)) times peaks) ≡ arrived i time (now (lags .entry)) inputs (lists (now (starts .entry)) (now (totals .entry)) (now (counts .entry)) (now (sums .entry)) times peaks)) ⌝ }
 {
     let slot = inputs_slots::slot_at(inputs, i);
     let policy = inputs.policy;
     let before = inputs_window::core::window_in(policy, inputs.width, slot);
-    let window = inputs_window::core::push_all(before, i, lags, time, starts, totals, counts);
+    let window = inputs_window::core::push_all(before, i, lags, time, starts, totals, counts, sums);
     let counted = inputs_slots::with_lag_seconds(slot, window.seconds);
     inputs_slots::with_last_lag(counted, steps::last_lag(lags, slot.last_lag))
 }
@@ -54,22 +56,22 @@ pub fn late_event(policy: DelayPolicy, slot: Slot, applied: u32, max_lag: Lag) -
     inputs_slots::with_late(slot, steps::late_events(slot, late), late)
 }
 
-// The automatic delay of input i decides on the largest lag of the tick.
+// The automatic delay of input i decides on the largest lag of the tick. Of its window it reads the starts and the row of sums alone.
 pub fn auto_delay(
     inputs: Inputs,
     i: usize,
     max_lag: Lag,
     time: u64,
     starts: &[u64],
-    counts: &[u32],
+    sums: &[u64],
     times: &mut [u64],
     peaks: &mut [u32],
     commands: &mut [u32],
     used: usize,
 ) -> Sent
-    requires { ⌜ AutoAsked inputs i (now starts) (now counts) (now times) (now peaks) ⌝ }
+    requires { ⌜ AutoAsked inputs i (now starts) (now sums) (now times) (now peaks) ⌝ }
     requires { ⌜ used + 3 ≤ length (now commands) ⌝ }
-    ensures { λ r. ⌜ ((totals : List ℕ) → Effected 3 (autoDelayed i «max_lag» time inputs (lists (now (starts .entry)) totals (now (counts .entry)) (now (times .entry)) (now (peaks .entry)))) r (lists (now (starts .entry)) totals (now (counts .entry)) (now (times .exit)) (now (peaks .exit))) (now (commands .entry)) (now (commands .exit)) used) ⌝ }
+    ensures { λ r. ⌜ ((totals counts : List ℕ) → OwnSums inputs (lists (now (starts .entry)) totals counts (now (sums .entry)) (now (times .entry)) (now (peaks .entry))) i (slotAt inputs i) → Effected 3 (autoDelayed i «max_lag» time inputs (lists (now (starts .entry)) totals counts (now (sums .entry)) (now (times .entry)) (now (peaks .entry)))) r (lists (now (starts .entry)) totals counts (now (sums .entry)) (now (times .exit)) (now (peaks .exit))) (now (commands .entry)) (now (commands .exit)) used) ⌝ }
 {
     let slot = inputs_slots::slot_at(inputs, i);
     let state = slot.state;
@@ -86,7 +88,7 @@ pub fn auto_delay(
     if !inputs_slots::automatic(slot) {
         return Sent { inputs, used };
     }
-    let next = steps::next_for(inputs, slot, i, max_lag, time, starts, counts, times, peaks);
+    let next = steps::next_for(inputs, slot, i, max_lag, time, starts, sums, times, peaks);
     let hold = next.hold;
     let change = next.change;
     let decided = inputs_slots::with_hold(slot, hold);

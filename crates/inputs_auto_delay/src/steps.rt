@@ -10,6 +10,7 @@ ghost use Rattle.rules_record.specs.Inputs.{slotAt, putSlot};
 ghost use Rattle.rules_record.specs.Commands.{Did};
 ghost use Rattle.delay_hold.specs.Steps5To8.{timerOff, withLower};
 ghost use Rattle.rules_record.specs.Lent.{lists, windowFor};
+ghost use Rattle.rules_record.specs.Facts.{OwnSums};
 ghost use Rattle.rules_tick.specs.Lags.{lastLag};
 ghost use Rattle.rules_tick.specs.LateEvents.{lateNow, lateEvents};
 ghost use Rattle.rules_tick.specs.AutoDelay.{p999Of, currentOf, nextFor, Answered, answered};
@@ -82,10 +83,10 @@ pub(crate) fn interrupted(inputs: Inputs, i: usize, slot: Slot) -> Inputs
     inputs_slots::put_slot(inputs, i, changed)
 }
 
-// The 0.999 quantile of the lags that the largest delay could cover, after a second of lags.
-fn p999(inputs: Inputs, slot: Slot, i: usize, starts: &[u64], counts: &[u32]) -> Lag
-    requires { ⌜ P999Asked inputs slot i (now starts) (now counts) ⌝ }
-    ensures { λ r. ⌜ ((totals times peaks : List ℕ) → r ≡ p999Of (inputs .policy) (windowFor inputs (lists (now (starts .entry)) totals (now (counts .entry)) times peaks) i slot)) ⌝ }
+// The 0.999 quantile of the lags that the largest delay could cover, after a second of lags: from the row of sums alone; the contract says it of every list of counts that has these sums.
+fn p999(inputs: Inputs, slot: Slot, i: usize, starts: &[u64], sums: &[u64]) -> Lag
+    requires { ⌜ P999Asked inputs slot i (now starts) (now sums) ⌝ }
+    ensures { λ r. ⌜ ((totals counts times peaks : List ℕ) → OwnSums inputs (lists (now (starts .entry)) totals counts (now (sums .entry)) times peaks) i slot → r ≡ p999Of (inputs .policy) (windowFor inputs (lists (now (starts .entry)) totals counts (now (sums .entry)) times peaks) i slot)) ⌝ }
 {
     let policy = inputs.policy;
     let window = inputs_window::core::window_in(policy, inputs.width, slot);
@@ -93,7 +94,7 @@ fn p999(inputs: Inputs, slot: Slot, i: usize, starts: &[u64], counts: &[u32]) ->
         return Lag::None;
     }
     let limit = policy.read_offset + policy.delay_max;
-    let quantile = inputs_window::core::quantile_upto(window, i, 0.999, limit, counts);
+    let quantile = inputs_window::core::quantile_upto(window, i, 0.999, limit, sums);
     let Quantile::End(end) = quantile else {
         return Lag::None;
     };
@@ -119,16 +120,16 @@ pub(crate) fn next_for(
     max_lag: Lag,
     time: u64,
     starts: &[u64],
-    counts: &[u32],
+    sums: &[u64],
     times: &mut [u64],
     peaks: &mut [u32],
 ) -> Next
-    requires { ⌜ (slot ≡ slotAt inputs i) × AutoAsked inputs i (now starts) (now counts) (now times) (now peaks) ⌝ }
-    ensures { λ r. ⌜ ((totals : List ℕ) → Answered i (nextFor i «max_lag» time inputs (lists (now (starts .entry)) totals (now (counts .entry)) (now (times .entry)) (now (peaks .entry)))) r (lists (now (starts .entry)) totals (now (counts .entry)) (now (times .entry)) (now (peaks .entry))) (lists (now (starts .entry)) totals (now (counts .entry)) (now (times .exit)) (now (peaks .exit)))) ⌝ }
+    requires { ⌜ (slot ≡ slotAt inputs i) × AutoAsked inputs i (now starts) (now sums) (now times) (now peaks) ⌝ }
+    ensures { λ r. ⌜ ((totals counts : List ℕ) → OwnSums inputs (lists (now (starts .entry)) totals counts (now (sums .entry)) (now (times .entry)) (now (peaks .entry))) i (slotAt inputs i) → Answered i (nextFor i «max_lag» time inputs (lists (now (starts .entry)) totals counts (now (sums .entry)) (now (times .entry)) (now (peaks .entry)))) r (lists (now (starts .entry)) totals counts (now (sums .entry)) (now (times .entry)) (now (peaks .entry))) (lists (now (starts .entry)) totals counts (now (sums .entry)) (now (times .exit)) (now (peaks .exit)))) ⌝ }
 {
     let policy = inputs.policy;
     let hold = slot.hold;
-    let p999 = p999(inputs, slot, i, starts, counts);
+    let p999 = p999(inputs, slot, i, starts, sums);
     let from = i * DelayHold::PLACES;
     let to = from + DelayHold::PLACES;
     delay_hold::core::next(

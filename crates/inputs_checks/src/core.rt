@@ -8,7 +8,7 @@ ghost use Rattle.lag_window.specs.Lent.{lent};
 ghost use Rattle.rules_window.specs.Parts.{PartsIn};
 ghost use Rattle.rules_record.specs.declared.Inputs.{Inputs};
 ghost use Rattle.rules_record.specs.Inputs.{slotAt};
-ghost use Rattle.rules_record.specs.Lent.{lists};
+ghost use Rattle.rules_record.specs.Lent.{lists, bucketsFor};
 ghost use Rattle.inputs_window.specs.Windows.{windowIn};
 ghost use Rattle.rules_record.specs.WholeRecord.{wholeInput, wholeInputs, wholeRecord};
 ghost use Rattle.rules_record.specs.Checks.{listsFit, outputFits, Fitting};
@@ -26,11 +26,12 @@ pub fn lists_fit(
     starts: &[u64],
     totals: &[u64],
     counts: &[u32],
+    sums: &[u64],
     times: &[u64],
     peaks: &[u32],
 ) -> bool
     requires { ⌜ (n ≤ 16) × (buckets ≤ bucketsLimit) ⌝ }
-    ensures { λ r. ⌜ r ≡ listsFit n buckets (lists (now (starts .entry)) (now (totals .entry)) (now (counts .entry)) (now (times .entry)) (now (peaks .entry))) ⌝ }
+    ensures { λ r. ⌜ r ≡ listsFit n buckets (lists (now (starts .entry)) (now (totals .entry)) (now (counts .entry)) (now (sums .entry)) (now (times .entry)) (now (peaks .entry))) ⌝ }
 {
     if starts.len() != n * LagWindow::SECONDS {
         return false;
@@ -39,6 +40,9 @@ pub fn lists_fit(
         return false;
     }
     if counts.len() != n * (LagWindow::SECONDS * buckets) {
+        return false;
+    }
+    if sums.len() != n * buckets {
         return false;
     }
     if times.len() != n * DelayHold::PLACES {
@@ -59,7 +63,7 @@ pub fn output_fits(n: usize, output: Output) -> bool
     }
 }
 
-// Input i: its seconds, its peaks with seed and timer, and the rest of its slot. Each count is read once, but in a row with a count of 2^20 or more. Only what is read is handed on:
+// Input i: its seconds with their sums, its peaks with seed and timer, and the rest of its slot. Each count is read once, but in a window with a count of 2^20 or more. Only what is read is handed on:
 // the record would be copied for each input.
 fn whole_input(
     policy: DelayPolicy,
@@ -70,16 +74,18 @@ fn whole_input(
     starts: &[u64],
     totals: &[u64],
     counts: &[u32],
+    sums: &[u64],
     times: &[u64],
     peaks: &[u32],
 ) -> bool
     requires { ⌜ Sound policy ⌝ }
     requires { ⌜ PartsIn i (lent (windowIn policy width slot) (now starts) (now totals) (now counts)) ⌝ }
+    requires { ⌜ i * bucketsFor policy width + bucketsFor policy width ≤ length (now sums) ⌝ }
     requires { ⌜ (i * 600 + 600 ≤ length (now times)) × (i * 600 + 600 ≤ length (now peaks)) ⌝ }
-    ensures { λ r. ⌜ ((s : Inputs) → (policy ≡ s .policy) → (width ≡ s .width) → (flows ≡ s .«flow_count») → (slot ≡ slotAt s i) → r ≡ wholeInput s (lists (now (starts .entry)) (now (totals .entry)) (now (counts .entry)) (now (times .entry)) (now (peaks .entry))) i) ⌝ }
+    ensures { λ r. ⌜ ((s : Inputs) → (policy ≡ s .policy) → (width ≡ s .width) → (flows ≡ s .«flow_count») → (slot ≡ slotAt s i) → r ≡ wholeInput s (lists (now (starts .entry)) (now (totals .entry)) (now (counts .entry)) (now (sums .entry)) (now (times .entry)) (now (peaks .entry))) i) ⌝ }
 {
     let window = inputs_window::core::window_in(policy, width, slot);
-    if !inputs_window::core::whole(window, i, starts, totals, counts) {
+    if !inputs_window::core::whole(window, i, starts, totals, counts, sums) {
         return false;
     }
     let hold = slot.hold;
@@ -97,11 +103,12 @@ fn whole_inputs(
     starts: &[u64],
     totals: &[u64],
     counts: &[u32],
+    sums: &[u64],
     times: &[u64],
     peaks: &[u32],
 ) -> bool
-    requires { ⌜ Fitting inputs (lists (now starts) (now totals) (now counts) (now times) (now peaks)) ⌝ }
-    ensures { λ r. ⌜ r ≡ wholeInputs inputs (lists (now (starts .entry)) (now (totals .entry)) (now (counts .entry)) (now (times .entry)) (now (peaks .entry))) ⌝ }
+    requires { ⌜ Fitting inputs (lists (now starts) (now totals) (now counts) (now sums) (now times) (now peaks)) ⌝ }
+    ensures { λ r. ⌜ r ≡ wholeInputs inputs (lists (now (starts .entry)) (now (totals .entry)) (now (counts .entry)) (now (sums .entry)) (now (times .entry)) (now (peaks .entry))) ⌝ }
 {
     let policy = inputs.policy;
     let mut i: usize = 0;
@@ -116,6 +123,7 @@ fn whole_inputs(
             starts,
             totals,
             counts,
+            sums,
             times,
             peaks,
         ) {
@@ -139,13 +147,14 @@ pub fn whole(
     starts: &[u64],
     totals: &[u64],
     counts: &[u32],
+    sums: &[u64],
     times: &[u64],
     peaks: &[u32],
 ) -> bool
-    requires { ⌜ Fitting inputs (lists (now starts) (now totals) (now counts) (now times) (now peaks)) ⌝ }
-    ensures { λ r. ⌜ r ≡ wholeRecord inputs (lists (now (starts .entry)) (now (totals .entry)) (now (counts .entry)) (now (times .entry)) (now (peaks .entry))) ⌝ }
+    requires { ⌜ Fitting inputs (lists (now starts) (now totals) (now counts) (now sums) (now times) (now peaks)) ⌝ }
+    ensures { λ r. ⌜ r ≡ wholeRecord inputs (lists (now (starts .entry)) (now (totals .entry)) (now (counts .entry)) (now (sums .entry)) (now (times .entry)) (now (peaks .entry))) ⌝ }
 {
-    if !whole_inputs(inputs, starts, totals, counts, times, peaks) {
+    if !whole_inputs(inputs, starts, totals, counts, sums, times, peaks) {
         return false;
     }
     if !inputs_places::whole_flows(inputs) {

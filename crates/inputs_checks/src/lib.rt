@@ -35,11 +35,12 @@ fn first_refused(
     starts: &[u64],
     totals: &[u64],
     counts: &[u32],
+    sums: &[u64],
     times: &[u64],
     peaks: &[u32],
     output: Output,
 ) -> u32
-    ensures { λ r. ⌜ r ≡ recordNumber inputs (lists (now (starts .entry)) (now (totals .entry)) (now (counts .entry)) (now (times .entry)) (now (peaks .entry))) output 0 ⌝ }
+    ensures { λ r. ⌜ r ≡ recordNumber inputs (lists (now (starts .entry)) (now (totals .entry)) (now (counts .entry)) (now (sums .entry)) (now (times .entry)) (now (peaks .entry))) output 0 ⌝ }
 {
     if !inputs_allowed(inputs.count) {
         return 1;
@@ -56,13 +57,22 @@ fn first_refused(
         return 4;
     }
     let buckets = buckets::core::buckets_of(policy.read_offset, policy.delay_max, inputs.width);
-    if !core::lists_fit(inputs.count, buckets, starts, totals, counts, times, peaks) {
+    if !core::lists_fit(
+        inputs.count,
+        buckets,
+        starts,
+        totals,
+        counts,
+        sums,
+        times,
+        peaks,
+    ) {
         return 5;
     }
     if !core::output_fits(inputs.count, output) {
         return 5;
     }
-    if !core::whole(inputs, starts, totals, counts, times, peaks) {
+    if !core::whole(inputs, starts, totals, counts, sums, times, peaks) {
         return 6;
     }
     0
@@ -74,14 +84,15 @@ pub fn checks(
     starts: &[u64],
     totals: &[u64],
     counts: &[u32],
+    sums: &[u64],
     times: &[u64],
     peaks: &[u32],
     output: Output,
 ) -> u32
-    ensures { λ r. ⌜ r ≡ recordNumber inputs (lists (now (starts .entry)) (now (totals .entry)) (now (counts .entry)) (now (times .entry)) (now (peaks .entry))) output 0 ⌝ }
+    ensures { λ r. ⌜ r ≡ recordNumber inputs (lists (now (starts .entry)) (now (totals .entry)) (now (counts .entry)) (now (sums .entry)) (now (times .entry)) (now (peaks .entry))) output 0 ⌝ }
     ensures { λ _. ⌜ Sized inputs ⌝ }
 {
-    first_refused(inputs, starts, totals, counts, times, peaks, output)
+    first_refused(inputs, starts, totals, counts, sums, times, peaks, output)
 }
 
 // The number of the first of checks 1 to 8 that says no, or 0, of a call on one input that takes so many words of commands.
@@ -92,17 +103,19 @@ pub fn input_checks(
     starts: &[u64],
     totals: &[u64],
     counts: &[u32],
+    sums: &[u64],
     times: &[u64],
     peaks: &[u32],
     words: usize,
 ) -> u32
-    ensures { λ r. ⌜ r ≡ timedNumber inputs (lists (now (starts .entry)) (now (totals .entry)) (now (counts .entry)) (now (times .entry)) (now (peaks .entry))) words input time 0 ⌝ }
+    ensures { λ r. ⌜ r ≡ timedNumber inputs (lists (now (starts .entry)) (now (totals .entry)) (now (counts .entry)) (now (sums .entry)) (now (times .entry)) (now (peaks .entry))) words input time 0 ⌝ }
 {
     let number = checks(
         inputs,
         starts,
         totals,
         counts,
+        sums,
         times,
         peaks,
         Output::Words(words),

@@ -30,16 +30,17 @@ pub fn clear(
     starts: &mut [u64],
     totals: &mut [u64],
     counts: &mut [u32],
+    sums: &mut [u64],
     times: &mut [u64],
     peaks: &mut [u32],
 ) -> Inputs
-    requires { ⌜ Fitting inputs (lists (now starts) (now totals) (now counts) (now times) (now peaks)) ⌝ }
+    requires { ⌜ Fitting inputs (lists (now starts) (now totals) (now counts) (now sums) (now times) (now peaks)) ⌝ }
     requires { ⌜ i < inputs .count ⌝ }
-    ensures { λ r. ⌜ silent r (lists (now (starts .exit)) (now (totals .exit)) (now (counts .exit)) (now (times .exit)) (now (peaks .exit))) ≡ cleared i slot inputs (lists (now (starts .entry)) (now (totals .entry)) (now (counts .entry)) (now (times .entry)) (now (peaks .entry))) ⌝ }
+    ensures { λ r. ⌜ silent r (lists (now (starts .exit)) (now (totals .exit)) (now (counts .exit)) (now (sums .exit)) (now (times .exit)) (now (peaks .exit))) ≡ cleared i slot inputs (lists (now (starts .entry)) (now (totals .entry)) (now (counts .entry)) (now (sums .entry)) (now (times .entry)) (now (peaks .entry))) ⌝ }
 {
     let policy = inputs.policy;
     let before = inputs_window::core::window_in(policy, inputs.width, slot);
-    let window = inputs_window::core::clear(before, i, starts, totals, counts);
+    let window = inputs_window::core::clear(before, i, starts, totals, counts, sums);
     let hold = clear_hold(i, times, peaks);
     let counted = inputs_slots::with_lag_seconds(slot, window.seconds);
     let changed = inputs_slots::with_hold(counted, hold);

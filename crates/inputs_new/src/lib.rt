@@ -123,11 +123,12 @@ fn settings_number(
     starts: &[u64],
     totals: &[u64],
     counts: &[u32],
+    sums: &[u64],
     times: &[u64],
     peaks: &[u32],
     words: usize,
 ) -> u32
-    ensures { λ r. ⌜ r ≡ settingsNumber settings bytes delays (lists (now (starts .entry)) (now (totals .entry)) (now (counts .entry)) (now (times .entry)) (now (peaks .entry))) words 0 ⌝ }
+    ensures { λ r. ⌜ r ≡ settingsNumber settings bytes delays (lists (now (starts .entry)) (now (totals .entry)) (now (counts .entry)) (now (sums .entry)) (now (times .entry)) (now (peaks .entry))) words 0 ⌝ }
 {
     if !inputs_checks::inputs_allowed(settings.count) {
         return 1;
@@ -154,6 +155,7 @@ fn settings_number(
         starts,
         totals,
         counts,
+        sums,
         times,
         peaks,
     ) {
@@ -173,14 +175,16 @@ fn zero_lists(
     starts: &mut [u64],
     totals: &mut [u64],
     counts: &mut [u32],
+    sums: &mut [u64],
     times: &mut [u64],
     peaks: &mut [u32],
 )
-    ensures { λ _. ⌜ lists (now (starts .exit)) (now (totals .exit)) (now (counts .exit)) (now (times .exit)) (now (peaks .exit)) ≡ zeroedLists (lists (now (starts .entry)) (now (totals .entry)) (now (counts .entry)) (now (times .entry)) (now (peaks .entry))) ⌝ }
+    ensures { λ _. ⌜ lists (now (starts .exit)) (now (totals .exit)) (now (counts .exit)) (now (sums .exit)) (now (times .exit)) (now (peaks .exit)) ≡ zeroedLists (lists (now (starts .entry)) (now (totals .entry)) (now (counts .entry)) (now (sums .entry)) (now (times .entry)) (now (peaks .entry))) ⌝ }
 {
     base::zero_u64(starts);
     base::zero_u64(totals);
     base::zero_u32(counts);
+    base::zero_u64(sums);
     base::zero_u64(times);
     base::zero_u32(peaks);
 }
@@ -195,11 +199,12 @@ pub fn new(
     starts: &mut [u64],
     totals: &mut [u64],
     counts: &mut [u32],
+    sums: &mut [u64],
     times: &mut [u64],
     peaks: &mut [u32],
     commands: &mut [u32],
 ) -> InputsAnswer
-    ensures { λ r. ⌜ leftInputs r (lists (now (starts .exit)) (now (totals .exit)) (now (counts .exit)) (now (times .exit)) (now (peaks .exit))) (now (commands .exit)) ≡ newReply settings kinds (now (flows .entry)) (now (delays .entry)) time (lists (now (starts .entry)) (now (totals .entry)) (now (counts .entry)) (now (times .entry)) (now (peaks .entry))) (now (commands .entry)) ⌝ }
+    ensures { λ r. ⌜ leftInputs r (lists (now (starts .exit)) (now (totals .exit)) (now (counts .exit)) (now (sums .exit)) (now (times .exit)) (now (peaks .exit))) (now (commands .exit)) ≡ newReply settings kinds (now (flows .entry)) (now (delays .entry)) time (lists (now (starts .entry)) (now (totals .entry)) (now (counts .entry)) (now (sums .entry)) (now (times .entry)) (now (peaks .entry))) (now (commands .entry)) ⌝ }
 {
     let number = settings_number(
         settings,
@@ -208,6 +213,7 @@ pub fn new(
         starts,
         totals,
         counts,
+        sums,
         times,
         peaks,
         commands.len(),
@@ -235,7 +241,7 @@ pub fn new(
         };
     }
     let all = loaded.inputs;
-    zero_lists(starts, totals, counts, times, peaks);
+    zero_lists(starts, totals, counts, sums, times, peaks);
     base::zero_u32(commands);
     let sent = start::started(all, settings.count, kinds, time, commands);
     let inputs = sent.inputs;

@@ -32,11 +32,12 @@ fn route_number(
     starts: &[u64],
     totals: &[u64],
     counts: &[u32],
+    sums: &[u64],
     times: &[u64],
     peaks: &[u32],
     words: usize,
 ) -> u32
-    ensures { λ r. ⌜ r ≡ routeNumber inputs (lists (now (starts .entry)) (now (totals .entry)) (now (counts .entry)) (now (times .entry)) (now (peaks .entry))) words input wanted time world ⌝ }
+    ensures { λ r. ⌜ r ≡ routeNumber inputs (lists (now (starts .entry)) (now (totals .entry)) (now (counts .entry)) (now (sums .entry)) (now (times .entry)) (now (peaks .entry))) words input wanted time world ⌝ }
 {
     let number = inputs_checks::input_checks(
         inputs,
@@ -45,6 +46,7 @@ fn route_number(
         starts,
         totals,
         counts,
+        sums,
         times,
         peaks,
         words,
@@ -73,11 +75,12 @@ pub fn route(
     starts: &mut [u64],
     totals: &mut [u64],
     counts: &mut [u32],
+    sums: &mut [u64],
     times: &mut [u64],
     peaks: &mut [u32],
     commands: &mut [u32],
 ) -> InputsAnswer
-    ensures { λ r. ⌜ leftInputs r (lists (now (starts .exit)) (now (totals .exit)) (now (counts .exit)) (now (times .exit)) (now (peaks .exit))) (now (commands .exit)) ≡ routeReply inputs (lists (now (starts .entry)) (now (totals .entry)) (now (counts .entry)) (now (times .entry)) (now (peaks .entry))) (now (commands .entry)) input wanted time world ⌝ }
+    ensures { λ r. ⌜ leftInputs r (lists (now (starts .exit)) (now (totals .exit)) (now (counts .exit)) (now (sums .exit)) (now (times .exit)) (now (peaks .exit))) (now (commands .exit)) ≡ routeReply inputs (lists (now (starts .entry)) (now (totals .entry)) (now (counts .entry)) (now (sums .entry)) (now (times .entry)) (now (peaks .entry))) (now (commands .entry)) input wanted time world ⌝ }
 {
     let number = route_number(
         inputs,
@@ -88,6 +91,7 @@ pub fn route(
         starts,
         totals,
         counts,
+        sums,
         times,
         peaks,
         commands.len(),
@@ -115,6 +119,7 @@ pub fn route(
         starts,
         totals,
         counts,
+        sums,
         times,
         peaks,
     );

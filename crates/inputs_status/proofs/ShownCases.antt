@@ -1,7 +1,7 @@
 -- What the functions of a status ask of a record that was checked, and the whole status. Assumes nothing.
 use Prim.Native.Nat.{ℕ, _+_, _-_, _*_, _<_, _≤_}
 use mathlib.Core.Path.{_≡_, sym, ap, subst, _∙_}
-use mathlib.Core.List.{List, []}
+use mathlib.Core.List.{List}
 use native.Mathlib.Omega.{arith}
 use lib.Ieee.{Float}
 use lib.ListN.{length}
@@ -9,12 +9,10 @@ use Rattle.base.specs.Lists.{part}
 use Rattle.doubles.specs.Doubles.{msOf}
 use Rattle.lag_window.specs.declared.LagWindow.{LagWindow}
 use Rattle.rules_window.specs.declared.Quantile.the-variants as Quantile
-use Rattle.lag_window.specs.Lent.{lent}
 use Rattle.rules_window.specs.WholeWindow.{Sound}
-use Rattle.rules_window.specs.Parts.{partOf}
-use Rattle.rules_window.specs.Quantile.{Placeable, ShortRows, thousandths}
-use Rattle.rules_window.proofs.WholeAt.{whole-of}
-use Rattle.rules_window.proofs.Totals.{rows-short}
+use Rattle.rules_window.specs.Quantile.{Placeable, thousandths}
+use Rattle.rules_window.specs.ColumnSums.{asOneSecond}
+use Rattle.rules_window.proofs.OneSecond.{row-placeable}
 use Rattle.rules_window.proofs.Numbers.{sound-placeable}
 use Rattle.rules_window.proofs.Thousandths.{thousandths-in}
 use Rattle.delay_hold.proofs.Wholes as holds
@@ -22,25 +20,28 @@ use Rattle.rules_record.specs.declared.Slot.{Slot}
 use Rattle.rules_record.specs.declared.Inputs.{Inputs}
 use Rattle.rules_record.specs.States.{stateNumber}
 use Rattle.rules_record.specs.Inputs.{slotAt}
-use Rattle.rules_record.specs.Lent.{Lists, bucketsIn, windowOf, heldOf}
+use Rattle.rules_record.specs.Lent.{Lists, bucketsIn, windowFor, windowOf, heldOf}
 use Rattle.inputs_window.specs.Windows.{windowIn}
 use Rattle.base.proofs.Blocks.{block-within}
 use Rattle.base.specs.Limits.{widthLimit, bucketsLimit}
-use Rattle.rules_record.specs.Facts.{Checked}
-use Rattle.rules_record.proofs.Shapes.{window-sound, window-held, held-lags}
+use Rattle.rules_record.specs.Facts.{OwnSums, Checked}
+use Rattle.rules_record.proofs.Shapes.{window-sound, window-sums, sums-within, held-lags}
 use Rattle.rules_calls.specs.declared.Sourced.{Sourced}
 use Rattle.rules_calls.specs.declared.Milliseconds.{Milliseconds}
 use Rattle.rules_calls.specs.declared.Arrival.{Arrival}
 use Rattle.rules_calls.specs.declared.Arrival.the-variants as Arrival
 use Rattle.rules_calls.specs.declared.InputStatus.{InputStatus}
 use Rattle.rules_calls.specs.Status.{sourceOf, channelsShown, proposedMs, arrivalIn, worstMs, statusFor, statusOf}
+use Rattle.rules_calls.proofs.StatusShows.{arrival-row}
 use Rattle.inputs_status.specs.StatusAsked.{Countable}
 
-pub quantile-asks : {w : LagWindow} {i : ℕ} {counts : List ℕ} → Countable w i counts → {q : Float} (k : ℕ) → q ≡ thousandths k → k ≤ 1000 →
-    ((w .seconds ≤ 11) × (w .buckets ≤ bucketsLimit) × (1 ≤ w .width) × (w .width ≤ widthLimit))
-    × ((i * (11 * w .buckets) + 11 * w .buckets ≤ length counts) × (Placeable q 4294967295 (partOf i (lent w [] [] counts)) × ShortRows (w .buckets) (w .seconds) (part (i * (11 * w .buckets)) (11 * w .buckets) counts)))
-quantile-asks {w} {i} {counts} c k is-q h =
-    ((c .few, c .buckets-most, c .width-least, c .width-most), (c .counts-in, (subst (λ (x : Float). Placeable x 4294967295 (partOf i (lent w [] [] counts))) (sym is-q) (c .placeable (thousandths k) (thousandths-in k h)), c .short)))
+pub quantile-asks : {w : LagWindow} {i : ℕ} {sums : List ℕ} → Countable w i sums → {q : Float} (k : ℕ) → q ≡ thousandths k → k ≤ 1000 →
+    ((w .buckets ≤ bucketsLimit) × (1 ≤ w .width) × (w .width ≤ widthLimit))
+    × ((i * w .buckets + w .buckets ≤ length sums) × Placeable q 4294967295 (asOneSecond (w .buckets) (w .width) (part (i * w .buckets) (w .buckets) sums)))
+quantile-asks {w} {i} {sums} c k is-q h = (
+  (c .buckets-most, c .width-least, c .width-most),
+  (c .sums-in, subst (λ (x : Float). Placeable x 4294967295 (asOneSecond (w .buckets) (w .width) (part (i * w .buckets) (w .buckets) sums))) (sym is-q) (c .placeable (thousandths k) (thousandths-in k h))),
+)
 
 -- ---- what the inner functions ask
 -- the end of a part `a..a + k` comes back as `a + k - a`
@@ -51,18 +52,16 @@ module _ (s : Inputs) (l : Lists) (c : Checked s l) (i : ℕ) (h : i < s .count)
   window-is-sound : Sound (windowOf s l i)
   window-is-sound = window-sound s l c i h
 
-  pub countable : {w : LagWindow} → w ≡ windowIn (s .policy) (s .width) slot → Countable w i (l .counts)
+  pub countable : {w : LagWindow} → w ≡ windowIn (s .policy) (s .width) slot → Countable w i (l .sums)
   unfolding bucketsIn
   countable is-window =
-      subst (λ (x : LagWindow). Countable x i (l .counts)) (sym (is-window ∙ ap (windowIn (s .policy) (s .width)) is-slot))
+      subst (λ (x : LagWindow). Countable x i (l .sums)) (sym (is-window ∙ ap (windowIn (s .policy) (s .width)) is-slot))
       (record {
-        few = whole-of _ window-is-sound .few;
         buckets-most = window-is-sound .shaped .buckets-high;
         width-least = window-is-sound .shaped .width-low;
         width-most = window-is-sound .shaped .width-high;
-        counts-in = window-held s l (c .fitting) i (slotAt s i) h .counts-in;
-        placeable = λ q e. sound-placeable q 4294967295 (windowOf s l i) window-is-sound e;
-        short = rows-short (windowOf s l i) window-is-sound;
+        sums-in = sums-within s l (c .fitting) i h;
+        placeable = λ q e. row-placeable (windowOf s l i) 4294967295 q (window-sums s l c i h) (sound-placeable q 4294967295 (windowOf s l i) window-is-sound e);
       })
 
   pub peaks-in : {k : ℕ} → k ≡ 600 → slot .hold .peaks ≤ length (part (i * 600) k (l .peaks))
@@ -78,7 +77,8 @@ module _ (s : Inputs) (l : Lists) (i applied channels : ℕ) {slot : Slot} (is-s
   pub status-by : {code shown k : ℕ} {source : Sourced} {w : LagWindow} {arrival : Arrival} {worst proposed : Milliseconds} {extra effective last : Float}
       → source ≡ sourceOf s (slot .route)
       → w ≡ windowIn (s .policy) (s .width) slot
-      → arrival ≡ arrivalIn (partOf i (lent w [] [] (l .counts)))
+      → arrival ≡ arrivalIn (asOneSecond (w .buckets) (w .width) (part (i * w .buckets) (w .buckets) (l .sums)))
+      → OwnSums s l i (slotAt s i)
       → k ≡ 600
       → worst ≡ worstMs slot (part (i * 600) k (l .peaks))
       → proposed ≡ proposedMs (slot .proposed)
@@ -106,7 +106,7 @@ module _ (s : Inputs) (l : Lists) (i applied channels : ℕ) {slot : Slot} (is-s
       })
       (statusOf s l i applied channels)
   unfolding statusFor arrivalIn bucketsIn
-  status-by is-source is-window is-arrival is-k is-worst is-proposed is-code is-shown is-extra is-effective is-last =
+  status-by is-source is-window is-arrival own is-k is-worst is-proposed is-code is-shown is-extra is-effective is-last =
       (λ t. record {
         number = 0;
         state = is-code t;
@@ -117,7 +117,7 @@ module _ (s : Inputs) (l : Lists) (i applied channels : ℕ) {slot : Slot} (is-s
         «effective_delay_ms» = is-effective t;
         «proposed_delay_ms» = is-proposed t;
         «lag_ms» = is-last t;
-        «arrival_lag_ms» = (is-arrival ∙ (λ u. arrivalIn (partOf i (lent (is-window u) [] [] (l .counts))))) t;
+        «arrival_lag_ms» = (is-arrival ∙ (λ u. arrivalIn (asOneSecond (is-window u .buckets) (is-window u .width) (part (i * is-window u .buckets) (is-window u .buckets) (l .sums)))) ∙ arrival-row (windowFor s l i slot) (subst (λ (x : Slot). OwnSums s l i x) (sym is-slot) own)) t;
         «worst_lag_ms» = (is-worst ∙ (λ u. worstMs slot (part (i * 600) (is-k u) (l .peaks)))) t;
         «delay_changes» = slot .«delay_changes»;
         «late_events» = slot .«late_events»;

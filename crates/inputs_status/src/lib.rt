@@ -32,10 +32,11 @@ fn input_number(
     starts: &[u64],
     totals: &[u64],
     counts: &[u32],
+    sums: &[u64],
     times: &[u64],
     peaks: &[u32],
 ) -> u32
-    ensures { λ r. ⌜ r ≡ inputNumber inputs (lists (now (starts .entry)) (now (totals .entry)) (now (counts .entry)) (now (times .entry)) (now (peaks .entry))) Absent input 0 ⌝ }
+    ensures { λ r. ⌜ r ≡ inputNumber inputs (lists (now (starts .entry)) (now (totals .entry)) (now (counts .entry)) (now (sums .entry)) (now (times .entry)) (now (peaks .entry))) Absent input 0 ⌝ }
     ensures { λ _. ⌜ Sized inputs ⌝ }
 {
     let number = inputs_checks::checks(
@@ -43,6 +44,7 @@ fn input_number(
         starts,
         totals,
         counts,
+        sums,
         times,
         peaks,
         Output::Absent,
@@ -64,13 +66,14 @@ fn status_number(
     starts: &[u64],
     totals: &[u64],
     counts: &[u32],
+    sums: &[u64],
     times: &[u64],
     peaks: &[u32],
 ) -> u32
-    ensures { λ r. ⌜ r ≡ statusNumber inputs (lists (now (starts .entry)) (now (totals .entry)) (now (counts .entry)) (now (times .entry)) (now (peaks .entry))) input applied channels ⌝ }
+    ensures { λ r. ⌜ r ≡ statusNumber inputs (lists (now (starts .entry)) (now (totals .entry)) (now (counts .entry)) (now (sums .entry)) (now (times .entry)) (now (peaks .entry))) input applied channels ⌝ }
     ensures { λ _. ⌜ Sized inputs ⌝ }
 {
-    let number = input_number(inputs, input, starts, totals, counts, times, peaks);
+    let number = input_number(inputs, input, starts, totals, counts, sums, times, peaks);
     if number != 0 {
         return number;
     }
@@ -91,12 +94,13 @@ fn channels_number(
     starts: &[u64],
     totals: &[u64],
     counts: &[u32],
+    sums: &[u64],
     times: &[u64],
     peaks: &[u32],
 ) -> u32
-    ensures { λ r. ⌜ r ≡ channelsNumber inputs (lists (now (starts .entry)) (now (totals .entry)) (now (counts .entry)) (now (times .entry)) (now (peaks .entry))) input channels ⌝ }
+    ensures { λ r. ⌜ r ≡ channelsNumber inputs (lists (now (starts .entry)) (now (totals .entry)) (now (counts .entry)) (now (sums .entry)) (now (times .entry)) (now (peaks .entry))) input channels ⌝ }
 {
-    let number = input_number(inputs, input, starts, totals, counts, times, peaks);
+    let number = input_number(inputs, input, starts, totals, counts, sums, times, peaks);
     if number != 0 {
         return number;
     }
@@ -113,12 +117,13 @@ fn settled_number(
     starts: &[u64],
     totals: &[u64],
     counts: &[u32],
+    sums: &[u64],
     times: &[u64],
     peaks: &[u32],
 ) -> u32
-    ensures { λ r. ⌜ r ≡ settledNumber inputs (lists (now (starts .entry)) (now (totals .entry)) (now (counts .entry)) (now (times .entry)) (now (peaks .entry))) input time ⌝ }
+    ensures { λ r. ⌜ r ≡ settledNumber inputs (lists (now (starts .entry)) (now (totals .entry)) (now (counts .entry)) (now (sums .entry)) (now (times .entry)) (now (peaks .entry))) input time ⌝ }
 {
-    let number = input_number(inputs, input, starts, totals, counts, times, peaks);
+    let number = input_number(inputs, input, starts, totals, counts, sums, times, peaks);
     if number != 0 {
         return number;
     }
@@ -160,10 +165,11 @@ pub fn status(
     starts: &[u64],
     totals: &[u64],
     counts: &[u32],
+    sums: &[u64],
     times: &[u64],
     peaks: &[u32],
 ) -> InputStatus
-    ensures { λ r. ⌜ r ≡ statusReply inputs (lists (now (starts .entry)) (now (totals .entry)) (now (counts .entry)) (now (times .entry)) (now (peaks .entry))) input applied channels ⌝ }
+    ensures { λ r. ⌜ r ≡ statusReply inputs (lists (now (starts .entry)) (now (totals .entry)) (now (counts .entry)) (now (sums .entry)) (now (times .entry)) (now (peaks .entry))) input applied channels ⌝ }
 {
     let number = status_number(
         inputs,
@@ -173,23 +179,14 @@ pub fn status(
         starts,
         totals,
         counts,
+        sums,
         times,
         peaks,
     );
     if number != 0 {
         return no_status(number);
     }
-    shown::status(
-        inputs,
-        input,
-        applied,
-        channels,
-        starts,
-        totals,
-        counts,
-        times,
-        peaks,
-    )
+    shown::status(inputs, input, applied, channels, sums, peaks)
 }
 
 // Is the input running with at least the wanted channels?
@@ -201,10 +198,11 @@ pub fn has_channels(
     starts: &[u64],
     totals: &[u64],
     counts: &[u32],
+    sums: &[u64],
     times: &[u64],
     peaks: &[u32],
 ) -> Answer
-    ensures { λ r. ⌜ r ≡ hasChannelsReply inputs (lists (now (starts .entry)) (now (totals .entry)) (now (counts .entry)) (now (times .entry)) (now (peaks .entry))) input channels wanted ⌝ }
+    ensures { λ r. ⌜ r ≡ hasChannelsReply inputs (lists (now (starts .entry)) (now (totals .entry)) (now (counts .entry)) (now (sums .entry)) (now (times .entry)) (now (peaks .entry))) input channels wanted ⌝ }
 {
     let number = channels_number(
         inputs,
@@ -213,6 +211,7 @@ pub fn has_channels(
         starts,
         totals,
         counts,
+        sums,
         times,
         peaks,
     );
@@ -260,12 +259,23 @@ pub fn settled(
     starts: &[u64],
     totals: &[u64],
     counts: &[u32],
+    sums: &[u64],
     times: &[u64],
     peaks: &[u32],
 ) -> Answer
-    ensures { λ r. ⌜ r ≡ settledReply inputs (lists (now (starts .entry)) (now (totals .entry)) (now (counts .entry)) (now (times .entry)) (now (peaks .entry))) input time ⌝ }
+    ensures { λ r. ⌜ r ≡ settledReply inputs (lists (now (starts .entry)) (now (totals .entry)) (now (counts .entry)) (now (sums .entry)) (now (times .entry)) (now (peaks .entry))) input time ⌝ }
 {
-    let number = settled_number(inputs, input, time, starts, totals, counts, times, peaks);
+    let number = settled_number(
+        inputs,
+        input,
+        time,
+        starts,
+        totals,
+        counts,
+        sums,
+        times,
+        peaks,
+    );
     if number != 0 {
         return Answer {
             number,

@@ -1,11 +1,13 @@
 // What a status shows of one input, for a record and lists that the checks let through.
 ghost use mathlib.Core.Path.{_≡_};
-ghost use mathlib.Core.List.{[]};
-ghost use Prim.Native.Nat.{_≤_};
+ghost use mathlib.Core.List.{List};
+ghost use Prim.Native.Nat.{ℕ, _*_, _≤_};
 ghost use lib.ListN.{length};
-ghost use Rattle.lag_window.specs.Lent.{lent};
-ghost use Rattle.rules_window.specs.Parts.{partOf};
+ghost use Rattle.base.specs.Lists.{part};
+ghost use Rattle.rules_window.specs.ColumnSums.{asOneSecond};
+ghost use Rattle.rules_record.specs.Inputs.{slotAt};
 ghost use Rattle.rules_record.specs.Lent.{lists};
+ghost use Rattle.rules_record.specs.Facts.{OwnSums};
 ghost use Rattle.rules_calls.specs.Status.{sourceOf, channelsShown, proposedMs, lagMs, worstMs, arrivalOf, arrivalIn, statusOf};
 ghost use Rattle.inputs_status.specs.StatusAsked.{Countable, Showable};
 use delay_hold::DelayHold;
@@ -103,31 +105,28 @@ fn arrival_of(half: Quantile, high: Quantile, highest: Quantile) -> Arrival
     Arrival::Of(lag)
 }
 
-// The quantiles of the lags of input i, without a limit.
-fn arrival(window: LagWindow, i: usize, counts: &[u32]) -> Arrival
-    requires { ⌜ Countable window i (now counts) ⌝ }
-    ensures { λ r. ⌜ r ≡ arrivalIn (partOf i (lent window [] [] (now (counts .entry)))) ⌝ }
+// The quantiles of the lags of input i, without a limit, by its row of sums alone.
+fn arrival(window: LagWindow, i: usize, sums: &[u64]) -> Arrival
+    requires { ⌜ Countable window i (now sums) ⌝ }
+    ensures { λ r. ⌜ r ≡ arrivalIn (asOneSecond (window .buckets) (window .width) (part (i * window .buckets) (window .buckets) (now (sums .entry)))) ⌝ }
 {
-    let half = inputs_window::core::quantile_upto(window, i, 0.5, NO_LIMIT, counts);
-    let high = inputs_window::core::quantile_upto(window, i, 0.99, NO_LIMIT, counts);
-    let highest = inputs_window::core::quantile_upto(window, i, 0.999, NO_LIMIT, counts);
+    let half = inputs_window::core::quantile_upto(window, i, 0.5, NO_LIMIT, sums);
+    let high = inputs_window::core::quantile_upto(window, i, 0.99, NO_LIMIT, sums);
+    let highest = inputs_window::core::quantile_upto(window, i, 0.999, NO_LIMIT, sums);
     arrival_of(half, high, highest)
 }
 
-// The status of input i.
+// The status of input i, from its row of sums and its peaks; the contract says it of every list of counts that has these sums.
 pub(crate) fn status(
     inputs: Inputs,
     i: usize,
     applied: u32,
     channels: u32,
-    starts: &[u64],
-    totals: &[u64],
-    counts: &[u32],
-    times: &[u64],
+    sums: &[u64],
     peaks: &[u32],
 ) -> InputStatus
-    requires { ⌜ Showable inputs (lists (now starts) (now totals) (now counts) (now times) (now peaks)) i applied ⌝ }
-    ensures { λ r. ⌜ r ≡ statusOf inputs (lists (now (starts .entry)) (now (totals .entry)) (now (counts .entry)) (now (times .entry)) (now (peaks .entry))) i applied channels ⌝ }
+    requires { ⌜ Showable inputs i applied (now sums) (now peaks) ⌝ }
+    ensures { λ r. ⌜ ((starts totals counts times : List ℕ) → OwnSums inputs (lists starts totals counts (now (sums .entry)) times (now (peaks .entry))) i (slotAt inputs i) → r ≡ statusOf inputs (lists starts totals counts (now (sums .entry)) times (now (peaks .entry))) i applied channels) ⌝ }
 {
     let slot = inputs_slots::slot_at(inputs, i);
     let policy = inputs.policy;
@@ -138,7 +137,7 @@ pub(crate) fn status(
     let extra_delay = config.extra_delay;
     let source = source_of(inputs, to);
     let window = inputs_window::core::window_in(policy, inputs.width, slot);
-    let arrival_lag_ms = arrival(window, i, counts);
+    let arrival_lag_ms = arrival(window, i, sums);
     let from = i * DelayHold::PLACES;
     let end = from + DelayHold::PLACES;
     let worst_lag_ms = worst_ms(slot, &peaks[from..end]);

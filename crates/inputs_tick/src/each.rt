@@ -19,13 +19,14 @@ pub(crate) fn tick_inputs(
     starts: &mut [u64],
     totals: &mut [u64],
     counts: &mut [u32],
+    sums: &mut [u64],
     times: &mut [u64],
     peaks: &mut [u32],
     commands: &mut [u32],
 ) -> Sent
-    requires { ⌜ InputsAsked inputs (lists (now starts) (now totals) (now counts) (now times) (now peaks)) looks (now lags) time ⌝ }
+    requires { ⌜ InputsAsked inputs (lists (now starts) (now totals) (now counts) (now sums) (now times) (now peaks)) looks (now lags) time ⌝ }
     requires { ⌜ inputs .count * 9 ≤ length (now commands) ⌝ }
-    ensures { λ r. ⌜ Effected (inputs .count * 9) (tickedBelow (inputs .count) looks (now (lags .entry)) time inputs (lists (now (starts .entry)) (now (totals .entry)) (now (counts .entry)) (now (times .entry)) (now (peaks .entry)))) r (lists (now (starts .exit)) (now (totals .exit)) (now (counts .exit)) (now (times .exit)) (now (peaks .exit))) (now (commands .entry)) (now (commands .exit)) 0 ⌝ }
+    ensures { λ r. ⌜ Effected (inputs .count * 9) (tickedBelow (inputs .count) looks (now (lags .entry)) time inputs (lists (now (starts .entry)) (now (totals .entry)) (now (counts .entry)) (now (sums .entry)) (now (times .entry)) (now (peaks .entry)))) r (lists (now (starts .exit)) (now (totals .exit)) (now (counts .exit)) (now (sums .exit)) (now (times .exit)) (now (peaks .exit))) (now (commands .entry)) (now (commands .exit)) 0 ⌝ }
 {
     let mut all = inputs;
     let mut used: usize = 0;
@@ -43,6 +44,7 @@ pub(crate) fn tick_inputs(
             starts,
             totals,
             counts,
+            sums,
             times,
             peaks,
             commands,

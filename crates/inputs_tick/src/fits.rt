@@ -68,7 +68,7 @@ fn room_fits(
     totals: &[u64],
 ) -> bool
     requires { ⌜ (slotAt inputs i .«lag_seconds» ≤ 11) × (i * 11 + 11 ≤ length (now starts)) × (i * 11 + 11 ≤ length (now totals)) ⌝ }
-    ensures { λ r. ⌜ ((counts times peaks : List ℕ) → r ≡ roomFor time lags (windowOf inputs (lists (now (starts .entry)) (now (totals .entry)) counts times peaks) i)) ⌝ }
+    ensures { λ r. ⌜ ((counts sums times peaks : List ℕ) → r ≡ roomFor time lags (windowOf inputs (lists (now (starts .entry)) (now (totals .entry)) counts sums times peaks) i)) ⌝ }
 {
     let slot = inputs_slots::slot_at(inputs, i);
     let window = LagWindow {
@@ -87,7 +87,7 @@ pub(crate) fn rooms_fit(
     totals: &[u64],
 ) -> bool
     requires { ⌜ RoomsAsked inputs (length (now starts)) (length (now totals)) ⌝ }
-    ensures { λ r. ⌜ ((counts times peaks : List ℕ) → r ≡ roomsFit inputs (lists (now (starts .entry)) (now (totals .entry)) counts times peaks) looks time) ⌝ }
+    ensures { λ r. ⌜ ((counts sums times peaks : List ℕ) → r ≡ roomsFit inputs (lists (now (starts .entry)) (now (totals .entry)) counts sums times peaks) looks time) ⌝ }
 {
     let mut i: usize = 0;
     while i < inputs.count {

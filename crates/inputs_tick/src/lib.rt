@@ -23,11 +23,12 @@ fn tick_number(
     starts: &[u64],
     totals: &[u64],
     counts: &[u32],
+    sums: &[u64],
     times: &[u64],
     peaks: &[u32],
     words: usize,
 ) -> u32
-    ensures { λ r. ⌜ r ≡ tickNumber inputs (lists (now (starts .entry)) (now (totals .entry)) (now (counts .entry)) (now (times .entry)) (now (peaks .entry))) words looks (now (lags .entry)) time ⌝ }
+    ensures { λ r. ⌜ r ≡ tickNumber inputs (lists (now (starts .entry)) (now (totals .entry)) (now (counts .entry)) (now (sums .entry)) (now (times .entry)) (now (peaks .entry))) words looks (now (lags .entry)) time ⌝ }
     ensures { λ _. ⌜ Sized inputs ⌝ }
 {
     let number = inputs_checks::checks(
@@ -35,6 +36,7 @@ fn tick_number(
         starts,
         totals,
         counts,
+        sums,
         times,
         peaks,
         Output::Words(words),
@@ -66,11 +68,12 @@ pub fn tick(
     starts: &mut [u64],
     totals: &mut [u64],
     counts: &mut [u32],
+    sums: &mut [u64],
     times: &mut [u64],
     peaks: &mut [u32],
     commands: &mut [u32],
 ) -> TickAnswer
-    ensures { λ r. ⌜ told r (lists (now (starts .exit)) (now (totals .exit)) (now (counts .exit)) (now (times .exit)) (now (peaks .exit))) (now (commands .exit)) ≡ tickLeaves inputs (lists (now (starts .entry)) (now (totals .entry)) (now (counts .entry)) (now (times .entry)) (now (peaks .entry))) (now (commands .entry)) looks (now (lags .entry)) time ⌝ }
+    ensures { λ r. ⌜ told r (lists (now (starts .exit)) (now (totals .exit)) (now (counts .exit)) (now (sums .exit)) (now (times .exit)) (now (peaks .exit))) (now (commands .exit)) ≡ tickLeaves inputs (lists (now (starts .entry)) (now (totals .entry)) (now (counts .entry)) (now (sums .entry)) (now (times .entry)) (now (peaks .entry))) (now (commands .entry)) looks (now (lags .entry)) time ⌝ }
 {
     let number = tick_number(
         inputs,
@@ -80,6 +83,7 @@ pub fn tick(
         starts,
         totals,
         counts,
+        sums,
         times,
         peaks,
         commands.len(),
@@ -100,6 +104,7 @@ pub fn tick(
         starts,
         totals,
         counts,
+        sums,
         times,
         peaks,
         commands,

@@ -99,17 +99,27 @@ pub fn tick_input(
     starts: &mut [u64],
     totals: &mut [u64],
     counts: &mut [u32],
+    sums: &mut [u64],
     times: &mut [u64],
     peaks: &mut [u32],
     commands: &mut [u32],
     used: usize,
 ) -> Sent
     requires { ⌜ Sized inputs × (time ≤ timeLimit) ⌝ }
-    requires { ⌜ InputAsked inputs (lists (now starts) (now totals) (now counts) (now times) (now peaks)) i look (length (now lags)) time ⌝ }
+    requires { ⌜ InputAsked inputs (lists (now starts) (now totals) (now counts) (now sums) (now times) (now peaks)) i look (length (now lags)) time ⌝ }
     requires { ⌜ used + 9 ≤ length (now commands) ⌝ }
-    ensures { λ r. ⌜ Effected 9 (tickedInput i look (now (lags .entry)) time inputs (lists (now (starts .entry)) (now (totals .entry)) (now (counts .entry)) (now (times .entry)) (now (peaks .entry)))) r (lists (now (starts .exit)) (now (totals .exit)) (now (counts .exit)) (now (times .exit)) (now (peaks .exit))) (now (commands .entry)) (now (commands .exit)) used ⌝ }
+    ensures { λ r. ⌜ Effected 9 (tickedInput i look (now (lags .entry)) time inputs (lists (now (starts .entry)) (now (totals .entry)) (now (counts .entry)) (now (sums .entry)) (now (times .entry)) (now (peaks .entry)))) r (lists (now (starts .exit)) (now (totals .exit)) (now (counts .exit)) (now (sums .exit)) (now (times .exit)) (now (peaks .exit))) (now (commands .entry)) (now (commands .exit)) used ⌝ }
 {
-    let arrived = inputs_auto_delay::core::arrive(inputs, i, lags, time, starts, totals, counts);
+    let arrived = inputs_auto_delay::core::arrive(
+        inputs,
+        i,
+        lags,
+        time,
+        starts,
+        totals,
+        counts,
+        sums,
+    );
     let max_lag = inputs_auto_delay::core::max_lag(lags);
     let policy = inputs.policy;
     let heard = inputs_auto_delay::core::late_event(policy, arrived, look.applied, max_lag);
@@ -132,7 +142,7 @@ pub fn tick_input(
             max_lag,
             time,
             starts,
-            counts,
+            sums,
             times,
             peaks,
             commands,
@@ -147,7 +157,7 @@ pub fn tick_input(
         max_lag,
         time,
         starts,
-        counts,
+        sums,
         times,
         peaks,
         commands,

@@ -39,11 +39,12 @@ fn update_number(
     starts: &[u64],
     totals: &[u64],
     counts: &[u32],
+    sums: &[u64],
     times: &[u64],
     peaks: &[u32],
     words: usize,
 ) -> u32
-    ensures { λ r. ⌜ r ≡ updateNumber inputs (lists (now (starts .entry)) (now (totals .entry)) (now (counts .entry)) (now (times .entry)) (now (peaks .entry))) words input kind time ⌝ }
+    ensures { λ r. ⌜ r ≡ updateNumber inputs (lists (now (starts .entry)) (now (totals .entry)) (now (counts .entry)) (now (sums .entry)) (now (times .entry)) (now (peaks .entry))) words input kind time ⌝ }
 {
     let number = inputs_checks::input_checks(
         inputs,
@@ -52,6 +53,7 @@ fn update_number(
         starts,
         totals,
         counts,
+        sums,
         times,
         peaks,
         words,
@@ -76,11 +78,12 @@ pub fn update(
     starts: &mut [u64],
     totals: &mut [u64],
     counts: &mut [u32],
+    sums: &mut [u64],
     times: &mut [u64],
     peaks: &mut [u32],
     commands: &mut [u32],
 ) -> InputsAnswer
-    ensures { λ r. ⌜ leftInputs r (lists (now (starts .exit)) (now (totals .exit)) (now (counts .exit)) (now (times .exit)) (now (peaks .exit))) (now (commands .exit)) ≡ updateReply inputs (lists (now (starts .entry)) (now (totals .entry)) (now (counts .entry)) (now (times .entry)) (now (peaks .entry))) (now (commands .entry)) input kind time ⌝ }
+    ensures { λ r. ⌜ leftInputs r (lists (now (starts .exit)) (now (totals .exit)) (now (counts .exit)) (now (sums .exit)) (now (times .exit)) (now (peaks .exit))) (now (commands .exit)) ≡ updateReply inputs (lists (now (starts .entry)) (now (totals .entry)) (now (counts .entry)) (now (sums .entry)) (now (times .entry)) (now (peaks .entry))) (now (commands .entry)) input kind time ⌝ }
 {
     let number = update_number(
         inputs,
@@ -90,6 +93,7 @@ pub fn update(
         starts,
         totals,
         counts,
+        sums,
         times,
         peaks,
         commands.len(),
@@ -107,6 +111,7 @@ pub fn update(
             starts,
             totals,
             counts,
+            sums,
             times,
             peaks,
         );
@@ -130,11 +135,12 @@ pub fn confirm_delay(
     starts: &[u64],
     totals: &[u64],
     counts: &[u32],
+    sums: &[u64],
     times: &[u64],
     peaks: &[u32],
     commands: &mut [u32],
 ) -> InputsAnswer
-    ensures { λ r. ⌜ leftInputs r (lists (now (starts .entry)) (now (totals .entry)) (now (counts .entry)) (now (times .entry)) (now (peaks .entry))) (now (commands .exit)) ≡ confirmReply inputs (lists (now (starts .entry)) (now (totals .entry)) (now (counts .entry)) (now (times .entry)) (now (peaks .entry))) (now (commands .entry)) input time ⌝ }
+    ensures { λ r. ⌜ leftInputs r (lists (now (starts .entry)) (now (totals .entry)) (now (counts .entry)) (now (sums .entry)) (now (times .entry)) (now (peaks .entry))) (now (commands .exit)) ≡ confirmReply inputs (lists (now (starts .entry)) (now (totals .entry)) (now (counts .entry)) (now (sums .entry)) (now (times .entry)) (now (peaks .entry))) (now (commands .entry)) input time ⌝ }
 {
     let number = inputs_checks::input_checks(
         inputs,
@@ -143,6 +149,7 @@ pub fn confirm_delay(
         starts,
         totals,
         counts,
+        sums,
         times,
         peaks,
         commands.len(),

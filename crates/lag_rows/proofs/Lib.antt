@@ -1,3 +1,5 @@
 -- Laws of sums and divisions that the code makes.
-pub mod Tallies
 pub mod Divisions
+pub mod Tallies
+pub mod Taken
+pub mod BlockSums

@@ -10,7 +10,7 @@ use mir.Syntax.{w32, w64}
 use mir.Val.{Fits}
 use lib.Dec.{leb}
 use lib.ListN.{length, getD, set}
-use Rattle.base.specs.Lists.{shifted}
+use Rattle.base.specs.Lists.{shifted, bumped}
 use Rattle.base.specs.Limits.{nanos, bucketsLimit}
 use Rattle.base.proofs.Choices.{by-le}
 use Rattle.base.proofs.Flat.{row-le, flat-lt}
@@ -18,9 +18,13 @@ use Rattle.base.proofs.Toward.{shifted-zero}
 use Rattle.lag_window.specs.declared.LagWindow.{LagWindow}
 use Rattle.rules_window.specs.Window.{stale, opens, bucketOf, counted}
 use Rattle.lag_window.specs.Lent.{lent}
-use Rattle.rules_window.specs.InPlace.{droppedInPlace, openedInPlace}
+use Rattle.rules_window.specs.Quantile.{column}
+use Rattle.rules_window.specs.ColumnSums.{columnSums}
+use Rattle.rules_window.specs.InPlace.{lessRows, droppedInPlace, openedInPlace}
 use Rattle.rules_window.specs.Checks.{newestOf, roomOf}
+use Rattle.rules_window.proofs.ColumnSums.{sums-length}
 use Rattle.rules_window.proofs.Stales.{stale-le, opens-used}
+use Rattle.rules_window.proofs.SumsKept.{dropped-sums, rows-in-sums}
 
 -- ---- old seconds go: k of them
 module _ (t n : ℕ) (xs : List ℕ) (k : ℕ) (e : k ≡ stale t n xs) where
@@ -37,6 +41,20 @@ dropped-by w time k s s′ t t′ c c′ e es et ec = rw (← e, es, et, ec)
 pub dropped-none : (w : LagWindow) (time k : ℕ) (s t c : List ℕ) → k ≡ stale time (w .seconds) s → k ≡ 0 → lent w s t c ≡ droppedInPlace time (lent w s t c)
 unfolding droppedInPlace
 dropped-none w time k s t c e z = rw (← e, z, zero-mul, sub-zero, shifted-zero, shifted-zero, shifted-zero)
+
+-- their lags come off the sums
+module _ (w : LagWindow) (time k : ℕ) (s t c us : List ℕ) (own : us ≡ columnSums (lent w s t c)) (e : k ≡ stale time (w .seconds) s) where
+  pub take-asks : w .seconds ≤ 11 → length c ≡ 11 * w .buckets → ((k ≤ 11) × (length c ≡ 11 * w .buckets) × (length us ≡ w .buckets)) × ((b : ℕ) → b < w .buckets → column (w .buckets) b k c ≤ getD us b 0)
+  take-asks few long = (
+    (omega (arith, stale-le time (w .seconds) s), long, ap length own ∙ sums-length (lent w s t c)),
+    (λ b l. rw own (rows-in-sums k (lent w s t c) (omega (arith, stale-le time (w .seconds) s)) b l)),
+  )
+
+  pub dropped-sums-by : (us′ : List ℕ) → us′ ≡ lessRows (w .buckets) k c us → us′ ≡ columnSums (droppedInPlace time (lent w s t c))
+  dropped-sums-by us′ eu = eu ∙ ((rw (own, e)) ∙ sym (dropped-sums time (lent w s t c)))
+
+  pub dropped-sums-none : k ≡ 0 → us ≡ columnSums (droppedInPlace time (lent w s t c))
+  dropped-sums-none z = own ∙ ap columnSums (dropped-none w time k s t c e z)
 
 -- ---- a second opens
 pub opens-some : (time n : ℕ) (xs : List ℕ) (a : ℕ) → (n ≡ 0 → ⊥) → a ≡ time - getD xs (n - 1) 0 → leb nanos a ≡ opens time n xs
@@ -64,12 +82,18 @@ place-add-fits r B b h k l = omega (arith, flat-lt r 11 B b h l)
 pub place-lt : (r B b : ℕ) → r < 11 → b < B → r * B + b < 11 * B
 place-lt r B b h l = flat-lt r 11 B b h l
 
-pub count-fits : (xs : List ℕ) (p q : ℕ) → p ≡ q → getD xs q 0 < 4294967295 → Fits w32 (getD xs p 0 + 1)
-count-fits xs p q e h = let l : getD xs p 0 < 4294967295 = rw e h in omega arith
+pub count-fits : (xs : List ℕ) (r B b q p : ℕ) → p ≡ r * B + b → b ≡ q → getD xs (r * B + q) 0 < 4294967295 → Fits w32 (getD xs p 0 + 1)
+count-fits xs r B b q p e f h = let l : getD xs p 0 < 4294967295 = rw (e, f) h in omega arith
 
-pub counted-by : (w : LagWindow) (lag p : ℕ) (t c : List ℕ) → p ≡ (w .seconds - 1) * w .buckets + bucketOf lag (w .width) (w .buckets) → (s : List ℕ) → lent w s (set t (w .seconds - 1) (getD t (w .seconds - 1) 0 + 1)) (set c p (getD c p 0 + 1)) ≡ counted lag (lent w s t c)
+pub sum-fits : (xs : List ℕ) (b q : ℕ) → b ≡ q → getD xs q 0 ≤ 47244640245 → Fits w64 (getD xs b 0 + 1)
+sum-fits xs b q e h = let l : getD xs b 0 ≤ 47244640245 = rw e h in omega arith
+
+pub counted-by : (w : LagWindow) (lag b p : ℕ) (t c : List ℕ) → b ≡ bucketOf lag (w .width) (w .buckets) → p ≡ (w .seconds - 1) * w .buckets + b → (s : List ℕ) → lent w s (set t (w .seconds - 1) (getD t (w .seconds - 1) 0 + 1)) (set c p (getD c p 0 + 1)) ≡ counted lag (lent w s t c)
 unfolding counted
-counted-by w lag p t c e s = rw e
+counted-by w lag b p t c f e s = rw (e, f)
+
+pub summed-by : (b q : ℕ) (us : List ℕ) → b ≡ q → set us b (getD us b 0 + 1) ≡ bumped q us
+summed-by b q us e = rw e
 
 -- ---- the newest total
 

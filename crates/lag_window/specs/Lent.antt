@@ -9,5 +9,5 @@ use Rattle.lag_window.specs.declared.WindowAnswer.{WindowAnswer}
 abbrev pub lent : (w : LagWindow) (starts totals counts : List ℕ) → Window
 lent w starts totals counts = windowed (w .seconds) (w .buckets) (w .width) starts totals counts
 
-abbrev pub leftWindow : (r : WindowAnswer) (starts totals counts : List ℕ) → Reply
-leftWindow r starts totals counts = record { number = r .number; window = lent (r .window) starts totals counts }
+abbrev pub leftWindow : (r : WindowAnswer) (starts totals counts sums : List ℕ) → Reply
+leftWindow r starts totals counts sums = record { number = r .number; window = lent (r .window) starts totals counts; sums = sums }

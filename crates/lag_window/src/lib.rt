@@ -10,7 +10,7 @@ use rules_window::SpanAnswer;
 pub mod core;
 
 // How many seconds are in use, how many buckets a second has, and a bucket's width in samples.
-// The lent lists hold, oldest first, the starts and totals of 11 seconds and 11 rows of counts; unused places are zero.
+// The lent lists hold, oldest first, the starts and totals of 11 seconds and 11 rows of counts, unused places zero, and for each bucket the sum of its counts.
 pub struct LagWindow {
     pub seconds: usize,
     pub buckets: usize,
@@ -24,7 +24,7 @@ pub struct WindowAnswer {
 }
 
 impl LagWindow {
-    pub const SECONDS: usize = 11;
+    pub const SECONDS: usize = lag_rows::core::SECONDS;
 
     // A second goes once it is older than this: 10 s.
     pub const LAG_WINDOW: u64 = 10 * base::NANOS;
@@ -36,7 +36,7 @@ impl LagWindow {
     pub(crate) const LATEST: u64 = base::TIME_LIMIT;
 
     // The most lags that one second counts (check 11).
-    pub(crate) const MOST: u64 = 4_294_967_295;
+    pub(crate) const MOST: u64 = lag_rows::core::MOST;
 
     // The checks of `new`, 2, 17, 18 and 5: the number of the first that says no, or 0.
     fn new_number(
@@ -46,8 +46,9 @@ impl LagWindow {
         starts: usize,
         totals: usize,
         counts: usize,
+        sums: usize,
     ) -> u32
-        ensures { λ r. ⌜ r ≡ newNumber offset maximum width starts totals counts ⌝ }
+        ensures { λ r. ⌜ r ≡ newNumber offset maximum width starts totals counts sums ⌝ }
     {
         let number = buckets::ranges_number(offset, maximum, width);
         if number != 0 {
@@ -59,7 +60,11 @@ impl LagWindow {
         if totals != LagWindow::SECONDS {
             return 5;
         }
-        if counts != LagWindow::SECONDS * buckets::core::buckets_of(offset, maximum, width) {
+        let buckets = buckets::core::buckets_of(offset, maximum, width);
+        if counts != LagWindow::SECONDS * buckets {
+            return 5;
+        }
+        if sums != buckets {
             return 5;
         }
         0
@@ -73,8 +78,9 @@ impl LagWindow {
         starts: &mut [u64],
         totals: &mut [u64],
         counts: &mut [u32],
+        sums: &mut [u64],
     ) -> WindowAnswer
-        ensures { λ r. ⌜ leftWindow r (now (starts .exit)) (now (totals .exit)) (now (counts .exit)) ≡ newReply offset maximum width (now (starts .entry)) (now (totals .entry)) (now (counts .entry)) ⌝ }
+        ensures { λ r. ⌜ leftWindow r (now (starts .exit)) (now (totals .exit)) (now (counts .exit)) (now (sums .exit)) ≡ newReply offset maximum width (now (starts .entry)) (now (totals .entry)) (now (counts .entry)) (now (sums .entry)) ⌝ }
     {
         let number = LagWindow::new_number(
             offset,
@@ -83,6 +89,7 @@ impl LagWindow {
             starts.len(),
             totals.len(),
             counts.len(),
+            sums.len(),
         );
         if number != 0 {
             return WindowAnswer {
@@ -100,13 +107,13 @@ impl LagWindow {
             buckets,
             width,
         };
-        let window = core::emptied(made, starts, totals, counts);
+        let window = core::emptied(made, starts, totals, counts, sums);
         WindowAnswer { number, window }
     }
 
     // The checks that every call on a window makes: 17, 18, 5 and 6.
-    fn number(self, starts: &[u64], totals: &[u64], counts: &[u32]) -> u32
-        ensures { λ r. ⌜ r ≡ checked (lent self (now (starts .entry)) (now (totals .entry)) (now (counts .entry))) 0 ⌝ }
+    fn number(self, starts: &[u64], totals: &[u64], counts: &[u32], sums: &[u64]) -> u32
+        ensures { λ r. ⌜ r ≡ checked (lent self (now (starts .entry)) (now (totals .entry)) (now (counts .entry))) (now (sums .entry)) 0 ⌝ }
     {
         if !buckets::width_allowed(self.width) {
             return 17;
@@ -123,17 +130,27 @@ impl LagWindow {
         if counts.len() != LagWindow::SECONDS * self.buckets {
             return 5;
         }
-        if !core::whole(self, starts, totals, counts) {
+        if sums.len() != self.buckets {
+            return 5;
+        }
+        if !core::whole(self, starts, totals, counts, sums) {
             return 6;
         }
         0
     }
 
     // The checks of a push: those of a window, then 8 and 11.
-    fn push_number(self, time: u64, starts: &[u64], totals: &[u64], counts: &[u32]) -> u32
-        ensures { λ r. ⌜ r ≡ pushNumber time (lent self (now (starts .entry)) (now (totals .entry)) (now (counts .entry))) ⌝ }
+    fn push_number(
+        self,
+        time: u64,
+        starts: &[u64],
+        totals: &[u64],
+        counts: &[u32],
+        sums: &[u64],
+    ) -> u32
+        ensures { λ r. ⌜ r ≡ pushNumber time (lent self (now (starts .entry)) (now (totals .entry)) (now (counts .entry))) (now (sums .entry)) ⌝ }
     {
-        let number = self.number(starts, totals, counts);
+        let number = self.number(starts, totals, counts, sums);
         if number != 0 {
             return number;
         }
@@ -154,40 +171,47 @@ impl LagWindow {
         starts: &mut [u64],
         totals: &mut [u64],
         counts: &mut [u32],
+        sums: &mut [u64],
     ) -> WindowAnswer
-        ensures { λ r. ⌜ leftWindow r (now (starts .exit)) (now (totals .exit)) (now (counts .exit)) ≡ pushReply lag time (lent self (now (starts .entry)) (now (totals .entry)) (now (counts .entry))) ⌝ }
+        ensures { λ r. ⌜ leftWindow r (now (starts .exit)) (now (totals .exit)) (now (counts .exit)) (now (sums .exit)) ≡ pushReply lag time (lent self (now (starts .entry)) (now (totals .entry)) (now (counts .entry))) (now (sums .entry)) ⌝ }
     {
-        let number = self.push_number(time, starts, totals, counts);
+        let number = self.push_number(time, starts, totals, counts, sums);
         if number != 0 {
             return WindowAnswer {
                 number,
                 window: self,
             };
         }
-        let window = core::push(self, lag, time, starts, totals, counts);
+        let window = core::push(self, lag, time, starts, totals, counts, sums);
         WindowAnswer { number, window }
     }
 
     // Forgets every second.
-    pub fn clear(self, starts: &mut [u64], totals: &mut [u64], counts: &mut [u32]) -> WindowAnswer
-        ensures { λ r. ⌜ leftWindow r (now (starts .exit)) (now (totals .exit)) (now (counts .exit)) ≡ clearReply (lent self (now (starts .entry)) (now (totals .entry)) (now (counts .entry))) ⌝ }
+    pub fn clear(
+        self,
+        starts: &mut [u64],
+        totals: &mut [u64],
+        counts: &mut [u32],
+        sums: &mut [u64],
+    ) -> WindowAnswer
+        ensures { λ r. ⌜ leftWindow r (now (starts .exit)) (now (totals .exit)) (now (counts .exit)) (now (sums .exit)) ≡ clearReply (lent self (now (starts .entry)) (now (totals .entry)) (now (counts .entry))) (now (sums .entry)) ⌝ }
     {
-        let number = self.number(starts, totals, counts);
+        let number = self.number(starts, totals, counts, sums);
         if number != 0 {
             return WindowAnswer {
                 number,
                 window: self,
             };
         }
-        let window = core::emptied(self, starts, totals, counts);
+        let window = core::emptied(self, starts, totals, counts, sums);
         WindowAnswer { number, window }
     }
 
     // From the first to the last second in use: one second of lags at least before the first automatic setting.
-    pub fn span(self, starts: &[u64], totals: &[u64], counts: &[u32]) -> SpanAnswer
-        ensures { λ r. ⌜ r ≡ spanReply (lent self (now (starts .entry)) (now (totals .entry)) (now (counts .entry))) ⌝ }
+    pub fn span(self, starts: &[u64], totals: &[u64], counts: &[u32], sums: &[u64]) -> SpanAnswer
+        ensures { λ r. ⌜ r ≡ spanReply (lent self (now (starts .entry)) (now (totals .entry)) (now (counts .entry))) (now (sums .entry)) ⌝ }
     {
-        let number = self.number(starts, totals, counts);
+        let number = self.number(starts, totals, counts, sums);
         if number != 0 {
             return SpanAnswer { number, span: 0 };
         }
@@ -206,10 +230,17 @@ impl LagWindow {
     }
 
     // The checks of a quantile: those of a window, then 14.
-    fn quantile_number(self, q: f64, starts: &[u64], totals: &[u64], counts: &[u32]) -> u32
-        ensures { λ r. ⌜ r ≡ quantileNumber q (lent self (now (starts .entry)) (now (totals .entry)) (now (counts .entry))) ⌝ }
+    fn quantile_number(
+        self,
+        q: f64,
+        starts: &[u64],
+        totals: &[u64],
+        counts: &[u32],
+        sums: &[u64],
+    ) -> u32
+        ensures { λ r. ⌜ r ≡ quantileNumber q (lent self (now (starts .entry)) (now (totals .entry)) (now (counts .entry))) (now (sums .entry)) ⌝ }
     {
-        let number = self.number(starts, totals, counts);
+        let number = self.number(starts, totals, counts, sums);
         if number != 0 {
             return number;
         }
@@ -220,10 +251,17 @@ impl LagWindow {
     }
 
     // The end of the bucket that holds quantile q of all lags. Lags beyond the window's range share its top bucket.
-    pub fn quantile(self, q: f64, starts: &[u64], totals: &[u64], counts: &[u32]) -> Quantile
-        ensures { λ r. ⌜ r ≡ quantileReply q (lent self (now (starts .entry)) (now (totals .entry)) (now (counts .entry))) ⌝ }
+    pub fn quantile(
+        self,
+        q: f64,
+        starts: &[u64],
+        totals: &[u64],
+        counts: &[u32],
+        sums: &[u64],
+    ) -> Quantile
+        ensures { λ r. ⌜ r ≡ quantileReply q (lent self (now (starts .entry)) (now (totals .entry)) (now (counts .entry))) (now (sums .entry)) ⌝ }
     {
-        self.quantile_upto(q, 4_294_967_295, starts, totals, counts)
+        self.quantile_upto(q, 4_294_967_295, starts, totals, counts, sums)
     }
 
     // The end of the bucket that holds quantile q of the lags up to limit: a lag beyond it must not move an automatic delay.
@@ -234,13 +272,14 @@ impl LagWindow {
         starts: &[u64],
         totals: &[u64],
         counts: &[u32],
+        sums: &[u64],
     ) -> Quantile
-        ensures { λ r. ⌜ r ≡ quantileUptoReply q limit (lent self (now (starts .entry)) (now (totals .entry)) (now (counts .entry))) ⌝ }
+        ensures { λ r. ⌜ r ≡ quantileUptoReply q limit (lent self (now (starts .entry)) (now (totals .entry)) (now (counts .entry))) (now (sums .entry)) ⌝ }
     {
-        let number = self.quantile_number(q, starts, totals, counts);
+        let number = self.quantile_number(q, starts, totals, counts, sums);
         if number != 0 {
             return Quantile::Refused(number);
         }
-        lag_rows::core::quantile_upto(self.seconds, self.buckets, self.width, q, limit, counts)
+        lag_rows::quantile::quantile_upto(self.buckets, self.width, q, limit, sums)
     }
 }

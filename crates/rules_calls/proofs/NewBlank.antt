@@ -17,6 +17,9 @@ use Rattle.doubles.proofs.Values.{is}
 use denote.Floats.{is-true}
 use Rattle.rules_window.specs.Window.{fresh}
 use Rattle.rules_window.specs.WholeWindow.{wholeWindow}
+use Rattle.rules_window.specs.ColumnSums.{rightSums}
+use Rattle.rules_window.proofs.ColumnSums.{own-sums-right}
+use Rattle.rules_window.proofs.SumsKept.{fresh-sums}
 use Rattle.delay_hold.specs.Next.{held, freshHold}
 use Rattle.delay_hold.specs.Whole.{wholeHold}
 use Rattle.rules_record.specs.declared.Slot.{Slot}
@@ -28,7 +31,7 @@ use Rattle.rules_record.specs.Sized.{Sized}
 use Rattle.rules_record.specs.Flows.{emptyEntry, entryAt, known, distinctFlows}
 use Rattle.rules_record.specs.Instances as keys
 use Rattle.rules_record.specs.Instances.{noKey, keyAt, distinctKeys}
-use Rattle.rules_record.specs.Lent.{Lists, bucketsIn, windowOf, heldOf}
+use Rattle.rules_record.specs.Lent.{Lists, bucketsIn, windowOf, sumsOf, heldOf}
 use Rattle.rules_record.specs.WholePlaces.{routeFits}
 use Rattle.rules_record.specs.Checks.{Long, Fitting, Allowed}
 use Rattle.rules_record.specs.Facts.{WholeSlot, WholeFlows, WholeInstances, Checked}
@@ -52,6 +55,7 @@ zeroed-long n buckets l long = record {
   starts = length-replicate {A = ℕ} (length (l .starts)) 0 ∙ long .starts;
   totals = length-replicate {A = ℕ} (length (l .totals)) 0 ∙ long .totals;
   counts = length-replicate {A = ℕ} (length (l .counts)) 0 ∙ long .counts;
+  sums = length-replicate {A = ℕ} (length (l .sums)) 0 ∙ long .sums;
   times = length-replicate {A = ℕ} (length (l .times)) 0 ∙ long .times;
   peaks = length-replicate {A = ℕ} (length (l .peaks)) 0 ∙ long .peaks;
 }
@@ -104,6 +108,9 @@ module _ (settings : Settings) (l : Lists) (allowed : Allowed (settings .count) 
     pub zeroed-counts : part (i * (11 * bucketsIn (blankFor settings))) (11 * bucketsIn (blankFor settings)) (zeroedLists l .counts) ≡ replicate (11 * bucketsIn (blankFor settings)) 0
     zeroed-counts = zeros-block (settings .count) (11 * bucketsIn (blankFor settings)) i _ (long .counts) h
 
+    pub zeroed-sums : part (i * bucketsIn (blankFor settings)) (bucketsIn (blankFor settings)) (zeroedLists l .sums) ≡ replicate (bucketsIn (blankFor settings)) 0
+    zeroed-sums = zeros-block (settings .count) (bucketsIn (blankFor settings)) i _ (long .sums) h
+
     pub zeroed-times : part (i * 600) 600 (zeroedLists l .times) ≡ replicate 600 0
     zeroed-times = zeros-block (settings .count) 600 i _ (long .times) h
 
@@ -122,6 +129,11 @@ module _ (settings : Settings) (l : Lists) (allowed : Allowed (settings .count) 
           counts = zeroed-counts t;
         }
 
+    blank-sums : rightSums (windowOf (blankFor settings) (zeroedLists l) i) (sumsOf (blankFor settings) (zeroedLists l) i) ≡ true
+    blank-sums =
+        (λ t. rightSums (blank-window t) ((zeroed-sums ∙ sym (fresh-sums (bucketsIn (blankFor settings)) (settings .width))) t))
+        ∙ own-sums-right (fresh (bucketsIn (blankFor settings)) (settings .width))
+
     blank-held : heldOf (blankFor settings) (zeroedLists l) i ≡ held freshHold (replicate 600 0) (replicate 600 0)
     unfolding emptySlot
     blank-held = λ t. record { hold = blank-slot settings i t .hold; times = zeroed-times t; lags = zeroed-lags t }
@@ -136,6 +148,7 @@ module _ (settings : Settings) (l : Lists) (allowed : Allowed (settings .count) 
           inputs = λ i h.
               record {
                 window = ap wholeWindow (blank-window i h) ∙ fresh-whole (bucketsIn (blankFor settings)) (settings .width);
+                sums = blank-sums i h;
                 hold =
                     ap (wholeHold (policyOf settings) (settings .width)) (blank-held i h)
                     ∙ cleared-whole (policyOf settings) (settings .width) (held freshHold (replicate 600 0) (replicate 600 0)) (allowed .window-least);

@@ -1,7 +1,7 @@
 -- What a status shows, part by part, and what its functions ask of a record that was checked. Assumes nothing.
 use Prim.Native.Nat.{ℕ, _-_}
 use mathlib.Core.Path.{_≡_, refl, sym, ap, _∙_}
-use mathlib.Core.List.{[], _∷_}
+use mathlib.Core.List.{List, [], _∷_}
 use mathlib.Core.Logic.{⊎-elim}
 use native.Mathlib.Omega.{arith}
 use denote.Enum.Declared.{tagOf}
@@ -13,6 +13,8 @@ use Rattle.rules_window.specs.declared.Quantile.the-variants as Quantile
 use Rattle.rules_window.proofs.Quantile.{the-type}
 use Rattle.rules_window.specs.Window.{Window}
 use Rattle.rules_window.specs.Quantile.{quantileOf, thousandths}
+use Rattle.rules_window.specs.ColumnSums.{columnSums, asOneSecond}
+use Rattle.rules_window.proofs.OneSecond.{same-quantile}
 use Rattle.rules_record.specs.declared.Flow.{Flow}
 use Rattle.rules_record.specs.declared.Route.{Route}
 use Rattle.rules_record.specs.declared.Routed.{Routed}
@@ -66,6 +68,13 @@ unfolding arrivalIn
 arrival-by w is-half half-at is-high high-at is-highest highest-at =
     (λ t. arrivalOf (is-half t) (is-high t) (is-highest t))
     ∙ (λ t. arrivalOf (quantileOf (half-at t) w) (quantileOf (high-at t) w) (quantileOf (highest-at t) w))
+
+-- .. of the row of sums alone: "Past the checks, quantiles read only this row"
+pub arrival-row : (w : Window) {sums : List ℕ} → sums ≡ columnSums w → arrivalIn (asOneSecond (w .buckets) (w .width) sums) ≡ arrivalIn w
+unfolding arrivalIn
+arrival-row w own =
+    ap (λ (row : List ℕ). arrivalIn (asOneSecond (w .buckets) (w .width) row)) own
+    ∙ (λ t. arrivalOf (same-quantile w 4294967295 (thousandths 500) t) (same-quantile w 4294967295 (thousandths 990) t) (same-quantile w 4294967295 (thousandths 999) t))
 
 -- ---- the route
 pub source-there : (s : Inputs) {to : Routed} {route : Route} {flow : Flow} → to ≡ To route → flow ≡ flowAt s (route .flow) → From (record { flow = flow; domain = route .domain }) ≡ sourceOf s to

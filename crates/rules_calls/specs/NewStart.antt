@@ -39,12 +39,12 @@ unfoldable pub startedBelow : (n : ℕ) (kinds : List ExtraDelay) (time : ℕ) (
 startedBelow zero kinds time s = quiet s
 startedBelow (suc n) kinds time s = thenDone (startedBelow n kinds time s) (startedOne n (kindAt kinds n) time)
 
--- the making of windows and holds "writes every lent place"
+-- the making of windows and holds "writes every lent place"; document 02, §5: "a fresh start must .. leave it true", and the sums of no lags are zeros
 abbrev pub zeroed : List ℕ → List ℕ
 zeroed places = replicate (length places) 0
 
 abbrev pub zeroedLists : Lists → Lists
-zeroedLists l = lists (zeroed (l .starts)) (zeroed (l .totals)) (zeroed (l .counts)) (zeroed (l .times)) (zeroed (l .peaks))
+zeroedLists l = lists (zeroed (l .starts)) (zeroed (l .totals)) (zeroed (l .counts)) (zeroed (l .sums)) (zeroed (l .times)) (zeroed (l .peaks))
 
 -- the record with the loaded delays
 abbrev pub loaded : (settings : Settings) (bytes delays : List ℕ) → Inputs

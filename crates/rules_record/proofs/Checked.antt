@@ -75,12 +75,14 @@ module _ (n buckets : ℕ) (l : Lists) where
       let d2 = both-true _ _ (d .1) in
       let d3 = both-true _ _ (d2 .1) in
       let d4 = both-true _ _ (d3 .1) in
+      let d5 = both-true _ _ (d4 .1) in
       record {
         starts = eqb-true _ _ (d .0);
         totals = eqb-true _ _ (d2 .0);
         counts = eqb-true _ _ (d3 .0);
-        times = eqb-true _ _ (d4 .0);
-        peaks = eqb-true _ _ (d4 .1);
+        sums = eqb-true _ _ (d4 .0);
+        times = eqb-true _ _ (d5 .0);
+        peaks = eqb-true _ _ (d5 .1);
       }
 
   pub five-yes : Long n buckets l → listsFit n buckets l ≡ true
@@ -88,7 +90,7 @@ module _ (n buckets : ℕ) (l : Lists) where
   five-yes f =
       true-both _ _ (eq-eqb _ _ (f .starts))
       (true-both _ _ (eq-eqb _ _ (f .totals))
-      (true-both _ _ (eq-eqb _ _ (f .counts)) (true-both _ _ (eq-eqb _ _ (f .times)) (eq-eqb _ _ (f .peaks)))))
+      (true-both _ _ (eq-eqb _ _ (f .counts)) (true-both _ _ (eq-eqb _ _ (f .sums)) (true-both _ _ (eq-eqb _ _ (f .times)) (eq-eqb _ _ (f .peaks))))))
 
 -- ---- 1 to 6
 

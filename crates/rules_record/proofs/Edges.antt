@@ -1,18 +1,22 @@
 -- Document 01's sentences about one input and the two tables, each at its edge. Assumes nothing.
 use Prim.Native.Nat.{ℕ, _<_, _≤_}
 use mathlib.Core.Bool.{Bool, true, false, not}
-use mathlib.Core.Path.{_≡_, refl, ap, _∙_}
+use mathlib.Core.Path.{_≡_, refl, sym, ap, _∙_}
 use mathlib.Core.List.{[], _∷_}
 use lib.ListN.{replicate}
 use Rattle.base.specs.Choice.{pick, both}
 use Rattle.policy.specs.declared.DelayPolicy.{DelayPolicy}
 use Rattle.policy.specs.Settings.{timesAllowed}
 use Rattle.rules_record.specs.declared.Output.the-variants.{Absent, Words, Bytes}
-use Rattle.rules_record.specs.Lent.{Lists, lists}
+use Rattle.rules_record.specs.Lent.{Lists, lists, windowOf, sumsOf}
+use Rattle.rules_record.specs.WholeRecord.{wholeInput}
+use Rattle.rules_window.specs.WholeWindow.{wholeWindow, wholeWithSums}
+use Rattle.rules_window.specs.ColumnSums.{rightSums}
 use Rattle.rules_record.specs.Checks.{pausesAllowed, listsFit, outputFits, inputsAllowed}
 use lib.Dec.{ltb}
 use lib.Ieee.{Float}
 use borrow.Author.Tests.{eq-eqb, ne-eqb, lt-ltb, le-ltb}
+use Rattle.base.proofs.All.{both-no}
 use Rattle.base.proofs.Choices.{yes-pick, no-pick, pick-all}
 use Rattle.rules_record.specs.declared.AutoTag.{AutoTag}
 use Rattle.rules_record.specs.declared.ExtraDelay.the-variants.{Auto, Ms}
@@ -100,6 +104,13 @@ pub unrouted-exactly-without-a-route :
 unfolding both routeFits
 unrouted-exactly-without-a-route = refl
 
+-- 6: "requires each sum to be right": an input with a wrong one is not whole, whatever else it is
+pub wrong-sum-breaks : (s : Inputs) (l : Lists) (i : ℕ) → rightSums (windowOf s l i) (sumsOf s l i) ≡ false → wholeInput s l i ≡ false
+unfolding wholeInput both
+wrong-sum-breaks s l i wrong =
+    let broken : wholeWithSums (windowOf s l i) (sumsOf s l i) ≡ false = rw wrong (pick-all (λ (b : Bool). b ≡ false) (wholeWindow (windowOf s l i)) refl refl) in
+    sym (both-no _ _ broken)
+
 -- 6: "times within 8", of the last SetDelay and (document 02, §4) of the last SetInput: the limit passes, a nanosecond more does not
 pub times-up-to-the-limit :
     wholeSlot 0 0 (withDelay emptySlot 0 4_000_000_000_000_000_000)
@@ -162,19 +173,21 @@ pub stall-up-to-600-s : (policy : DelayPolicy) → timesAllowed policy ≡ true
 unfolding pausesAllowed both
 stall-up-to-600-s policy fine = λ t. pick (fine t) true false ∷ pick (fine t) false false ∷ []
 
--- 5: "11 seconds and 600 peaks an input", and "commands 12 words an input": of 2 inputs with 3 buckets
-abbrev lengths : (starts totals counts times peaks : ℕ) → Lists
-lengths starts totals counts times peaks = lists (replicate starts 0) (replicate totals 0) (replicate counts 0) (replicate times 0) (replicate peaks 0)
+-- 5: "11 seconds and 600 peaks an input", "one more row for each input", and "commands 12 words an input": of 2 inputs with 3 buckets
+abbrev lengths : (starts totals counts sums times peaks : ℕ) → Lists
+lengths starts totals counts sums times peaks = lists (replicate starts 0) (replicate totals 0) (replicate counts 0) (replicate sums 0) (replicate times 0) (replicate peaks 0)
 
 pub exact-lengths :
-    listsFit 2 3 (lengths 22 22 66 1200 1200)
-    ∷ listsFit 2 3 (lengths 21 22 66 1200 1200)
-    ∷ listsFit 2 3 (lengths 22 23 66 1200 1200)
-    ∷ listsFit 2 3 (lengths 22 22 65 1200 1200)
-    ∷ listsFit 2 3 (lengths 22 22 66 1201 1200)
-    ∷ listsFit 2 3 (lengths 22 22 66 1200 1199)
+    listsFit 2 3 (lengths 22 22 66 6 1200 1200)
+    ∷ listsFit 2 3 (lengths 21 22 66 6 1200 1200)
+    ∷ listsFit 2 3 (lengths 22 23 66 6 1200 1200)
+    ∷ listsFit 2 3 (lengths 22 22 65 6 1200 1200)
+    ∷ listsFit 2 3 (lengths 22 22 66 5 1200 1200)
+    ∷ listsFit 2 3 (lengths 22 22 66 7 1200 1200)
+    ∷ listsFit 2 3 (lengths 22 22 66 6 1201 1200)
+    ∷ listsFit 2 3 (lengths 22 22 66 6 1200 1199)
     ∷ []
-    ≡ true ∷ false ∷ false ∷ false ∷ false ∷ false ∷ []
+    ≡ true ∷ false ∷ false ∷ false ∷ false ∷ false ∷ false ∷ false ∷ []
 unfolding listsFit both
 exact-lengths = refl
 

@@ -60,12 +60,13 @@ module _ (s : Inputs) (l : Lists) (i : ℕ) where
   unfolding wholeInput
   input-of h =
       let t1 = both-true _ _ h in
-      let t2 = both-true _ _ (t1 .1) in
-      record { window = t1 .0; hold = t2 .0; slot = slot-of _ _ _ (t2 .1) }
+      let t2 = both-true _ _ (t1 .0) in
+      let t3 = both-true _ _ (t1 .1) in
+      record { window = t2 .0; sums = t2 .1; hold = t3 .0; slot = slot-of _ _ _ (t3 .1) }
 
   pub of-input : WholeInput s l i → wholeInput s l i ≡ true
   unfolding wholeInput
-  of-input w = true-both _ _ (w .window) (true-both _ _ (w .hold) (of-slot _ _ _ (w .slot)))
+  of-input w = true-both _ _ (true-both _ _ (w .window) (w .sums)) (true-both _ _ (w .hold) (of-slot _ _ _ (w .slot)))
 
 -- ---- the tables
 module _ (s : Inputs) where

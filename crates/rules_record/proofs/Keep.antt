@@ -11,6 +11,8 @@ use Rattle.base.proofs.Choices.{by-bool}
 use Rattle.rules_window.specs.Window.{Window, fresh, windowed}
 use Rattle.rules_window.specs.WholeWindow.{wholeWindow, Sound}
 use Rattle.rules_window.specs.Parts.{partOf}
+use Rattle.rules_window.specs.ColumnSums.{rightSums}
+use Rattle.rules_window.proofs.ColumnSums.{own-sums-right}
 use Rattle.delay_hold.specs.Next.{Held, held, freshHold, clearedHold}
 use Rattle.delay_hold.specs.Whole.{wholeHold}
 use Rattle.rules_record.specs.declared.Slot.{Slot}
@@ -21,9 +23,9 @@ use Rattle.rules_record.specs.Flows.{entryAt, flowAt, known}
 use Rattle.rules_record.proofs.FlowTable.{distinct-cong}
 use Rattle.rules_record.specs.Instances.{keyAt, keyBelow, distinctKeys}
 use Rattle.rules_record.specs.Instances as keys
-use Rattle.rules_record.specs.Lent.{Lists, bucketsIn, windowFor, heldFor, windowOf, heldOf, withWindow, withHeld}
+use Rattle.rules_record.specs.Lent.{Lists, bucketsIn, windowFor, heldFor, windowOf, sumsOf, heldOf, withWindow, withHeld}
 use Rattle.rules_record.specs.Facts.{WholeSlot, WholeInput, WholeFlows, WholeInstances, Checked}
-use Rattle.rules_record.proofs.Beside.{Beside, beside-same, beside-window, beside-held, beside-then, window-same, held-same}
+use Rattle.rules_record.proofs.Beside.{Beside, beside-same, beside-window, beside-held, beside-then, window-same, sums-same, held-same}
 use Rattle.rules_record.proofs.Shapes.{held-times, held-lags, fresh-sound, cleared-whole}
 
 -- ---- the slot and the lists of input i
@@ -61,6 +63,10 @@ module _ (s : Inputs) (l m : Lists) (i : ℕ) (slot : Slot) (c : Checked s l) (h
         counts = beside .counts j g apart t;
       })
 
+  pub sums-other : (j : ℕ) → j < s .count → (j ≡ i → ⊥) → sumsOf (putSlot s i slot) m j ≡ sumsOf s l j
+  unfolding bucketsIn
+  sums-other j g apart = ap (λ (z : Inputs). sumsOf z m j) put-is ∙ beside .sums j g apart
+
   pub held-other : (j : ℕ) → j < s .count → (j ≡ i → ⊥) → heldOf (putSlot s i slot) m j ≡ heldOf s l j
   held-other j g apart =
       ap (λ (z : Inputs). heldOf z m j) put-is
@@ -71,6 +77,7 @@ module _ (s : Inputs) (l m : Lists) (i : ℕ) (slot : Slot) (c : Checked s l) (h
       let w : WholeInput s l j = c .whole .inputs j g in
       record {
         window = ap wholeWindow (ap (λ (z : Inputs). windowOf z m j) (sym put-is) ∙ window-other j g apart) ∙ w .window;
+        sums = (λ t. rightSums (windowOf (sym put-is t) m j) (sumsOf (sym put-is t) m j)) ∙ (λ t. rightSums (window-other j g apart t) (sums-other j g apart t)) ∙ w .sums;
         hold = ap (wholeHold (s .policy) (s .width)) (ap (λ (z : Inputs). heldOf z m j) (sym put-is) ∙ held-other j g apart) ∙ w .hold;
         slot = subst (λ (x : Slot). WholeSlot (s .policy .«delay_max») (s .«flow_count») x) (sym (there j apart)) (w .slot);
       }
@@ -94,9 +101,9 @@ module _ (s : Inputs) (l m : Lists) (i : ℕ) (slot : Slot) (c : Checked s l) (h
   }
 
   -- a new slot and new lists of input i that are whole: the record stays whole
-  pub input-keeps : wholeWindow (windowFor s m i slot) ≡ true → wholeHold (s .policy) (s .width) (heldFor m i slot) ≡ true → WholeSlot (s .policy .«delay_max») (s .«flow_count») slot → Checked (putSlot s i slot) m
+  pub input-keeps : wholeWindow (windowFor s m i slot) ≡ true → rightSums (windowFor s m i slot) (sumsOf s m i) ≡ true → wholeHold (s .policy) (s .width) (heldFor m i slot) ≡ true → WholeSlot (s .policy .«delay_max») (s .«flow_count») slot → Checked (putSlot s i slot) m
   unfolding bucketsIn
-  input-keeps window hold fits =
+  input-keeps window sums hold fits =
       subst (λ (z : Inputs). Checked z m) (sym put-is)
       (record {
         fitting = record { allowed = c .fitting .allowed; long = beside .long };
@@ -113,6 +120,7 @@ module _ (s : Inputs) (l m : Lists) (i : ℕ) (slot : Slot) (c : Checked s l) (h
       new-input : WholeInput after m i
       new-input = record {
         window = (λ t. wholeWindow (windowFor s m i (here t))) ∙ window;
+        sums = (λ t. rightSums (windowFor s m i (here t)) (sumsOf s m i)) ∙ sums;
         hold = (λ t. wholeHold (s .policy) (s .width) (heldFor m i (here t))) ∙ hold;
         slot = subst (λ (x : Slot). WholeSlot (s .policy .«delay_max») (s .«flow_count») x) (sym here) fits;
       }
@@ -124,13 +132,19 @@ module _ (s : Inputs) (l : Lists) (i : ℕ) (slot : Slot) (c : Checked s l) (h :
     counts-long = sound .shaped .counts-long ∙ ap (λ (b : ℕ). 11 * b) buckets
 
     pub window-beside : Beside (s .count) (bucketsIn s) i l (withWindow (bucketsIn s) i w l)
-    window-beside = beside-window (s .count) (bucketsIn s) i l (c .fitting .long) h w (sound .shaped .starts-long) (sound .shaped .totals-long) counts-long
+    window-beside = beside-window (s .count) (bucketsIn s) i l (c .fitting .long) h w (sound .shaped .starts-long) (sound .shaped .totals-long) counts-long buckets
 
     pub window-read : slot .«lag_seconds» ≡ w .seconds → windowFor s (withWindow (bucketsIn s) i w l) i slot ≡ w
     window-read e =
         (λ t. partOf i (windowed (e t) (bucketsIn s) (s .width) (withWindow (bucketsIn s) i w l .starts) (withWindow (bucketsIn s) i w l .totals) (withWindow (bucketsIn s) i w l .counts)))
-        ∙ window-same (s .count) (bucketsIn s) i l (c .fitting .long) h w (sound .shaped .starts-long) (sound .shaped .totals-long) counts-long (s .width)
+        ∙ window-same (s .count) (bucketsIn s) i l (c .fitting .long) h w (sound .shaped .starts-long) (sound .shaped .totals-long) counts-long buckets (s .width)
         ∙ (λ t. record { seconds = w .seconds; buckets = sym buckets t; width = sym width t; starts = w .starts; totals = w .totals; counts = w .counts })
+
+    -- the sums that stand there now are right
+    pub sums-read : slot .«lag_seconds» ≡ w .seconds → rightSums (windowFor s (withWindow (bucketsIn s) i w l) i slot) (sumsOf s (withWindow (bucketsIn s) i w l) i) ≡ true
+    sums-read e =
+        (λ t. rightSums (window-read e t) (sums-same (s .count) (bucketsIn s) i l (c .fitting .long) h w (sound .shaped .starts-long) (sound .shaped .totals-long) counts-long buckets t))
+        ∙ own-sums-right w
 
   module _ (v : Held) (times : length (v .times) ≡ 600) (lags : length (v .lags) ≡ 600) where
     pub held-beside : Beside (s .count) (bucketsIn s) i l (withHeld i v l)
@@ -143,11 +157,16 @@ module _ (s : Inputs) (l : Lists) (i : ℕ) (slot : Slot) (c : Checked s l) (h :
 
   -- ---- the record stays checked
   module _ (fits : WholeSlot (s .policy .«delay_max») (s .«flow_count») slot) where
-    -- the window and the hold of the old slot serve the new one
+    -- the window, its sums and the hold of the old slot serve the new one
     old-window : slot .«lag_seconds» ≡ slotAt s i .«lag_seconds» → wholeWindow (windowFor s l i slot) ≡ true
     old-window e =
         (λ t. wholeWindow (partOf i (windowed (e t) (bucketsIn s) (s .width) (l .starts) (l .totals) (l .counts))))
         ∙ c .whole .inputs i h .window
+
+    old-sums : slot .«lag_seconds» ≡ slotAt s i .«lag_seconds» → rightSums (windowFor s l i slot) (sumsOf s l i) ≡ true
+    old-sums e =
+        (λ t. rightSums (partOf i (windowed (e t) (bucketsIn s) (s .width) (l .starts) (l .totals) (l .counts))) (sumsOf s l i))
+        ∙ c .whole .inputs i h .sums
 
     old-hold : slot .hold ≡ slotAt s i .hold → wholeHold (s .policy) (s .width) (heldFor l i slot) ≡ true
     old-hold e =
@@ -156,7 +175,7 @@ module _ (s : Inputs) (l : Lists) (i : ℕ) (slot : Slot) (c : Checked s l) (h :
 
     -- the slot is changed, but for its seconds and its hold
     pub slot-keeps : slot .«lag_seconds» ≡ slotAt s i .«lag_seconds» → slot .hold ≡ slotAt s i .hold → Checked (putSlot s i slot) l
-    slot-keeps seconds hold = input-keeps s l l i slot c h (beside-same (s .count) (bucketsIn s) i l (c .fitting .long)) (old-window seconds) (old-hold hold) fits
+    slot-keeps seconds hold = input-keeps s l l i slot c h (beside-same (s .count) (bucketsIn s) i l (c .fitting .long)) (old-window seconds) (old-sums seconds) (old-hold hold) fits
 
     module _ (w : Window) (sound : Sound w) (buckets : w .buckets ≡ bucketsIn s) (width : w .width ≡ s .width) where
       new-window : slot .«lag_seconds» ≡ w .seconds → wholeWindow (windowFor s (withWindow (bucketsIn s) i w l) i slot) ≡ true
@@ -164,7 +183,7 @@ module _ (s : Inputs) (l : Lists) (i : ℕ) (slot : Slot) (c : Checked s l) (h :
 
       -- the window is replaced too
       pub window-keeps : slot .«lag_seconds» ≡ w .seconds → slot .hold ≡ slotAt s i .hold → Checked (putSlot s i slot) (withWindow (bucketsIn s) i w l)
-      window-keeps seconds hold = input-keeps s l (withWindow (bucketsIn s) i w l) i slot c h (window-beside w sound buckets width) (new-window seconds) (old-hold hold) fits
+      window-keeps seconds hold = input-keeps s l (withWindow (bucketsIn s) i w l) i slot c h (window-beside w sound buckets width) (new-window seconds) (sums-read w sound buckets width seconds) (old-hold hold) fits
 
     module _ (v : Held) (times : length (v .times) ≡ 600) (lags : length (v .lags) ≡ 600) (whole : wholeHold (s .policy) (s .width) v ≡ true) where
       new-hold : slot .hold ≡ v .hold → wholeHold (s .policy) (s .width) (heldFor (withHeld i v l) i slot) ≡ true
@@ -172,7 +191,7 @@ module _ (s : Inputs) (l : Lists) (i : ℕ) (slot : Slot) (c : Checked s l) (h :
 
       -- the hold is replaced too
       pub hold-keeps : slot .«lag_seconds» ≡ slotAt s i .«lag_seconds» → slot .hold ≡ v .hold → Checked (putSlot s i slot) (withHeld i v l)
-      hold-keeps seconds hold = input-keeps s l (withHeld i v l) i slot c h (held-beside v times lags) (old-window seconds) (new-hold hold) fits
+      hold-keeps seconds hold = input-keeps s l (withHeld i v l) i slot c h (held-beside v times lags) (old-window seconds) (old-sums seconds) (new-hold hold) fits
 
       -- both are replaced: the lists of the one are not those of the other
       module _ (w : Window) (sound : Sound w) (buckets : w .buckets ≡ bucketsIn s) (width : w .width ≡ s .width) where
@@ -182,7 +201,7 @@ module _ (s : Inputs) (l : Lists) (i : ℕ) (slot : Slot) (c : Checked s l) (h :
             beside-then (s .count) (bucketsIn s) i l (withWindow (bucketsIn s) i w l) (withHeld i v (withWindow (bucketsIn s) i w l)) first (beside-held (s .count) (bucketsIn s) i (withWindow (bucketsIn s) i w l) (first .long) h v times lags)
 
         pub both-keep : slot .«lag_seconds» ≡ w .seconds → slot .hold ≡ v .hold → Checked (putSlot s i slot) (withHeld i v (withWindow (bucketsIn s) i w l))
-        both-keep seconds hold = input-keeps s l (withHeld i v (withWindow (bucketsIn s) i w l)) i slot c h both-beside (new-window w sound buckets width seconds) (new-hold hold) fits
+        both-keep seconds hold = input-keeps s l (withHeld i v (withWindow (bucketsIn s) i w l)) i slot c h both-beside (new-window w sound buckets width seconds) (sums-read w sound buckets width seconds) (new-hold hold) fits
 
     -- both are cleared
     pub cleared-keeps : slot .«lag_seconds» ≡ 0 → slot .hold ≡ freshHold → Checked (putSlot s i slot) (withHeld i (clearedHold (heldOf s l i)) (withWindow (bucketsIn s) i (fresh (bucketsIn s) (s .width)) l))

@@ -35,7 +35,7 @@ module _ (s : Inputs) (l : Lists) (c : Checked s l) (instances : List Instance) 
   unfolding slotAt bucketsIn
   same-inputs i h =
       let w : WholeInput s l i = c .whole .inputs i h in
-      record { window = w .window; hold = w .hold; slot = w .slot }
+      record { window = w .window; sums = w .sums; hold = w .hold; slot = w .slot }
 
   same-flows : WholeFlows after
   unfolding distinctFlows known flowAt entryAt placeBelow

@@ -12,6 +12,7 @@ use lib.ListN.{length, getD, take, drop}
 use borrow.Author.Tests.{leb-true, lt-ltb, le-ltb}
 use Rattle.base.specs.Choice.{pick}
 use Rattle.base.specs.Limits.{timeLimit, bucketsLimit}
+use Rattle.base.specs.Lists.{part}
 use Rattle.base.proofs.All.{both-yes, both-no}
 use Rattle.base.proofs.Choices.{yes-pick, no-pick}
 use Rattle.base.proofs.Points.{both-true}
@@ -19,7 +20,7 @@ use Rattle.base.proofs.Blocks.{block-within}
 use Rattle.policy.specs.declared.DelayPolicy.{DelayPolicy}
 use Rattle.policy.specs.Settings.{Sound}
 use Rattle.rules_window.specs.Window.{Window, windowed}
-use Rattle.rules_window.specs.WholeWindow.{wholeWindow}
+use Rattle.rules_window.specs.WholeWindow.{wholeWithSums}
 use Rattle.rules_window.specs.Parts.{partOf, PartsIn}
 use Rattle.delay_hold.specs.declared.Moment.{Moment}
 use Rattle.delay_hold.specs.declared.Moment.the-variants.{Never, At}
@@ -43,11 +44,11 @@ use Rattle.rules_record.specs.Flows.{emptyEntry, entryAt}
 use Rattle.rules_record.specs.Instances.{noKey, keyAt}
 use Rattle.rules_record.specs.declared.Output.{Output}
 use Rattle.rules_record.specs.declared.Output.the-variants.{Words, Bytes}
-use Rattle.rules_record.specs.Lent.{Lists, lists, bucketsIn, windowOf, heldOf, bucketsFor}
+use Rattle.rules_record.specs.Lent.{Lists, lists, bucketsIn, windowOf, sumsOf, heldOf, bucketsFor}
 use Rattle.rules_record.specs.WholePlaces.{proposalFits, routeFits, wholeSlot, unusedEntry, entryFits, unusedKey, keyFits, unusedSlot}
 use Rattle.rules_record.specs.WholeRecord.{wholeInput, inputFits}
 use Rattle.rules_record.specs.Checks.{inputsAllowed, listsFit, outputFits, Fitting}
-use Rattle.rules_record.proofs.Shapes.{window-held}
+use Rattle.rules_record.proofs.Shapes.{window-held, sums-within}
 
 -- ---- the parts of a slot
 pub no-proposed : (proposed : Proposal) (maximum : ℕ) → proposed ≡ Nothing → true ≡ proposalFits proposed maximum
@@ -99,14 +100,17 @@ inputs-few n h = leb-true _ _ (both-true _ _ h .1)
 pub counts-fit : (n buckets : ℕ) → n ≤ 16 → buckets ≤ bucketsLimit → Fits w64 (n * (11 * buckets))
 counts-fit n buckets h k = let rows : 11 * buckets ≤ 45056 = omega arith in omega (arith, mul-le-mul h rows)
 
+pub sums-fit : (n buckets : ℕ) → n ≤ 16 → buckets ≤ bucketsLimit → Fits w64 (n * buckets)
+sums-fit n buckets h k = omega (arith, mul-le-mul h k)
+
 pub told-lists : (s : Inputs) (l : Lists) {buckets : ℕ} {r : Bool} → buckets ≡ bucketsFor (s .policy) (s .width) → r ≡ listsFit (s .count) buckets l → r ≡ listsFit (s .count) (bucketsIn s) l
 unfolding bucketsIn
 told-lists s l e g = g ∙ ap (λ (b : ℕ). listsFit (s .count) b l) e
 
 -- ---- input i
-module _ (i : ℕ) (starts totals counts times lags : List ℕ) where
+module _ (i : ℕ) (starts totals counts sums times lags : List ℕ) where
   abbrev given : Lists
-  given = lists starts totals counts times lags
+  given = lists starts totals counts sums times lags
 
   -- the lists with the window of this slot
   abbrev lentFor : (width : ℕ) → Slot → (buckets : ℕ) → Window
@@ -114,9 +118,12 @@ module _ (i : ℕ) (starts totals counts times lags : List ℕ) where
 
   -- what the calls told of a slot and settings is so of the record that has them
   module _ (s : Inputs) {policy : DelayPolicy} {width : ℕ} {slot : Slot} (p : policy ≡ s .policy) (w : width ≡ s .width) (e : slot ≡ slotAt s i) where
-    pub told-window : {r : Bool} → r ≡ wholeWindow (partOf i (lentFor width slot (bucketsFor policy width))) → r ≡ wholeWindow (windowOf s given i)
+    -- .. of its window and its sums, which the code looks at in one pass
+    pub told-window : {r : Bool} → r ≡ wholeWithSums (partOf i (lentFor width slot (bucketsFor policy width))) (part (i * bucketsFor policy width) (bucketsFor policy width) sums) → r ≡ wholeWithSums (windowOf s given i) (sumsOf s given i)
     unfolding bucketsIn
-    told-window g = g ∙ (λ t. wholeWindow (partOf i (lentFor (w t) (e t) (bucketsFor (p t) (w t)))))
+    told-window g =
+        g
+        ∙ (λ t. wholeWithSums (partOf i (lentFor (w t) (e t) (bucketsFor (p t) (w t)))) (part (i * bucketsFor (p t) (w t)) (bucketsFor (p t) (w t)) sums))
 
     pub told-hold : {k : ℕ} {r : Bool} → k ≡ 600 → r ≡ wholeHold policy width (held (slot .hold) (take k (drop (i * 600) times)) (take k (drop (i * 600) lags))) → r ≡ wholeHold (s .policy) (s .width) (heldOf s given i)
     told-hold k g = g ∙ (λ t. wholeHold (p t) (w t) (held (e t .hold) (take (k t) (drop (i * 600) times)) (take (k t) (drop (i * 600) lags))))
@@ -126,13 +133,13 @@ module _ (i : ℕ) (starts totals counts times lags : List ℕ) where
 
   module _ (s : Inputs) where
     -- what `whole_input` asks
-    pub input-asks : Fitting s given → i < s .count → Sound (s .policy) × (PartsIn i (lentFor (s .width) (getD (s .slots) i emptySlot) (bucketsFor (s .policy) (s .width))) × ((i * 600 + 600 ≤ length times) × (i * 600 + 600 ≤ length lags)))
+    pub input-asks : Fitting s given → i < s .count → Sound (s .policy) × (PartsIn i (lentFor (s .width) (getD (s .slots) i emptySlot) (bucketsFor (s .policy) (s .width))) × ((i * bucketsFor (s .policy) (s .width) + bucketsFor (s .policy) (s .width) ≤ length sums) × ((i * 600 + 600 ≤ length times) × (i * 600 + 600 ≤ length lags))))
     unfolding bucketsIn
     input-asks f h = (
       f .allowed .sound,
       (
         window-held s given f i (getD (s .slots) i emptySlot) h,
-        (omega (arith, block-within i (s .count) 600 h, f .long .times), omega (arith, block-within i (s .count) 600 h, f .long .peaks)),
+        (sums-within s given f i h, (omega (arith, block-within i (s .count) 600 h, f .long .times), omega (arith, block-within i (s .count) 600 h, f .long .peaks))),
       ),
     )
 

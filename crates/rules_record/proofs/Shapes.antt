@@ -1,5 +1,5 @@
 -- The window and the hold of an input of a checked record have their shapes, and so have cleared ones, which are whole. Assumes nothing.
-use Prim.Native.Nat.{ℕ, _*_, _<_, _≤_}
+use Prim.Native.Nat.{ℕ, _+_, _*_, _<_, _≤_}
 use mathlib.Core.Bool.{true}
 use mathlib.Core.Path.{_≡_, refl}
 use native.Mathlib.Omega.{arith}
@@ -14,17 +14,19 @@ use Rattle.policy.specs.declared.DelayPolicy.{DelayPolicy}
 use Rattle.rules_window.specs.Window.{fresh}
 use Rattle.rules_window.specs.Parts as parts
 use Rattle.rules_window.specs.WholeWindow.{summed, wholeWindow, Shaped, Sound}
+use Rattle.rules_window.specs.ColumnSums.{rightSums}
+use Rattle.rules_window.proofs.ColumnSums.{right-are-own}
 use Rattle.delay_hold.specs.Next.{Held, freshHold, clearedHold}
 use Rattle.delay_hold.specs.Whole.{wholePeaks, wholeTimes, timerFits, wholeHold}
 use Rattle.base.specs.Rows as rows
 use Rattle.rules_record.specs.declared.Slot.{Slot}
 use Rattle.rules_record.specs.declared.Inputs.{Inputs}
 use Rattle.rules_record.specs.Inputs.{slotAt}
-use Rattle.rules_record.specs.Lent.{Lists, bucketsIn, windowsOf, windowFor, windowOf}
+use Rattle.rules_record.specs.Lent.{Lists, bucketsIn, windowsOf, windowFor, windowOf, sumsOf}
 use Rattle.rules_record.specs.Checks.{Fitting}
 use Rattle.base.proofs.Blocks.{block-within, block-long}
 use Rattle.buckets.proofs.Told.{buckets-some}
-use Rattle.rules_record.specs.Facts.{Checked}
+use Rattle.rules_record.specs.Facts.{OwnSums, Checked}
 
 pub zeros-blank : (k m : ℕ) → blankFrom k (replicate m 0) ≡ true
 zeros-blank k m = blank-intro k (replicate m 0) (λ i h. zeros-at m i)
@@ -59,6 +61,16 @@ module _ (s : Inputs) (l : Lists) (f : Fitting s l) where
     totals-in = omega (arith, block-within i (s .count) 11 h, f .long .totals);
     counts-in = omega (arith, block-within i (s .count) (11 * bucketsIn s) h, f .long .counts);
   }
+
+  -- the row of sums of input i lies within the list, a sum for each bucket; where each is right, it is that of the window
+  pub sums-within : (i : ℕ) → i < s .count → i * bucketsIn s + bucketsIn s ≤ length (l .sums)
+  sums-within i h = omega (arith, block-within i (s .count) (bucketsIn s) h, f .long .sums)
+
+  pub sums-long : (i : ℕ) → i < s .count → length (sumsOf s l i) ≡ bucketsIn s
+  sums-long i h = block-long (s .count) (bucketsIn s) i (l .sums) (f .long .sums) h
+
+  pub right-own : (i : ℕ) (slot : Slot) → i < s .count → rightSums (windowFor s l i slot) (sumsOf s l i) ≡ true → OwnSums s l i slot
+  right-own i slot h right = right-are-own (windowFor s l i slot) (sumsOf s l i) (sums-long i h) right
 
   pub held-times : (i : ℕ) → i < s .count → length (part (i * 600) 600 (l .times)) ≡ 600
   held-times i h = block-long (s .count) 600 i (l .times) (f .long .times) h
@@ -111,3 +123,6 @@ cleared-whole policy width h least =
 -- ---- of a record that 1 to 6 let through
 pub window-sound : (s : Inputs) (l : Lists) → Checked s l → (i : ℕ) → i < s .count → Sound (windowOf s l i)
 window-sound s l c i h = record { shaped = window-shaped s l (c .fitting) i (slotAt s i) h; whole = c .whole .inputs i h .window }
+
+pub window-sums : (s : Inputs) (l : Lists) → Checked s l → (i : ℕ) → i < s .count → OwnSums s l i (slotAt s i)
+window-sums s l c i h = right-own s l (c .fitting) i (slotAt s i) h (c .whole .inputs i h .sums)

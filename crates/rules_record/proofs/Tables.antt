@@ -65,7 +65,7 @@ module _ (s : Inputs) (l : Lists) (c : Checked s l) where
     unfolding slotAt bucketsIn
     same-inputs i h =
         let w : WholeInput s l i = c .whole .inputs i h in
-        record { window = w .window; hold = w .hold; slot = slot-more (s .policy .«delay_max») (s .«flow_count») n (slotAt s i) more (w .slot) }
+        record { window = w .window; sums = w .sums; hold = w .hold; slot = slot-more (s .policy .«delay_max») (s .«flow_count») n (slotAt s i) more (w .slot) }
 
     more-instances : WholeInstances after
     unfolding keyAt distinctKeys keyBelow keys.keysHeld

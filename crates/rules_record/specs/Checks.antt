@@ -24,14 +24,16 @@ inputsAllowed n = both (leb 1 n) (leb n 16)
 unfoldable pub pausesAllowed : (policy : DelayPolicy) (stall : ℕ) → Bool
 pausesAllowed policy stall = both (timesAllowed policy) (leb stall spanLimit)
 
--- 5: "Has each lent list its exact length (commands 12 words an input ..)?", of n inputs with so many buckets a second
+-- 5: "Has each lent list its exact length (commands 12 words an input ..)?", of n inputs with so many buckets a second; document 02, §5:
+-- "Number 5 counts the new list in", a sum for each bucket of each input
 unfoldable pub listsFit : (n buckets : ℕ) (l : Lists) → Bool
 listsFit n buckets l =
     both (eqb (length (l .starts)) (n * 11))
     (both (eqb (length (l .totals)) (n * 11))
     (both (eqb (length (l .counts)) (n * (11 * buckets)))
+    (both (eqb (length (l .sums)) (n * buckets))
     (both (eqb (length (l .times)) (n * 600))
-    (eqb (length (l .peaks)) (n * 600)))))
+    (eqb (length (l .peaks)) (n * 600))))))
 
 -- 5, of the list that a call writes to: none, "commands 12 words an input", or bytes of which it must have exactly so many
 abbrev pub outputFits : (n : ℕ) → Output → Bool
@@ -82,6 +84,7 @@ pub record Long (n buckets : ℕ) (l : Lists) : Type 0 where
   pub starts : length (l .starts) ≡ n * 11
   pub totals : length (l .totals) ≡ n * 11
   pub counts : length (l .counts) ≡ n * (11 * buckets)
+  pub sums : length (l .sums) ≡ n * buckets
   pub times : length (l .times) ≡ n * 600
   pub peaks : length (l .peaks) ≡ n * 600
 

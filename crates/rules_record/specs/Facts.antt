@@ -4,6 +4,7 @@ use mathlib.Core.Bool.{true}
 use mathlib.Core.Path.{_≡_}
 use Rattle.base.specs.Limits.{timeLimit, counterLimit}
 use Rattle.rules_window.specs.WholeWindow.{wholeWindow}
+use Rattle.rules_window.specs.ColumnSums.{columnSums, rightSums}
 use Rattle.delay_hold.specs.Whole.{momentTimely, wholeHold}
 use Rattle.rules_record.specs.declared.Slot.{Slot}
 use Rattle.rules_record.specs.declared.Inputs.{Inputs}
@@ -12,7 +13,7 @@ use Rattle.rules_record.specs.Inputs.{slotAt}
 use Rattle.rules_record.specs.Sized.{Sized}
 use Rattle.rules_record.specs.Flows.{emptyEntry, entryAt, distinctFlows}
 use Rattle.rules_record.specs.Instances.{noKey, keyAt, distinctKeys}
-use Rattle.rules_record.specs.Lent.{Lists, windowOf, heldOf}
+use Rattle.rules_record.specs.Lent.{Lists, windowFor, windowOf, sumsOf, heldOf}
 use Rattle.rules_record.specs.WholePlaces.{proposalFits, routeFits}
 use Rattle.rules_record.specs.Checks.{Fitting}
 
@@ -29,8 +30,13 @@ pub record WholeSlot (maximum n : ℕ) (slot : Slot) : Type 0 where
 
 pub record WholeInput (s : Inputs) (l : Lists) (i : ℕ) : Type 0 where
   pub window : wholeWindow (windowOf s l i) ≡ true
+  pub sums : rightSums (windowOf s l i) (sumsOf s l i) ≡ true
   pub hold : wholeHold (s .policy) (s .width) (heldOf s l i) ≡ true
   pub slot : WholeSlot (s .policy .«delay_max») (s .«flow_count») (slotAt s i)
+
+-- the row of sums of input i, where this is its slot, is that of its window: what right sums of exact length come to, and what the functions ask that read the sums in the place of the counts
+abbrev pub OwnSums : (s : Inputs) (l : Lists) (i : ℕ) (slot : Slot) → Type 0
+OwnSums s l i slot = sumsOf s l i ≡ columnSums (windowFor s l i slot)
 
 pub record WholeFlows (s : Inputs) : Type 0 where
   pub most : s .«flow_count» ≤ 64

@@ -130,6 +130,7 @@ module _ (l : Lists) (i time : ℕ) (soon : time ≤ timeLimit) where
       let w = kept .whole .inputs i there in
       input-keeps z l l i (withHold (slotAt z i) (seededHold (slotAt z i .hold) delay time)) kept there (beside-same (z .count) (bucketsIn z) i l (kept .fitting .long))
       (w .window)
+      (w .sums)
       (seeded-whole (z .policy) (z .width) (heldOf z l i) (w .hold) delay time (subst (λ (x : Inputs). delay ≤ x .policy .«delay_max») (sym (settings-stored s i delay time)) most) soon)
       (record {
         delay = w .slot .delay;

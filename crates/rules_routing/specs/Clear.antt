@@ -9,7 +9,8 @@ use Rattle.rules_record.specs.Inputs.{putSlot}
 use Rattle.rules_record.specs.Lent.{Lists, bucketsIn, heldOf, withWindow, withHeld}
 use Rattle.rules_record.specs.Effects.{Effect, silent}
 
--- "window and hold are cleared": no seconds and a fresh hold in the slot, and every place of the input's lists zero
+-- "window and hold are cleared": no seconds and a fresh hold in the slot, and every place of the input's lists zero,
+-- the sums of a fresh window among them
 abbrev pub clearedSlot : Slot → Slot
 clearedSlot slot = withHold (withLagSeconds slot 0) freshHold
 

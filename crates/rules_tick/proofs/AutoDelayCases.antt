@@ -26,6 +26,7 @@ use Rattle.rules_record.specs.Inputs.{slotAt, putSlot}
 use Rattle.rules_record.specs.Commands.{quiet}
 use Rattle.rules_routing.specs.SetDelay.{setDelayOf}
 use Rattle.rules_record.specs.Lent.{Lists, lists, windowFor, heldFor}
+use Rattle.rules_record.specs.Facts.{OwnSums}
 use Rattle.rules_record.specs.Effects.{silent, beside}
 use Rattle.rules_tick.specs.AutoDelay.{p999Of, proposedOr, currentOf, nextFor, Answered, proposing, changing, answered, decidedFor, interrupted, goesOn, autoDelayed}
 
@@ -72,26 +73,26 @@ pub current-pending : (slot : Slot) (delay : ℕ) → slot .proposed ≡ Pending
 current-pending slot delay e = sym (ap (λ (x : Proposal). proposedOr x (slot .delay)) e)
 
 -- ---- the steps of the code
-module _ (s : Inputs) (i : ℕ) (largest : Lag) (time : ℕ) (starts counts times lags : List ℕ) {slot : Slot} {p : Lag} {current k : ℕ} {times′ lags′ : List ℕ} {answer : Next}
+module _ (s : Inputs) (i : ℕ) (largest : Lag) (time : ℕ) (starts sums times lags : List ℕ) {slot : Slot} {p : Lag} {current k : ℕ} {times′ lags′ : List ℕ} {answer : Next}
     (is-slot : slot ≡ slotAt s i)
-    (is-p : (totals times peaks : List ℕ) → p ≡ p999Of (s .policy) (windowFor s (lists starts totals counts times peaks) i slot))
+    (is-p : (totals counts times peaks : List ℕ) → OwnSums s (lists starts totals counts sums times peaks) i slot → p ≡ p999Of (s .policy) (windowFor s (lists starts totals counts sums times peaks) i slot))
     (is-current : current ≡ currentOf slot)
     (is-k : k ≡ 600)
     (is-next : decided answer times′ lags′ ≡ nextOf oneMillisecond alwaysLower (s .policy) (held (slot .hold) (part (i * 600) k times) (part (i * 600) k lags)) p largest current time) where
-  pub next-by : (totals : List ℕ)
-      → Answered i (nextFor i largest time s (lists starts totals counts times lags)) answer (lists starts totals counts times lags) (lists starts totals counts (patched (i * 600) k times′ times) (patched (i * 600) k lags′ lags))
+  pub next-by : (totals counts : List ℕ) → OwnSums s (lists starts totals counts sums times lags) i (slotAt s i)
+      → Answered i (nextFor i largest time s (lists starts totals counts sums times lags)) answer (lists starts totals counts sums times lags) (lists starts totals counts sums (patched (i * 600) k times′ times) (patched (i * 600) k lags′ lags))
   unfolding nextFor
-  next-by totals = record {
+  next-by totals counts own = record {
     change = ap (λ (d : Decided). d .change) is;
     hold = ap (λ (d : Decided). d .held .hold) is;
-    lists = λ t. lists starts totals counts (patched (i * 600) (is-k t) (is t .held .times) times) (patched (i * 600) (is-k t) (is t .held .lags) lags);
+    lists = λ t. lists starts totals counts sums (patched (i * 600) (is-k t) (is t .held .times) times) (patched (i * 600) (is-k t) (is t .held .lags) lags);
   }
     where
-      is : decided answer times′ lags′ ≡ nextFor i largest time s (lists starts totals counts times lags)
+      is : decided answer times′ lags′ ≡ nextFor i largest time s (lists starts totals counts sums times lags)
       is =
           is-next
-          ∙ (λ t. nextOf oneMillisecond alwaysLower (s .policy) (held (slot .hold) (part (i * 600) (is-k t) times) (part (i * 600) (is-k t) lags)) (is-p totals times lags t) largest (is-current t) time)
-          ∙ ap (λ (x : Slot). nextOf oneMillisecond alwaysLower (s .policy) (heldFor (lists starts totals counts times lags) i x) (p999Of (s .policy) (windowFor s (lists starts totals counts times lags) i x)) largest (currentOf x) time) is-slot
+          ∙ (λ t. nextOf oneMillisecond alwaysLower (s .policy) (held (slot .hold) (part (i * 600) (is-k t) times) (part (i * 600) (is-k t) lags)) (is-p totals counts times lags (subst (OwnSums s (lists starts totals counts sums times lags) i) (sym is-slot) own) t) largest (is-current t) time)
+          ∙ ap (λ (x : Slot). nextOf oneMillisecond alwaysLower (s .policy) (heldFor (lists starts totals counts sums times lags) i x) (p999Of (s .policy) (windowFor s (lists starts totals counts sums times lags) i x)) largest (currentOf x) time) is-slot
 
 module _ (s : Inputs) (i : ℕ) (largest : Lag) (time : ℕ) (l : Lists) {slot : Slot} (is-slot : slot ≡ slotAt s i) {code : ℕ} (is-code : code ≡ stateNumber (slot .state)) where
   state-is : code ≡ stateNumber (slotAt s i .state)

@@ -165,6 +165,7 @@ module _ (i : ℕ) (largest : Lag) (time : ℕ) (s : Inputs) (l : Lists) where
     interrupted-keeps =
         input-keeps s l l i (withHold (slotAt s i) (withLower (slotAt s i .hold) timerOff)) c h (beside-same (s .count) (bucketsIn s) i l (c .fitting .long))
         (ready .window)
+        (ready .sums)
         (interrupt-keeps-whole (s .policy) (s .width) (heldOf s l i) (ready .hold))
         (record { delay = old .delay; proposed = old .proposed; route = old .route; reopens = old .reopens; changes = old .changes; lates = old .lates; head = old .head; set = old .set; opened = old .opened })
 

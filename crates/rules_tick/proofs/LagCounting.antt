@@ -77,22 +77,22 @@ module _ (s : Inputs) (looks : List Look) (lags : List ℕ) where
         total = ap (λ (k : ℕ). lagsBefore looks k + left) (sym same) ∙ before .1
 
 -- ---- 11
--- the test reads neither the counts nor the width
+-- the test reads neither the counts, the sums nor the width
 module _ (s : Inputs) (i : ℕ) {slot : Slot} (is-slot : slot ≡ slotAt s i) where
   pub room-asks : slotAt s i .«lag_seconds» ≤ 11 → slot .«lag_seconds» ≤ 11
   room-asks h = subst (λ (x : Slot). x .«lag_seconds» ≤ 11) (sym is-slot) h
 
-  pub room-by : (time lags : ℕ) (starts totals : List ℕ) {r : Bool} → r ≡ roomOf time lags (slot .«lag_seconds») (part (i * 11) 11 starts) (part (i * 11) 11 totals) → (counts times peaks : List ℕ)
-      → r ≡ roomFor time lags (windowOf s (lists starts totals counts times peaks) i)
-  room-by time lags starts totals e counts times peaks = e ∙ ap (λ (x : Slot). roomOf time lags (x .«lag_seconds») (part (i * 11) 11 starts) (part (i * 11) 11 totals)) is-slot
+  pub room-by : (time lags : ℕ) (starts totals : List ℕ) {r : Bool} → r ≡ roomOf time lags (slot .«lag_seconds») (part (i * 11) 11 starts) (part (i * 11) 11 totals) → (counts sums times peaks : List ℕ)
+      → r ≡ roomFor time lags (windowOf s (lists starts totals counts sums times peaks) i)
+  room-by time lags starts totals e counts sums times peaks = e ∙ ap (λ (x : Slot). roomOf time lags (x .«lag_seconds») (part (i * 11) 11 starts) (part (i * 11) 11 totals)) is-slot
 
 module _ (s : Inputs) (looks : List Look) (time : ℕ) (starts totals : List ℕ) where
   -- the first i inputs have room, whatever the other lists are
   abbrev pub RoomsBelow : ℕ → Type 0
-  RoomsBelow i = (i ≤ s .count) × ((counts times peaks : List ℕ) → all (λ k. roomFor time (lookAt looks k .lags) (windowOf s (lists starts totals counts times peaks) k)) i ≡ true)
+  RoomsBelow i = (i ≤ s .count) × ((counts sums times peaks : List ℕ) → all (λ k. roomFor time (lookAt looks k .lags) (windowOf s (lists starts totals counts sums times peaks) k)) i ≡ true)
 
   pub rooms-none : RoomsBelow 0
-  rooms-none = (omega arith, λ counts times peaks. all-none _)
+  rooms-none = (omega arith, λ counts sums times peaks. all-none _)
 
   module _ (i : ℕ) (h : i < s .count) where
     pub rooms-ask : RoomsAsked s (length starts) (length totals) → (slotAt s i .«lag_seconds» ≤ 11) × (i * 11 + 11 ≤ length starts) × (i * 11 + 11 ≤ length totals)
@@ -102,19 +102,19 @@ module _ (s : Inputs) (looks : List Look) (time : ℕ) (starts totals : List ℕ
       omega (arith, block-within i (s .count) 11 h, asked .totals-long),
     )
 
-    module _ {fits : Bool} (is : (counts times peaks : List ℕ) → fits ≡ roomFor time (lookAt looks i .lags) (windowOf s (lists starts totals counts times peaks) i)) where
+    module _ {fits : Bool} (is : (counts sums times peaks : List ℕ) → fits ≡ roomFor time (lookAt looks i .lags) (windowOf s (lists starts totals counts sums times peaks) i)) where
       pub rooms-more : RoomsBelow i → not fits ≡ false → RoomsBelow (i + 1)
       rooms-more below fit = (
         omega arith,
-        λ counts times peaks. all-more (λ k. roomFor time (lookAt looks k .lags) (windowOf s (lists starts totals counts times peaks) k)) i (below .1 counts times peaks) (told-yes _ _ (is counts times peaks) fit),
+        λ counts sums times peaks. all-more (λ k. roomFor time (lookAt looks k .lags) (windowOf s (lists starts totals counts sums times peaks) k)) i (below .1 counts sums times peaks) (told-yes _ _ (is counts sums times peaks) fit),
       )
 
-      pub rooms-stop : not fits ≡ true → (counts times peaks : List ℕ) → false ≡ roomsFit s (lists starts totals counts times peaks) looks time
+      pub rooms-stop : not fits ≡ true → (counts sums times peaks : List ℕ) → false ≡ roomsFit s (lists starts totals counts sums times peaks) looks time
       unfolding roomsFit
-      rooms-stop unfit counts times peaks =
-          all-stop (λ k. roomFor time (lookAt looks k .lags) (windowOf s (lists starts totals counts times peaks) k)) (s .count) i h (told-no _ _ (is counts times peaks) unfit)
+      rooms-stop unfit counts sums times peaks =
+          all-stop (λ k. roomFor time (lookAt looks k .lags) (windowOf s (lists starts totals counts sums times peaks) k)) (s .count) i h (told-no _ _ (is counts sums times peaks) unfit)
 
-  pub rooms-end : (i : ℕ) → RoomsBelow i → s .count ≤ i → (counts times peaks : List ℕ) → true ≡ roomsFit s (lists starts totals counts times peaks) looks time
+  pub rooms-end : (i : ℕ) → RoomsBelow i → s .count ≤ i → (counts sums times peaks : List ℕ) → true ≡ roomsFit s (lists starts totals counts sums times peaks) looks time
   unfolding roomsFit
-  rooms-end i below h counts times peaks =
-      all-end (λ k. roomFor time (lookAt looks k .lags) (windowOf s (lists starts totals counts times peaks) k)) (s .count) i (below .1 counts times peaks) (below .0) h
+  rooms-end i below h counts sums times peaks =
+      all-end (λ k. roomFor time (lookAt looks k .lags) (windowOf s (lists starts totals counts sums times peaks) k)) (s .count) i (below .1 counts sums times peaks) (below .0) h

@@ -9,15 +9,17 @@ use Rattle.base.specs.Limits.{timeLimit}
 use Rattle.rules_window.specs.Window.{Window}
 use Rattle.rules_window.specs.WholeWindow.{wholeWindow, Sound}
 use Rattle.rules_window.specs.Checks.{roomFor}
+use Rattle.rules_window.specs.ColumnSums.{rightSums}
+use Rattle.rules_window.proofs.ColumnSums.{own-sums-right}
 use Rattle.rules_window.proofs.Laws.{lags-keep-sound}
 use Rattle.rules_window.proofs.Parting.{pushed-all-sizes}
 use Rattle.rules_record.specs.declared.Slot.{Slot}
 use Rattle.rules_record.specs.declared.Inputs.{Inputs}
 use Rattle.rules_record.specs.Inputs.{slotAt}
 use Rattle.rules_record.proofs.SlotFrame.{slot-same, slot-other}
-use Rattle.rules_record.specs.Lent.{Lists, bucketsIn, windowFor, windowOf, withWindow}
+use Rattle.rules_record.specs.Lent.{Lists, bucketsIn, windowFor, windowOf, sumsOf, withWindow}
 use Rattle.rules_record.specs.Facts.{WholeSlot, Checked}
-use Rattle.rules_record.proofs.Beside.{Beside, beside-window, window-same}
+use Rattle.rules_record.proofs.Beside.{Beside, beside-window, window-same, sums-same}
 use Rattle.rules_record.proofs.Keep.{window-keeps}
 use Rattle.rules_tick.specs.Lags.{windowAfter, lastLag, arrivedSlot, arrived}
 use Rattle.rules_tick.specs.InputReady.{Ready}
@@ -71,12 +73,12 @@ module _ (i time : ℕ) (lags : List ℕ) (s : Inputs) (l : Lists) where
     pub arrived-beside : Beside (s .count) (bucketsIn s) i l left
     unfolding arrived
     arrived-beside =
-        beside-window (s .count) (bucketsIn s) i l (r .fitting .long) (r .input) pushed (pushed-sound .shaped .starts-long) (pushed-sound .shaped .totals-long) counts-long
+        beside-window (s .count) (bucketsIn s) i l (r .fitting .long) (r .input) pushed (pushed-sound .shaped .starts-long) (pushed-sound .shaped .totals-long) counts-long (sizes .0)
 
     -- read again, the window is the pushed one
     read : windowFor s (withWindow (bucketsIn s) i pushed l) i slot ≡ pushed
     read =
-        window-same (s .count) (bucketsIn s) i l (r .fitting .long) (r .input) pushed (pushed-sound .shaped .starts-long) (pushed-sound .shaped .totals-long) counts-long (s .width)
+        window-same (s .count) (bucketsIn s) i l (r .fitting .long) (r .input) pushed (pushed-sound .shaped .starts-long) (pushed-sound .shaped .totals-long) counts-long (sizes .0) (s .width)
         ∙ (λ t. record {
           seconds = pushed .seconds;
           buckets = sym (sizes .0) t;
@@ -86,6 +88,12 @@ module _ (i time : ℕ) (lags : List ℕ) (s : Inputs) (l : Lists) where
           counts = pushed .counts;
         })
 
+    -- .. and its sums are right
+    sums-read : rightSums (windowFor s (withWindow (bucketsIn s) i pushed l) i slot) (sumsOf s (withWindow (bucketsIn s) i pushed l) i) ≡ true
+    sums-read =
+        (λ t. rightSums (read t) (sums-same (s .count) (bucketsIn s) i l (r .fitting .long) (r .input) pushed (pushed-sound .shaped .starts-long) (pushed-sound .shaped .totals-long) counts-long (sizes .0) t))
+        ∙ own-sums-right pushed
+
     pub arrived-read : windowFor s left i slot ≡ pushed
     unfolding arrived
     arrived-read = read
@@ -94,7 +102,7 @@ module _ (i time : ℕ) (lags : List ℕ) (s : Inputs) (l : Lists) where
     pub arrived-ready : length (s .slots) ≡ 16 → Ready after left i
     unfolding arrived
     arrived-ready sized =
-        put-ready s l (withWindow (bucketsIn s) i pushed l) i slot r sized (arrived-beside .long) (ap wholeWindow read ∙ pushed-sound .whole) (r .hold) (r .delay) (r .proposed)
+        put-ready s l (withWindow (bucketsIn s) i pushed l) i slot r sized (arrived-beside .long) (ap wholeWindow read ∙ pushed-sound .whole) sums-read (r .hold) (r .delay) (r .proposed)
 
   -- a checked record stays checked
   pub arrived-keeps : Checked s l → i < s .count → time ≤ timeLimit → roomFor time (length lags) (windowOf s l i) ≡ true → Checked after left

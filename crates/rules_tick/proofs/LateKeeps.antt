@@ -52,7 +52,7 @@ module _ (i applied : ℕ) (largest : Lag) (s : Inputs) where
   -- the input stays ready
   pub late-ready : (l : Lists) → Ready s l i → length (s .slots) ≡ 16 → Ready after l i
   unfolding lateEvent
-  late-ready l r sized = put-ready s l l i slot r sized (r .fitting .long) (r .window) (r .hold) (r .delay) (r .proposed)
+  late-ready l r sized = put-ready s l l i slot r sized (r .fitting .long) (r .window) (r .sums) (r .hold) (r .delay) (r .proposed)
 
   -- a checked record stays checked, where one more late event is below 2^63
   pub late-keeps : (l : Lists) → Checked s l → i < s .count → slotAt s i .«late_events» + 1 < counterLimit → Checked after l

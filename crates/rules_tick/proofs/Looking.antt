@@ -5,9 +5,11 @@ use mathlib.Core.Path.{_≡_, refl, sym, ap, subst, _∙_}
 use native.Mathlib.Omega.{arith}
 use borrow.Author.Tests.{eq-eqb, ne-eqb, le-leb, lt-leb}
 use Rattle.base.specs.Limits.{timeLimit}
-use Rattle.base.specs.Lists.{part}
 use Rattle.base.proofs.Choices.{yes-pick, no-pick, pick-all}
+use Rattle.rules_window.specs.Window.{windowed}
 use Rattle.rules_window.specs.WholeWindow.{wholeWindow}
+use Rattle.rules_window.specs.Parts.{partOf}
+use Rattle.rules_window.specs.ColumnSums.{rightSums}
 use Rattle.delay_hold.specs.Next.{held}
 use Rattle.delay_hold.specs.Whole.{wholeHold}
 use Rattle.delay_hold.proofs.Marks.{seeded-whole}
@@ -30,7 +32,7 @@ use Rattle.rules_routing.proofs.TryOpenOutcomes.{startedSlot, open-outcomes}
 use Rattle.rules_routing.specs.Watch.{lostSlot, movedSlot, watchOf}
 use Rattle.rules_routing.proofs.WatchFrame.{watch-leaves}
 use Rattle.rules_routing.proofs.WatchOutcomes.{watch-outcomes}
-use Rattle.rules_record.specs.Lent.{Lists, bucketsIn, heldFor}
+use Rattle.rules_record.specs.Lent.{Lists, bucketsIn, sumsOf, heldFor}
 use Rattle.rules_record.specs.WholePlaces.{proposalFits}
 use Rattle.rules_routing.proofs.SettingsKept.{SameSettings, settings-frame}
 use Rattle.rules_tick.specs.InputReady.{Ready}
@@ -194,15 +196,9 @@ module _ (s : Inputs) (l : Lists) (i : ℕ) (r : Ready s l i) where
         fitting = record { allowed = r .fitting .allowed; long = r .fitting .long };
         input = r .input;
         window =
-            (λ t. wholeWindow (record {
-              seconds = f .seconds t;
-              buckets = bucketsIn s;
-              width = s .width;
-              starts = part (i * 11) 11 (l .starts);
-              totals = part (i * 11) 11 (l .totals);
-              counts = part (i * (11 * bucketsIn s)) (11 * bucketsIn s) (l .counts);
-            }))
+            (λ t. wholeWindow (partOf i (windowed (f .seconds t) (bucketsIn s) (s .width) (l .starts) (l .totals) (l .counts))))
             ∙ r .window;
+        sums = (λ t. rightSums (partOf i (windowed (f .seconds t) (bucketsIn s) (s .width) (l .starts) (l .totals) (l .counts))) (sumsOf s l i)) ∙ r .sums;
         hold = f .hold;
         delay = f .delay;
         proposed = f .proposed;

@@ -1,8 +1,8 @@
 -- The 0.999 quantile of an input, case by case, and that it is never more than a bucket above offset + maximum. Assumes nothing.
-use Prim.Native.Nat.{_<_, _≤_}
+use Prim.Native.Nat.{ℕ, _<_, _≤_}
 use mathlib.Core.Bool.{true}
 use mathlib.Core.Path.{_≡_, refl, sym, ap, _∙_}
-use mathlib.Core.List.{[], _∷_}
+use mathlib.Core.List.{List, [], _∷_}
 use mathlib.Core.Logic.{⊎-elim}
 use native.Mathlib.Nat.{add-mul}
 use native.Mathlib.Omega.{arith}
@@ -19,7 +19,9 @@ use Rattle.rules_window.proofs.Quantile.{the-type}
 use Rattle.base.specs.Rows.{spanOf}
 use Rattle.rules_window.specs.Window.{Window}
 use Rattle.rules_window.specs.Quantile.{quantileUpto, thousandths}
+use Rattle.rules_window.specs.ColumnSums.{columnSums, asOneSecond}
 use Rattle.rules_window.proofs.Laws.{quantile-bucket}
+use Rattle.rules_window.proofs.OneSecond.{same-quantile}
 use Rattle.delay_hold.specs.declared.Lag.{Lag}
 use Rattle.delay_hold.specs.declared.Lag.the-variants.{None}
 use Rattle.delay_hold.specs.Whole.{peakMost}
@@ -40,6 +42,11 @@ module _ (policy : DelayPolicy) (w : Window) where
   pub p999-long : nanos ≤ spanOf (w .seconds) (w .starts) → {q : Quantile} → q ≡ quantileUpto (thousandths 999) (reachOf policy) w → quantileLag q ≡ p999Of policy w
   unfolding p999Of
   p999-long h e = ap quantileLag e ∙ sym (le-yes nanos (spanOf (w .seconds) (w .starts)) _ None h)
+
+  -- .. of the row of sums alone: "Past the checks, quantiles read only this row"
+  pub p999-row : nanos ≤ spanOf (w .seconds) (w .starts) → {q : Quantile} {sums : List ℕ} → sums ≡ columnSums w → q ≡ quantileUpto (thousandths 999) (reachOf policy) (asOneSecond (w .buckets) (w .width) sums) → quantileLag q ≡ p999Of policy w
+  p999-row h own e =
+      p999-long h (e ∙ ap (λ (row : List ℕ). quantileUpto (thousandths 999) (reachOf policy) (asOneSecond (w .buckets) (w .width) row)) own ∙ same-quantile w (reachOf policy) (thousandths 999))
 
   -- what check 15 asks of it: a bucket that counts starts at most at the limit
   quantile-most : (q : Quantile) → q ≡ quantileUpto (thousandths 999) (reachOf policy) w → lagUpTo (quantileLag q) (peakMost policy (w .width)) ≡ true

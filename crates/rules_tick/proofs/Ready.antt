@@ -22,7 +22,8 @@ use Rattle.rules_record.specs.Inputs.{slotAt}
 use Rattle.rules_record.specs.Lent.{Lists, lists, bucketsIn, windowsOf, windowFor}
 use Rattle.rules_record.specs.WholePlaces.{proposalFits}
 use Rattle.base.proofs.Blocks.{block-within}
-use Rattle.rules_record.proofs.Shapes.{buckets-least, held-times, held-lags}
+use Rattle.rules_record.specs.Facts.{OwnSums}
+use Rattle.rules_record.proofs.Shapes.{buckets-least, sums-within, right-own, held-times, held-lags}
 use Rattle.rules_tick.specs.AutoDelay.{p999Of, proposedOr, currentOf}
 use Rattle.rules_tick.specs.InputReady.{WindowReady, P999Asked, Ready, AutoAsked}
 use Rattle.rules_tick.proofs.P999.{p999-most}
@@ -46,7 +47,9 @@ ready-window s l i r = record {
         totals-in = omega (arith, block-within i (s .count) 11 (r .input), r .fitting .long .totals);
         counts-in = omega (arith, block-within i (s .count) (11 * bucketsIn s) (r .input), r .fitting .long .counts);
       };
+  sums-in = sums-within s l (r .fitting) i (r .input);
   whole = r .window;
+  sums = right-own s l (r .fitting) i (slotAt s i) (r .input) (r .sums);
 }
 
 proposed-fits : (p : Proposal) (delay maximum : ℕ) → delay ≤ maximum → proposalFits p maximum ≡ true → proposedOr p delay ≤ maximum
@@ -56,20 +59,25 @@ proposed-fits (Pending proposed) delay maximum h f = leb-true _ _ f
 pub current-fits : (s : Inputs) (l : Lists) (i : ℕ) → Ready s l i → currentOf (slotAt s i) ≤ s .policy .«delay_max»
 current-fits s l i r = proposed-fits (slotAt s i .proposed) (slotAt s i .delay) (s .policy .«delay_max») (r .delay) (r .proposed)
 
-module _ (s : Inputs) (i : ℕ) (starts counts times lags : List ℕ) (asked : AutoAsked s i starts counts times lags) {slot : Slot} (is-slot : slot ≡ slotAt s i) where
+module _ (s : Inputs) (i : ℕ) (starts sums times lags : List ℕ) (asked : AutoAsked s i starts sums times lags) {slot : Slot} (is-slot : slot ≡ slotAt s i) where
   abbrev around : Lists
-  around = lists starts (asked .totals) counts times lags
+  around = lists starts (asked .totals) (asked .counts) sums times lags
 
-  pub auto-p999 : P999Asked s slot i starts counts
+  pub auto-p999 : P999Asked s slot i starts sums
   auto-p999 = record {
     totals = asked .totals;
-    window = subst (λ (x : Slot). WindowReady s (lists starts (asked .totals) counts [] []) i x) (sym is-slot) (ready-window-lists (ready-window s around i (asked .ready)));
+    counts = asked .counts;
+    window = subst (λ (x : Slot). WindowReady s (lists starts (asked .totals) (asked .counts) sums [] []) i x) (sym is-slot) (ready-window-lists (ready-window s around i (asked .ready)));
   }
     where
-      ready-window-lists : WindowReady s around i (slotAt s i) → WindowReady s (lists starts (asked .totals) counts [] []) i (slotAt s i)
-      ready-window-lists w = record { sound = w .sound; held = w .held; whole = w .whole }
+      ready-window-lists : WindowReady s around i (slotAt s i) → WindowReady s (lists starts (asked .totals) (asked .counts) sums [] []) i (slotAt s i)
+      ready-window-lists w = record { sound = w .sound; held = w .held; sums-in = w .sums-in; whole = w .whole; sums = w .sums }
 
-  pub next-asks : {p : Lag} {current k : ℕ} → ((totals times peaks : List ℕ) → p ≡ p999Of (s .policy) (windowFor s (lists starts totals counts times peaks) i slot)) → current ≡ currentOf slot → k ≡ 600
+  auto-own : OwnSums s around i slot
+  auto-own = subst (OwnSums s around i) (sym is-slot) (ready-window s around i (asked .ready) .sums)
+
+  -- what `p999` told, of every window whose sums these are, is within the limit: the input's own is one
+  pub next-asks : {p : Lag} {current k : ℕ} → ((totals counts times peaks : List ℕ) → OwnSums s (lists starts totals counts sums times peaks) i slot → p ≡ p999Of (s .policy) (windowFor s (lists starts totals counts sums times peaks) i slot)) → current ≡ currentOf slot → k ≡ 600
       → Asked (s .policy) (held (slot .hold) (part (i * 600) k times) (part (i * 600) k lags)) p current
   next-asks {p} is-p is-current is-k =
       let r : Ready s around i = asked .ready in
@@ -85,6 +93,6 @@ module _ (s : Inputs) (i : ℕ) (starts counts times lags : List ℕ) (asked : A
               lags-long = ap (λ (x : ℕ). length (part (i * 600) x lags)) is-k ∙ held-lags s around (r .fitting) i (r .input);
               whole = (λ t. wholeHold (s .policy) (s .width) (held (is-slot t .hold) (part (i * 600) (is-k t) times) (part (i * 600) (is-k t) lags))) ∙ r .hold;
               current-in = subst (λ (x : ℕ). x ≤ s .policy .«delay_max») (sym (is-current ∙ ap currentOf is-slot)) (current-fits s around i r);
-              p999-in = ap (λ (x : Lag). lagUpTo x (peakMost (s .policy) (s .width))) (is-p [] [] []) ∙ p999-most (s .policy) (windowFor s (lists starts [] counts [] []) i slot);
+              p999-in = ap (λ (x : Lag). lagUpTo x (peakMost (s .policy) (s .width))) (is-p (asked .totals) (asked .counts) times lags auto-own) ∙ p999-most (s .policy) (windowFor s around i slot);
             };
       }

@@ -22,7 +22,7 @@ use Rattle.rules_record.specs.Prune.{pruned}
 use Rattle.rules_record.proofs.InstanceKeys.{pruned-rest, pruned-sized}
 use Rattle.rules_routing.specs.SetDelay.{setDelayOf}
 use Rattle.rules_routing.proofs.SetDelayStored.{stored-sized}
-use Rattle.rules_record.specs.Lent.{Lists, bucketsIn, windowOf, heldOf}
+use Rattle.rules_record.specs.Lent.{Lists, bucketsIn, windowOf, sumsOf, heldOf}
 use Rattle.rules_record.specs.Checks.{Long, Fitting}
 use Rattle.rules_record.specs.Reply.{Reply}
 use Rattle.rules_record.specs.Effects.{Effect, silent, followedBy}
@@ -237,6 +237,7 @@ module _ (s : Inputs) where
   lastly-same l j = record {
     slot = lastly-slots j;
     window = ap (λ (z : Inputs). windowOf z l j) lastly-is;
+    sums = ap (λ (z : Inputs). sumsOf z l j) lastly-is;
     held = ap (λ (z : Inputs). heldOf z l j) lastly-is;
   }
 

@@ -2,11 +2,12 @@
 use Prim.Native.Nat.{ℕ, _<_, _≤_}
 use mathlib.Core.Path.{_≡_, refl, sym, ap, subst, _∙_}
 use Rattle.rules_window.specs.WholeWindow.{wholeWindow}
+use Rattle.rules_window.specs.ColumnSums.{rightSums}
 use Rattle.delay_hold.specs.Whole.{wholeHold}
 use Rattle.rules_record.specs.declared.Slot.{Slot}
 use Rattle.rules_record.specs.declared.Inputs.{Inputs}
 use Rattle.rules_record.specs.Inputs.{slotAt}
-use Rattle.rules_record.specs.Lent.{Lists, bucketsIn, windowFor, windowOf, heldOf}
+use Rattle.rules_record.specs.Lent.{Lists, bucketsIn, windowFor, windowOf, sumsOf, heldOf}
 use Rattle.rules_record.specs.WholePlaces.{proposalFits}
 use Rattle.rules_record.specs.Checks.{Long, Fitting}
 use Rattle.rules_record.proofs.Beside.{Beside}
@@ -17,13 +18,14 @@ use Rattle.rules_tick.specs.InputReady.{Ready}
 pub record SameInput (s : Inputs) (l : Lists) (z : Inputs) (m : Lists) (j : ℕ) : Type 0 where
   pub slot : slotAt z j ≡ slotAt s j
   pub window : windowOf z m j ≡ windowOf s l j
+  pub sums : sumsOf z m j ≡ sumsOf s l j
   pub held : heldOf z m j ≡ heldOf s l j
 
 pub same-none : (s : Inputs) (l : Lists) (j : ℕ) → SameInput s l s l j
-same-none s l j = record { slot = refl; window = refl; held = refl }
+same-none s l j = record { slot = refl; window = refl; sums = refl; held = refl }
 
 pub same-then : (s : Inputs) (l : Lists) (y : Inputs) (k : Lists) (z : Inputs) (m : Lists) (j : ℕ) → SameInput s l y k j → SameInput y k z m j → SameInput s l z m j
-same-then s l y k z m j a b = record { slot = b .slot ∙ a .slot; window = b .window ∙ a .window; held = b .held ∙ a .held }
+same-then s l y k z m j a b = record { slot = b .slot ∙ a .slot; window = b .window ∙ a .window; sums = b .sums ∙ a .sums; held = b .held ∙ a .held }
 
 module _ (s z : Inputs) (settings : SameSettings s z) where
   pub buckets-same : bucketsIn z ≡ bucketsIn s
@@ -57,6 +59,7 @@ module _ (s z : Inputs) (settings : SameSettings s z) where
           totals = b .totals j h apart t;
           counts = b .counts j h apart t;
         });
+    sums = (λ t. sumsOf (settings t) m j) ∙ b .sums j h apart;
     held = λ t. record { hold = same t .hold; times = b .times j h apart t; lags = b .peaks j h apart t };
   }
 
@@ -66,6 +69,7 @@ module _ (s z : Inputs) (settings : SameSettings s z) where
     fitting = fitting-under l m (r .fitting) long;
     input = subst (λ (x : Inputs). j < x .count) (sym settings) (r .input);
     window = ap wholeWindow (same .window) ∙ r .window;
+    sums = (λ t. rightSums (same .window t) (same .sums t)) ∙ r .sums;
     hold = (λ t. wholeHold (settings t .policy) (settings t .width) (same .held t)) ∙ r .hold;
     delay =
         subst (λ (x : Inputs). slotAt z j .delay ≤ x .policy .«delay_max») (sym settings)

@@ -51,6 +51,7 @@ pub record Turn (looks : List Look) (lags : List ℕ) (time : ℕ) (s₀ : Input
   pub starts : length (l .starts) ≡ length (l₀ .starts)
   pub totals : length (l .totals) ≡ length (l₀ .totals)
   pub counts : length (l .counts) ≡ length (l₀ .counts)
+  pub sums : length (l .sums) ≡ length (l₀ .sums)
   pub times : length (l .times) ≡ length (l₀ .times)
   pub peaks : length (l .peaks) ≡ length (l₀ .peaks)
   pub commands : length c ≡ length c₀
@@ -68,6 +69,7 @@ module _ (looks : List Look) (lags : List ℕ) (time : ℕ) (s₀ : Inputs) (l�
     starts = refl;
     totals = refl;
     counts = refl;
+    sums = refl;
     times = refl;
     peaks = refl;
     commands = refl;
@@ -97,10 +99,10 @@ module _ (looks : List Look) (lags : List ℕ) (time : ℕ) (s₀ : Inputs) (l�
             (subst (λ (x : Look). Effected 9 (tickedInput i x (part from k lags) time s l) sent m c d used) is-look e)
 
         pub turn-again :
-            (length (m .starts) ≡ length (l .starts)) → (length (m .totals) ≡ length (l .totals)) → (length (m .counts) ≡ length (l .counts)) → (length (m .times) ≡ length (l .times)) → (length (m .peaks) ≡ length (l .peaks)) → (length d ≡ length c)
+            (length (m .starts) ≡ length (l .starts)) → (length (m .totals) ≡ length (l .totals)) → (length (m .counts) ≡ length (l .counts)) → (length (m .sums) ≡ length (l .sums)) → (length (m .times) ≡ length (l .times)) → (length (m .peaks) ≡ length (l .peaks)) → (length d ≡ length c)
             → Turn looks lags time s₀ l₀ c₀ (i + 1) (sent .inputs) m d (sent .used) (from + look .lags)
         unfolding tickedBelow
-        turn-again starts totals counts times peaks commands = record {
+        turn-again starts totals counts sums times peaks commands = record {
           within = omega arith;
           effected = below;
           from-is = (λ t. turn .from-is t + is-look t .lags) ∙ sym (before-more looks i) ∙ ap (lagsBefore looks) (sym (add-one i));
@@ -110,6 +112,7 @@ module _ (looks : List Look) (lags : List ℕ) (time : ℕ) (s₀ : Inputs) (l�
           starts = starts ∙ turn .starts;
           totals = totals ∙ turn .totals;
           counts = counts ∙ turn .counts;
+          sums = sums ∙ turn .sums;
           times = times ∙ turn .times;
           peaks = peaks ∙ turn .peaks;
           commands = commands ∙ turn .commands;

@@ -4,7 +4,7 @@ use mathlib.Core.Bool.{Bool, true, false}
 use mathlib.Core.Path.{_≡_, refl, sym, ap, _∙_}
 use mathlib.Core.Logic.{_⊎_, ⊎-elim}
 use mathlib.Core.List.{List}
-use native.Mathlib.Nat.{add-mul, add-assoc, add-zero, not-suc-le-zero, lt-of-not-le, eq-or-lt-of-le, suc-mul}
+use native.Mathlib.Nat.{add-mul, add-assoc, add-zero, not-suc-le-zero, eq-or-lt-of-le}
 use native.Mathlib.Omega.{arith}
 use borrow.Author.Tests.{le-leb, leb-true}
 use lib.Dec.{leb}
@@ -15,7 +15,7 @@ use Rattle.base.specs.Lists.{shifted, bumped, sumFrom, rowSum}
 use Rattle.base.specs.Limits.{nanos, timeLimit, windowReach}
 use Rattle.base.proofs.Points.{shifted-at, sum-cong, sum-bump, row-shifted}
 use Rattle.base.proofs.Toward.{shifted-length}
-use Rattle.base.proofs.Flat.{row-le, flat-lt}
+use Rattle.base.proofs.Flat.{row-le, flat-lt, same-row}
 use Rattle.rules_window.specs.Window.{Window, stale, opens, bucketOf, counted}
 use Rattle.rules_window.specs.InPlace.{shiftedBy, droppedInPlace, openedInPlace, pushedInPlace}
 use Rattle.rules_window.specs.Checks.{newestOf, newest}
@@ -63,7 +63,7 @@ opens-old t (suc n) xs h l = let q : suc n - 1 ≡ n = omega arith in rw q (leb-
 below-or : (i n : ℕ) → i < n + 1 → (i ≡ n) ⊎ (i < n)
 below-or i n l = eq-or-lt-of-le (omega arith)
 
-abbrev appended : ℕ → Window → Window
+abbrev pub appended : ℕ → Window → Window
 appended t w = record { seconds = w .seconds + 1; buckets = w .buckets; width = w .width; starts = set (w .starts) (w .seconds) t; totals = w .totals; counts = w .counts }
 
 module _ (t : ℕ) (w : Window) (h : Whole w) (o : opens t (w .seconds) (w .starts) ≡ true) (room : w .seconds < 11) (soon : t ≤ timeLimit) (near : 0 < w .seconds → t - getD (w .starts) 0 0 ≤ windowReach) where
@@ -137,10 +137,10 @@ opened-whole t w h soon near = go (opens t (w .seconds) (w .starts)) refl
 
 -- ---- a lag counts
 module _ (xs : List ℕ) (p : ℕ) where
-  bumped-same : p < length xs → getD (bumped p xs) p 0 ≡ getD xs p 0 + 1
+  pub bumped-same : p < length xs → getD (bumped p xs) p 0 ≡ getD xs p 0 + 1
   bumped-same l = getD-set-same xs p (getD xs p 0 + 1) 0 l
 
-  bumped-other : (i : ℕ) → (i ≡ p → ⊥) → getD (bumped p xs) i 0 ≡ getD xs i 0
+  pub bumped-other : (i : ℕ) → (i ≡ p → ⊥) → getD (bumped p xs) i 0 ≡ getD xs i 0
   bumped-other i g = getD-set-other xs p i (getD xs p 0 + 1) 0 g
 
 pub bucket-lt : (lag W B : ℕ) → 0 < B → bucketOf lag W B < B
@@ -154,13 +154,7 @@ module _ (B : ℕ) (cs : List ℕ) (q b : ℕ) (l : b < B) (fits : q * B + b < l
 
   pub row-other : (r : ℕ) → (r ≡ q → ⊥) → rowSum B (bumped (q * B + b) cs) r ≡ rowSum B cs r
   unfolding sumFrom
-  row-other r g = sum-cong _ _ B (λ i k. bumped-other cs (q * B + b) (r * B + i) (λ z. g (same-row r i k z)))
-    where
-      same-row : (r i : ℕ) → i < B → r * B + i ≡ q * B + b → r ≡ q
-      same-row r i k z =
-          let u : q < suc r = lt-of-not-le (λ (y : suc r ≤ q). omega (arith, row-le (suc r) q B y, suc-mul r B)) in
-          let v : r < suc q = lt-of-not-le (λ (y : suc q ≤ r). omega (arith, row-le (suc q) r B y, suc-mul q B)) in
-          omega arith
+  row-other r g = sum-cong _ _ B (λ i k. bumped-other cs (q * B + b) (r * B + i) (λ z. g (same-row B r i q b k l z)))
 
 pub counted-whole : (lag : ℕ) (w : Window) → Whole w → 0 < w .seconds → 0 < w .buckets → getD (w .totals) (w .seconds - 1) 0 < 4294967295 → Whole (counted lag w)
 unfolding counted

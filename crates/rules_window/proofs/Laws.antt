@@ -285,17 +285,17 @@ module _ (q : Float) (limit : ℕ) (w : Window) where
       go false Nowhere = inl refl
 
   -- the answer has document 01's number, and its value where that is 0, else the value 0
-  pub reply-number : numberOf (quantileUptoReply q limit w) ≡ quantileNumber q w
+  pub reply-number : (sums : List ℕ) → numberOf (quantileUptoReply q limit w sums) ≡ quantileNumber q w sums
   unfolding quantileUptoReply
-  reply-number = by-number (quantileNumber q w)
+  reply-number sums = by-number (quantileNumber q w sums)
     where
       by-number : (n : ℕ) → numberOf (answered n (quantileUpto q limit w)) ≡ n
       by-number zero = ⊎-elim (λ e. ap numberOf e) (λ found. ap numberOf (found .1)) quantile-cases
       by-number (suc n) = refl
 
-  pub reply-value : valueOf (quantileUptoReply q limit w) ≡ accepted (quantileNumber q w) 0 (valueOf (quantileUpto q limit w))
+  pub reply-value : (sums : List ℕ) → valueOf (quantileUptoReply q limit w sums) ≡ accepted (quantileNumber q w sums) 0 (valueOf (quantileUpto q limit w))
   unfolding quantileUptoReply
-  reply-value = by-number (quantileNumber q w)
+  reply-value sums = by-number (quantileNumber q w sums)
     where
       by-number : (n : ℕ) → valueOf (answered n (quantileUpto q limit w)) ≡ accepted n 0 (valueOf (quantileUpto q limit w))
       by-number zero = refl

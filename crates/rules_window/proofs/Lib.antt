@@ -1,15 +1,18 @@
 -- Laws of a window.
 pub mod Answers
 pub mod Checking
+pub mod ColumnSums
 pub mod Edges
 pub mod InUse
 pub mod Keeps
 pub mod Laws
 pub mod Numbers
 pub mod Parting
+pub mod OneSecond
 pub mod Reaching
 pub mod Stales
 pub mod Sums
+pub mod SumsKept
 pub mod Ticks
 pub mod Totals
 pub mod WholeAt

@@ -1,13 +1,11 @@
--- The sums and the search of a quantile, as the loops go: rows along memory, and only the buckets up to the limit. Assumes nothing.
-use Prim.Native.Nat.{ℕ, zero, suc, _+_, _-_, _*_, _/_, _<_, _≤_, _^_, min}
+-- The sums and the search of a quantile over a row of sums, as the loops go, and only in the buckets up to the limit. Assumes nothing.
+use Prim.Native.Nat.{ℕ, zero, suc, _+_, _-_, _*_, _/_, _<_, _≤_, min}
 use mathlib.Core.Bool.{Bool, true, false}
 use mathlib.Core.Path.{_≡_, refl, sym, ap, _∙_}
 use mathlib.Core.List.{List}
 use native.Mathlib.Omega.{arith}
 use native.Mathlib.Nat.{zero-add, div-lt-iff-lt-mul, le-div-iff-mul-le}
 use borrow.Author.Tests.{le-leb, lt-leb, eq-eqb, ne-eqb}
-use mir.Syntax.{w64}
-use mir.Val.{Fits}
 use lib.Dec.{leb}
 use lib.Ieee.{Float}
 use lib.ListN.{getD}
@@ -15,16 +13,15 @@ use Rattle.base.specs.Choice.{pick}
 use Rattle.base.specs.Lists.{sum, sumFrom}
 use Rattle.base.proofs.Choices.{by-le, no-pick, yes-pick}
 use Rattle.base.proofs.All.{sum-none, sum-more, sum-end}
-use Rattle.base.proofs.Flat.{row-within}
 use Rattle.base.proofs.Points.{sum-cong}
 use Rattle.doubles.specs.Quantile as places
 use Rattle.rules_window.specs.declared.Quantile.{Quantile}
 use Rattle.rules_window.specs.declared.Quantile.the-variants.{End, None}
 use Rattle.rules_window.specs.declared.Found.{Found}
 use Rattle.rules_window.specs.declared.Found.the-variants.{At, Nowhere}
-use Rattle.rules_window.specs.Quantile.{column, within, running, reach, endOf, quantileIn, ShortRows}
-use Rattle.rules_window.specs.InPlace.{rowsFrom}
-use Rattle.rules_window.proofs.Sums.{sum-swap, sum-split, sum-rises, sum-past, from-later, from-part}
+use Rattle.rules_window.specs.Quantile.{column, within, running, reach, endOf, quantileIn}
+use Rattle.rules_window.proofs.Sums.{sum-split, sum-rises, sum-past}
+use Rattle.rules_window.proofs.OneSecond.{one-column}
 
 -- ---- the lags of one bucket
 module _ (B b : ℕ) (cs : List ℕ) where
@@ -40,24 +37,6 @@ module _ (B b : ℕ) (cs : List ℕ) where
   unfolding column
   column-end n i s e h l = sum-end _ n i s e h l
 
--- ---- k buckets of each row, from b on
-module _ (B b k : ℕ) (cs : List ℕ) where
-  pub rows-none : 0 ≡ rowsFrom B b k 0 cs
-  unfolding rowsFrom
-  rows-none = sum-none _
-
-  pub rows-more : (i s v : ℕ) → s ≡ rowsFrom B b k i cs → v ≡ sumFrom (i * B + b) k cs → s + v ≡ rowsFrom B b k (i + 1) cs
-  unfolding rowsFrom
-  rows-more i s v e h = sum-more _ i s v e h
-
-  pub rows-end : (n i s : ℕ) → s ≡ rowsFrom B b k i cs → i ≤ n → n ≤ i → s ≡ rowsFrom B b k n cs
-  unfolding rowsFrom
-  rows-end n i s e h l = sum-end _ n i s e h l
-
-  rows-columns : (n : ℕ) → rowsFrom B b k n cs ≡ sum (λ i. column B (b + i) n cs) k
-  unfolding rowsFrom column
-  rows-columns n = sum-cong _ _ n (λ r h. from-later (r * B) b k cs) ∙ sum-swap (λ r i. getD cs (r * B + (b + i)) 0) k n
-
 pub running-none : (limit W B n : ℕ) (cs : List ℕ) → 0 ≡ running limit W B n cs 0
 unfolding running
 running-none limit W B n cs = sum-none _
@@ -66,69 +45,80 @@ running-rises : (limit W B n : ℕ) (cs : List ℕ) (b c : ℕ) → b ≤ c → 
 unfolding running
 running-rises limit W B n cs b c h = sum-rises (within limit W B n cs) b c h
 
--- ---- the buckets that start at most at the limit are the first min B (limit / W + 1)
-module _ (limit W B n : ℕ) (cs : List ℕ) (pos : 1 ≤ W) (m : ℕ) (em : m ≡ min B (limit / W + 1)) where
-  within-shown : (b : ℕ) → b < m → within limit W B n cs b ≡ column B b n cs
+-- ---- the buckets that start at most at the limit are the first min B (limit / W + 1) of a row of sums
+module _ (limit W B : ℕ) (us : List ℕ) (pos : 1 ≤ W) (m : ℕ) (em : m ≡ min B (limit / W + 1)) where
+  within-shown : (b : ℕ) → b < m → within limit W B 1 us b ≡ getD us b 0
   unfolding within
-  within-shown b l = yes-pick (column B b n cs) 0 (le-leb (b * W) limit (le-div-iff-mul-le pos .0 (omega arith)))
+  within-shown b l = yes-pick (column B b 1 us) 0 (le-leb (b * W) limit (le-div-iff-mul-le pos .0 (omega arith))) ∙ one-column B b us
 
-  within-hidden : (b : ℕ) → m ≤ b → b < B → within limit W B n cs b ≡ 0
+  within-hidden : (b : ℕ) → m ≤ b → b < B → within limit W B 1 us b ≡ 0
   unfolding within
-  within-hidden b l k = no-pick (column B b n cs) 0 (lt-leb (b * W) limit (div-lt-iff-lt-mul pos .0 (omega arith)))
+  within-hidden b l k = no-pick (column B b 1 us) 0 (lt-leb (b * W) limit (div-lt-iff-lt-mul pos .0 (omega arith)))
 
   -- the running count rises no more after these
-  running-past : (b : ℕ) → m ≤ b → b ≤ B → running limit W B n cs b ≡ running limit W B n cs m
+  running-past : (b : ℕ) → m ≤ b → b ≤ B → running limit W B 1 us b ≡ running limit W B 1 us m
   unfolding running
-  running-past b l k = sum-past (within limit W B n cs) m b l (λ i g h. within-hidden i g (omega arith))
+  running-past b l k = sum-past (within limit W B 1 us) m b l (λ i g h. within-hidden i g (omega arith))
 
   -- k buckets more, summed along memory
-  pub running-block : (b k s v : ℕ) → s ≡ running limit W B n cs b → v ≡ rowsFrom B b k n cs → b + k ≤ m → s + v ≡ running limit W B n cs (b + k)
-  unfolding running
+  pub running-block : (b k s v : ℕ) → s ≡ running limit W B 1 us b → v ≡ sumFrom b k us → b + k ≤ m → s + v ≡ running limit W B 1 us (b + k)
+  unfolding running sumFrom
   running-block b k s v e h l =
-      let split : sum (within limit W B n cs) (b + k) ≡ sum (within limit W B n cs) b + sum (λ i. within limit W B n cs (b + i)) k = sum-split (within limit W B n cs) b k in
-      let shown : sum (λ i. within limit W B n cs (b + i)) k ≡ sum (λ i. column B (b + i) n cs) k = sum-cong _ _ k (λ i g. within-shown (b + i) (omega arith)) in
-      omega (arith, split, shown, e, h, rows-columns B b k cs n)
+      let split : sum (within limit W B 1 us) (b + k) ≡ sum (within limit W B 1 us) b + sum (λ i. within limit W B 1 us (b + i)) k = sum-split (within limit W B 1 us) b k in
+      let shown : sum (λ i. within limit W B 1 us (b + i)) k ≡ sum (λ i. getD us (b + i) 0) k = sum-cong _ _ k (λ i g. within-shown (b + i) (omega arith)) in
+      omega (arith, split, shown, e, h)
 
-  pub total-is : (v : ℕ) → v ≡ rowsFrom B 0 m n cs → v ≡ running limit W B n cs B
-  total-is v e = simp zero-add at (running-block 0 m 0 v (running-none limit W B n cs) e (omega arith)) ∙ sym (running-past B (omega arith) (omega arith))
+  pub total-is : (v : ℕ) → v ≡ sumFrom 0 m us → v ≡ running limit W B 1 us B
+  total-is v e = simp zero-add at (running-block 0 m 0 v (running-none limit W B 1 us) e (omega arith)) ∙ sym (running-past B (omega arith) (omega arith))
 
-  pub running-more : (b s v : ℕ) → s ≡ running limit W B n cs b → v ≡ column B b n cs → b < m → s + v ≡ running limit W B n cs (b + 1)
+  pub running-more : (b s v : ℕ) → s ≡ running limit W B 1 us b → v ≡ getD us b 0 → b < m → s + v ≡ running limit W B 1 us (b + 1)
   unfolding running
-  running-more b s v e h l = sum-more (within limit W B n cs) b s v e (h ∙ sym (within-shown b l))
+  running-more b s v e h l = sum-more (within limit W B 1 us) b s v e (h ∙ sym (within-shown b l))
 
-  module _ (target : ℕ) (whole : Found) (b : ℕ) (inv : whole ≡ reach target limit W B n cs (B - b) b) where
+  -- no part of the row, and no running count, is more than the total
+  module _ (most : ℕ) (few : running limit W B 1 us B ≤ most) where
+    pub shown-few : sumFrom 0 m us ≤ most
+    shown-few = omega (arith, total-is (sumFrom 0 m us) refl)
+
+    pub block-few : (b k s : ℕ) → s ≡ running limit W B 1 us b → b + k ≤ m → s + sumFrom b k us ≤ most
+    block-few b k s e l = omega (arith, running-block b k s (sumFrom b k us) e refl l, running-rises limit W B 1 us (b + k) B (omega arith))
+
+    pub next-few : (b s v : ℕ) → s ≡ running limit W B 1 us b → v ≡ getD us b 0 → b < m → s + v ≤ most
+    next-few b s v e h l = omega (arith, running-more b s v e h l, running-rises limit W B 1 us (b + 1) B (omega arith))
+
+  module _ (target : ℕ) (whole : Found) (b : ℕ) (inv : whole ≡ reach target limit W B 1 us (B - b) b) where
     -- a running count below the target: nothing is reached in the buckets that it counts
-    below : (k : ℕ) → b + k ≤ B → running limit W B n cs (b + k) < target → whole ≡ reach target limit W B n cs (B - (b + k)) (b + k)
+    below : (k : ℕ) → b + k ≤ B → running limit W B 1 us (b + k) < target → whole ≡ reach target limit W B 1 us (B - (b + k)) (b + k)
     unfolding reach
     below zero l t = let e : b + 0 ≡ b = omega arith in rw e inv
     below (suc k) l t =
         let e : b + k + 1 ≡ b + suc k = omega arith in
         let q : B - (b + k) ≡ suc (B - (b + suc k)) = omega arith in
-        let u : leb target (running limit W B n cs (b + suc k)) ≡ false = lt-leb target (running limit W B n cs (b + suc k)) t in
-        below k (omega arith) (omega (arith, running-rises limit W B n cs (b + k) (b + suc k) (omega arith))) ∙ rw (q, e, u)
+        let u : leb target (running limit W B 1 us (b + suc k)) ≡ false = lt-leb target (running limit W B 1 us (b + suc k)) t in
+        below k (omega arith) (omega (arith, running-rises limit W B 1 us (b + k) (b + suc k) (omega arith))) ∙ rw (q, e, u)
 
-    pub reach-more : (s v : ℕ) → s ≡ running limit W B n cs b → v ≡ column B b n cs → b < m → s + v < target → whole ≡ reach target limit W B n cs (B - (b + 1)) (b + 1)
+    pub reach-more : (s v : ℕ) → s ≡ running limit W B 1 us b → v ≡ getD us b 0 → b < m → s + v < target → whole ≡ reach target limit W B 1 us (B - (b + 1)) (b + 1)
     reach-more s v e h l k = below 1 (omega arith) (rw (← running-more b s v e h l) k)
 
-    pub reach-block : (d s v : ℕ) → s ≡ running limit W B n cs b → v ≡ rowsFrom B b d n cs → b + d ≤ m → s + v < target → whole ≡ reach target limit W B n cs (B - (b + d)) (b + d)
+    pub reach-block : (d s v : ℕ) → s ≡ running limit W B 1 us b → v ≡ sumFrom b d us → b + d ≤ m → s + v < target → whole ≡ reach target limit W B 1 us (B - (b + d)) (b + d)
     reach-block d s v e h l k = below d (omega arith) (rw (← running-block b d s v e h l) k)
 
-    pub reach-stop : (s v : ℕ) → s ≡ running limit W B n cs b → v ≡ column B b n cs → b < m → target ≤ s + v → At b ≡ whole
+    pub reach-stop : (s v : ℕ) → s ≡ running limit W B 1 us b → v ≡ getD us b 0 → b < m → target ≤ s + v → At b ≡ whole
     unfolding reach
     reach-stop s v e h l k =
         let q : B - b ≡ suc (B - (b + 1)) = omega arith in
-        let u : leb target (running limit W B n cs (b + 1)) ≡ true = rw (← running-more b s v e h l) (le-leb target (s + v) k) in
+        let u : leb target (running limit W B 1 us (b + 1)) ≡ true = rw (← running-more b s v e h l) (le-leb target (s + v) k) in
         sym (inv ∙ rw (q, u))
 
     -- past the limit nothing is reached any more
-    none-past : (d c : ℕ) → m ≤ c → c + d ≤ B → running limit W B n cs m < target → reach target limit W B n cs d c ≡ Nowhere
+    none-past : (d c : ℕ) → m ≤ c → c + d ≤ B → running limit W B 1 us m < target → reach target limit W B 1 us d c ≡ Nowhere
     unfolding reach
     none-past zero c l k t = refl
     none-past (suc d) c l k t =
-        let u : leb target (running limit W B n cs (c + 1)) ≡ false = lt-leb target (running limit W B n cs (c + 1)) (omega (arith, running-past (c + 1) (omega arith) (omega arith))) in
+        let u : leb target (running limit W B 1 us (c + 1)) ≡ false = lt-leb target (running limit W B 1 us (c + 1)) (omega (arith, running-past (c + 1) (omega arith) (omega arith))) in
         rw u (none-past d (c + 1) (omega arith) (omega arith) t)
 
-    pub reach-past : (s : ℕ) → s ≡ running limit W B n cs b → (1 ≤ b → s < target) → b ≤ m → m ≤ b → Nowhere ≡ whole
+    pub reach-past : (s : ℕ) → s ≡ running limit W B 1 us b → (1 ≤ b → s < target) → b ≤ m → m ≤ b → Nowhere ≡ whole
     unfolding reach
     reach-past s e t h l = by-le B b done (λ g. sym (inv ∙ none-past (B - b) b l (omega arith) (rw same (rw e at (t (omega arith))))))
       where
@@ -170,15 +160,3 @@ module _ (q : Float) (limit W B n : ℕ) (cs : List ℕ) (t : ℕ) (et : t ≡ r
 
     pub bucket-found : (b : ℕ) → found ≡ At b → b < B
     bucket-found b f = omega (arith, found-below target limit W B n cs B 0 b (sym ef ∙ f))
-
--- a part of a short row fits 32 bits
-pub row-short : (r n B b k : ℕ) (cs : List ℕ) → ShortRows B n cs → r < n → b + k ≤ B → sumFrom (r * B + b) k cs ≤ 4294967295
-row-short r n B b k cs short h g = omega (arith, short r h, from-part (r * B) b k B cs g)
-
--- k places of a row, from b on, stand in the list
-module _ (r n B L b k : ℕ) (h : r < n) (l : n ≤ 11) (e : L ≡ 11 * B) (g : b + k ≤ B) where
-  pub row-part : r * B + b + k ≤ L
-  row-part = omega (arith, row-within r n B L h l e)
-
-  pub part-fits : L < 2 ^ 64 → Fits w64 (r * B + b)
-  part-fits f = omega (arith, row-within r n B L h l e)

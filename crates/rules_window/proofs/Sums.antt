@@ -4,8 +4,6 @@ use mathlib.Core.Path.{_≡_, refl, sym, ap, _∙_}
 use mathlib.Core.List.{List}
 use native.Mathlib.Nat.{add-assoc, not-suc-le-zero, suc-mul}
 use native.Mathlib.Omega.{arith}
-use mir.Syntax.{w32}
-use mir.Val.{Fits}
 use lib.ListN.{getD}
 use Rattle.base.specs.Lists.{sum, sumFrom}
 use Rattle.base.proofs.All.{sum-more}
@@ -52,16 +50,11 @@ sum-bound f most zero h = omega arith
 sum-bound f most (suc n) h = omega (arith, sum-bound f most n (λ i l. h i (omega arith)), h n (omega arith), suc-mul n most)
 
 -- ---- the numbers of a list
-pub from-later : (a b k : ℕ) (xs : List ℕ) → sumFrom (a + b) k xs ≡ sum (λ i. getD xs (a + (b + i)) 0) k
+-- the first ones and the next are no more than all
+pub from-next : (a i n s : ℕ) (xs : List ℕ) → s ≡ sumFrom a i xs → i < n → s + getD xs (a + i) 0 ≤ sumFrom a n xs
 unfolding sumFrom
-from-later a b k xs = sum-cong _ _ k (λ i l. ap (λ (x : ℕ). getD xs x 0) (add-assoc a b i))
+from-next a i n s xs e h = omega (arith, sum-more (λ b. getD xs (a + b) 0) i s _ e refl, sum-rises (λ b. getD xs (a + b) 0) (i + 1) n (omega arith))
 
--- a part sums to no more
-pub from-part : (a b k n : ℕ) (xs : List ℕ) → b + k ≤ n → sumFrom (a + b) k xs ≤ sumFrom a n xs
+pub from-split : (a m n : ℕ) (xs : List ℕ) → sumFrom a (m + n) xs ≡ sumFrom a m xs + sumFrom (a + m) n xs
 unfolding sumFrom
-from-part a b k n xs g = omega (arith, from-later a b k xs, sum-split (λ i. getD xs (a + i) 0) b k, sum-rises (λ i. getD xs (a + i) 0) (b + k) n g)
-
--- where all fit 32 bits, so do the first ones and the next
-pub from-fits : (a i n s : ℕ) (xs : List ℕ) → s ≡ sumFrom a i xs → i < n → sumFrom a n xs ≤ 4294967295 → Fits w32 (s + getD xs (a + i) 0)
-unfolding sumFrom
-from-fits a i n s xs e h m = omega (arith, sum-more (λ b. getD xs (a + b) 0) i s _ e refl, sum-rises (λ b. getD xs (a + b) 0) (i + 1) n (omega arith))
+from-split a m n xs = sum-split (λ i. getD xs (a + i) 0) m n ∙ ap (λ (x : ℕ). sum (λ i. getD xs (a + i) 0) m + x) (sum-cong _ _ n (λ i l. ap (λ (x : ℕ). getD xs x 0) (sym (add-assoc a m i))))

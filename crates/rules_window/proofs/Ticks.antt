@@ -12,17 +12,20 @@ use lib.Seq.{getD-set-same, drop-cons}
 use Rattle.base.specs.Choice.{pick}
 use Rattle.base.specs.Lists.{shifted}
 use Rattle.base.specs.Limits.{timeLimit}
-use Rattle.base.proofs.Points.{shifted-at}
-use Rattle.base.proofs.Choices.{yes-ask, accepted-new}
+use Rattle.base.proofs.Points.{shifted-at, true-both}
+use Rattle.base.proofs.Choices.{yes-ask}
 use Rattle.buckets.proofs.Told.{width-yes, buckets-yes}
 use Rattle.rules_window.specs.Window.{Window, stale, opens, counted, pushed, pushedAll}
 use Rattle.rules_window.specs.WholeWindow.{Sound}
+use Rattle.rules_window.specs.ColumnSums.{columnSums}
 use Rattle.rules_window.specs.InPlace.{droppedInPlace, openedInPlace, pushedInPlace}
 use Rattle.rules_window.specs.Checks.{newestOf, newest, roomFor, checked, pushNumber, pushReply}
 use Rattle.rules_window.proofs.WholeAt.{Whole, whole-of, of-whole}
 use Rattle.rules_window.proofs.Keeps.{dropped-whole, opened-whole, opens-dropped, open-fits, near, pushed-whole}
 use Rattle.rules_window.proofs.InUse.{in-place}
 use Rattle.rules_window.proofs.Stales.{opens-used}
+use Rattle.rules_window.proofs.ColumnSums.{sums-length, own-sums-right}
+use Rattle.rules_window.proofs.Numbers.{replied-new}
 
 newest-dropped : (t : ℕ) (w : Window) → newest t (droppedInPlace t w) ≡ newest t w
 unfolding newestOf droppedInPlace
@@ -126,8 +129,8 @@ module _ (time : ℕ) (lags : List ℕ) (last : Window) (i : ℕ) (w : Window) (
   going-end l = sym (g .is ∙ rw (drop-of-length-le lags l))
 
 -- ---- the call accepts a push of a sound window
--- 17, 18, 5 and 6 let a sound window through
-sound-checked : (w : Window) (rest : ℕ) → Sound w → checked w rest ≡ rest
+-- 17, 18, 5 and 6 let a sound window with its own sums through
+sound-checked : (w : Window) (rest : ℕ) → Sound w → checked w (columnSums w) rest ≡ rest
 unfolding checked
 sound-checked w rest s =
     yes-ask 17 _ (width-yes _ (s .shaped .width-low) (s .shaped .width-high))
@@ -135,10 +138,13 @@ sound-checked w rest s =
     ∙ yes-ask 5 _ (eq-eqb _ _ (s .shaped .starts-long))
     ∙ yes-ask 5 _ (eq-eqb _ _ (s .shaped .totals-long))
     ∙ yes-ask 5 _ (eq-eqb _ _ (s .shaped .counts-long))
-    ∙ yes-ask 6 _ (s .whole)
+    ∙ yes-ask 5 _ (eq-eqb _ _ (sums-length w))
+    ∙ yes-ask 6 _ (true-both _ _ (s .whole) (own-sums-right w))
 
-pub push-accepted : (lag time : ℕ) (w : Window) → Sound w → time ≤ timeLimit → newest time w < 4294967295 → pushReply lag time w .window ≡ pushed lag time w
+pub push-accepted : (lag time : ℕ) (w : Window) → Sound w → time ≤ timeLimit → newest time w < 4294967295
+    → pushReply lag time w (columnSums w) ≡ record { number = 0; window = pushed lag time w; sums = columnSums (pushed lag time w) }
 unfolding pushReply pushNumber
 push-accepted lag time w s soon room =
     let one : newest time w + 1 ≤ 4294967295 = omega arith in
-    accepted-new _ w (pushed lag time w) (sound-checked w _ s ∙ yes-ask 8 _ (le-leb _ _ soon) ∙ yes-ask 11 _ (le-leb _ _ one))
+    let e = sound-checked w _ s ∙ yes-ask 8 _ (le-leb _ _ soon) ∙ yes-ask 11 _ (le-leb _ _ one) in
+    sym (replied-new 0 _ w (columnSums w) _ _ _ (sym e) refl refl refl)

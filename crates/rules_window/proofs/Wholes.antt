@@ -1,8 +1,8 @@
--- The check of a whole window as the code makes it: a part that fails, and all 11 rows summed at once. Assumes nothing.
+-- Check 6 as the code makes it: a part that fails, and all 11 rows summed at once, along them and across them. Assumes nothing.
 use Prim.Native.Nat.{ℕ, _+_, _-_, _*_, _/_, _%_, _<_, _≤_}
 use mathlib.Core.Bool.{Bool, true, false, not}
 use mathlib.Core.Path.{_≡_, sym, ap, _∙_}
-use mathlib.Core.List.{List}
+use mathlib.Core.List.{List, []}
 use native.Mathlib.Nat.{div-add-mod', mod-lt, le-div-iff-mul-le, div-lt-iff-lt-mul}
 use native.Mathlib.Omega.{arith}
 use borrow.Author.Tests.{eq-eqb, eqb-true, le-leb, lt-leb, not-true, not-false}
@@ -11,11 +11,16 @@ use lib.ListN.{length, getD}
 use Rattle.base.specs.Choice.{both}
 use Rattle.base.specs.Lists.{blankFrom, sumFrom, rowSum}
 use Rattle.base.proofs.Choices.{by-bool, by-le}
+use Rattle.base.proofs.Flat.{row-le}
 use Rattle.base.proofs.Points.{both-true, true-both, all-at, all-intro, blank-at, blank-intro, past-end, sum-at-le}
+use Rattle.base.proofs.Tests.{all-cong}
 use Rattle.base.specs.Limits.{nanos, timeLimit, windowReach}
 use Rattle.base.specs.Rows.{apart, upTo, spanOf}
-use Rattle.rules_window.specs.Window.{Window}
-use Rattle.rules_window.specs.WholeWindow.{summed, wholeWindow, Shaped}
+use Rattle.rules_window.specs.Window.{Window, windowed}
+use Rattle.rules_window.specs.Quantile.{column}
+use Rattle.rules_window.specs.ColumnSums.{rightSums}
+use Rattle.rules_window.specs.WholeWindow.{summed, wholeWindow, Shaped, talliesRight, wholeWithSums}
+use Rattle.rules_window.proofs.Sums.{sum-past}
 use Rattle.rules_window.proofs.WholeAt.{Whole, Parts, parts-of, of-parts, whole-of, blank-row}
 
 -- ---- a part that fails
@@ -47,7 +52,7 @@ module _ (B : ℕ) (ts cs : List ℕ) (n : ℕ) (long : length cs ≡ 11 * B) (p
   unfolding summed
   row-is r l = eqb-true _ _ (both-true _ _ (all-at _ _ h r l) .1)
 
-  unused-zero : (i : ℕ) → n * B ≤ i → getD cs i 0 ≡ 0
+  pub unused-zero : (i : ℕ) → n * B ≤ i → getD cs i 0 ≡ 0
   unfolding sumFrom
   unused-zero i l = by-le (length cs) i (past-end cs i) inside
     where
@@ -71,8 +76,20 @@ module _ (w : Window) where
       unused : (r : ℕ) → w .seconds ≤ r → both (leb (getD (w .totals) r 0) 4294967295) (eqb (rowSum (w .buckets) (w .counts) r) (getD (w .totals) r 0)) ≡ true
       unused r g = true-both _ _ (le-leb (getD (w .totals) r 0) 4294967295 (omega (arith, h .blankT r g))) (eq-eqb _ _ (blank-row w h r g ∙ sym (h .blankT r g)))
 
-  pub rows-tell : (ra : Bool) (a : ℕ) (rt rs rz q : Bool) → Shaped w → w .seconds ≤ 11 → ra ≡ apart nanos (w .seconds - 1) (w .starts) → not ra ≡ false → a ≡ spanOf (w .seconds) (w .starts) → a ≤ windowReach → rt ≡ upTo timeLimit (w .seconds) (w .starts) → not rt ≡ false → rs ≡ blankFrom (w .seconds) (w .starts) → not rs ≡ false → rz ≡ blankFrom (w .seconds) (w .totals) → not rz ≡ false → q ≡ summed 11 (w .buckets) (w .totals) (w .counts) → q ≡ wholeWindow w
-  rows-tell ra a rt rs rz q s few ea ha es hs et ht eb hb ez hz e = e ∙ by-bool (summed 11 (w .buckets) (w .totals) (w .counts)) (λ h. h ∙ sym (of-parts w (parts h))) (λ h. h ∙ none h)
+  -- .. and the columns of all 11 rows are those of the seconds in use
+  all-columns : Whole w → (sums : List ℕ) → rightSums (windowed 11 (w .buckets) 0 [] [] (w .counts)) sums ≡ rightSums w sums
+  unfolding rightSums column
+  all-columns h sums =
+      all-cong _ _ (w .buckets)
+      (λ b l. ap (λ (x : ℕ). eqb (getD sums b 0) x) (sum-past (λ r. getD (w .counts) (r * w .buckets + b) 0) (w .seconds) 11 (h .few) (λ r g k. h .blankC (r * w .buckets + b) (omega (arith, row-le (w .seconds) r (w .buckets) g)))))
+
+  pub rows-tell : (ra : Bool) (a : ℕ) (rt rs rz q : Bool) (sums : List ℕ) → Shaped w → w .seconds ≤ 11 → ra ≡ apart nanos (w .seconds - 1) (w .starts) → not ra ≡ false → a ≡ spanOf (w .seconds) (w .starts) → a ≤ windowReach → rt ≡ upTo timeLimit (w .seconds) (w .starts) → not rt ≡ false → rs ≡ blankFrom (w .seconds) (w .starts) → not rs ≡ false → rz ≡ blankFrom (w .seconds) (w .totals) → not rz ≡ false → q ≡ talliesRight (w .buckets) (w .totals) (w .counts) sums → q ≡ wholeWithSums w sums
+  unfolding both
+  rows-tell ra a rt rs rz q sums s few ea ha es hs et ht eb hb ez hz e =
+      e
+      ∙ by-bool (summed 11 (w .buckets) (w .totals) (w .counts))
+      (λ h. let whole : wholeWindow w ≡ true = of-parts w (parts h) in rw (h, whole) (all-columns (whole-of w (record { shaped = s; whole = whole })) sums))
+      (λ h. rw (h, ← none h))
     where
       zero-totals : blankFrom (w .seconds) (w .totals) ≡ true
       zero-totals = sym ez ∙ not-false rz hz

@@ -2,10 +2,11 @@
 -- A law shows that they leave what document 01's order leaves. Assumes nothing.
 use Prim.Native.Nat.{ℕ, _+_, _-_, _*_}
 use mathlib.Core.List.{List}
-use lib.ListN.{set}
+use lib.ListN.{getD, set}
 use Rattle.base.specs.Choice.{pick}
-use Rattle.base.specs.Lists.{shifted, sum, sumFrom}
+use Rattle.base.specs.Lists.{shifted, listed}
 use Rattle.rules_window.specs.Window.{Window, stale, opens, counted}
+use Rattle.rules_window.specs.Quantile.{column}
 
 -- the k oldest seconds go, and the others move down
 abbrev pub shiftedBy : (k : ℕ) (w : Window) → Window
@@ -37,6 +38,9 @@ openedInPlace time w =
 unfoldable pub pushedInPlace : (lag time : ℕ) (w : Window) → Window
 pushedInPlace lag time w = counted lag (openedInPlace time (droppedInPlace time w))
 
--- the lags of k buckets from b on, summed row by row along memory
-unfoldable pub rowsFrom : (buckets b k n : ℕ) (counts : List ℕ) → ℕ
-rowsFrom buckets b k n counts = sum (λ r. sumFrom (r * buckets + b) k counts) n
+-- the sums once the lags of row r are taken off, and those of the k oldest seconds
+unfoldable pub lessRow : (buckets r : ℕ) (counts sums : List ℕ) → List ℕ
+lessRow buckets r counts sums = listed (λ b. getD sums b 0 - getD counts (r * buckets + b) 0) buckets
+
+unfoldable pub lessRows : (buckets k : ℕ) (counts sums : List ℕ) → List ℕ
+lessRows buckets k counts sums = listed (λ b. getD sums b 0 - column buckets b k counts) buckets

@@ -1,12 +1,12 @@
 -- Document 01, "LagWindow": the quantile of the counted lags up to a limit. Assumes nothing.
-use Prim.Native.Nat.{ℕ, zero, suc, _+_, _*_, _<_, _≤_}
+use Prim.Native.Nat.{ℕ, zero, suc, _+_, _*_}
 use mathlib.Core.List.{List}
 use mathlib.Core.Bool.{false}
 use lib.Dec.{leb, eqb}
 use lib.ListN.{getD}
 use lib.Ieee.{Float, binary64, round}
 use Rattle.base.specs.Choice.{pick}
-use Rattle.base.specs.Lists.{sum, rowSum}
+use Rattle.base.specs.Lists.{sum}
 use Rattle.doubles.specs.Quantile as places
 use Rattle.rules_window.specs.declared.Quantile.{Quantile}
 use Rattle.rules_window.specs.declared.Quantile.the-variants.{End, None}
@@ -65,7 +65,3 @@ totalUpto limit w = running limit (w .width) (w .buckets) (w .seconds) (w .count
 -- what the place of q among these lags is asked for: they are few enough, and q is from 0 to 1
 abbrev pub Placeable : Float → ℕ → Window → Type 0
 Placeable q limit w = places.TargetAsked (totalUpto limit w) q
-
--- what the summing of rows in 32 bits asks: each of the n seconds counts at most 4,294,967,295 lags, so that no part of its row wraps
-abbrev pub ShortRows : (buckets n : ℕ) → List ℕ → Type 0
-ShortRows buckets n counts = (r : ℕ) → r < n → rowSum buckets counts r ≤ 4294967295

@@ -14,8 +14,10 @@ use text_lending::Heard;
 use text_lending::LONE_COUNTS;
 use text_lending::LONE_PEAKS;
 use text_lending::LONE_SECONDS;
+use text_lending::LONE_SUMS;
 use text_lending::Peaks;
 use text_lending::Seconds;
+use text_lending::Sums;
 use text_lending::Times;
 use text_lending::Words;
 use text_lending::buckets_in;
@@ -117,6 +119,7 @@ fn lone(
     starts: &mut Seconds,
     totals: &mut Seconds,
     counts: &mut Counts,
+    sums: &mut Sums,
     times: &mut Times,
     peaks: &mut Peaks,
     bytes: &mut Bytes,
@@ -135,13 +138,22 @@ fn lone(
                 window.buckets,
                 LONE_SECONDS,
                 LONE_COUNTS,
+                LONE_SUMS,
                 starts,
                 totals,
                 counts,
+                sums,
             );
             window.seconds = asked.seconds;
             text_alone::Answered {
                 alone: Alone { window, ..kept },
+                answer: Answer::Done,
+            }
+        }
+        Lone::WindowSum(asked) => {
+            text_crafted::sum(asked, LONE_SUMS, sums);
+            text_alone::Answered {
+                alone: kept,
                 answer: Answer::Done,
             }
         }
@@ -153,7 +165,17 @@ fn lone(
                 answer: Answer::Done,
             }
         }
-        _ => text_alone::answer(request, kept, short, starts, totals, counts, times, peaks),
+        _ => text_alone::answer(
+            request,
+            kept,
+            short,
+            starts,
+            totals,
+            counts,
+            sums,
+            times,
+            peaks,
+        ),
     }
 }
 
@@ -167,6 +189,7 @@ fn alone_by(
     starts: &mut Seconds,
     totals: &mut Seconds,
     counts: &mut Counts,
+    sums: &mut Sums,
     times: &mut Times,
     peaks: &mut Peaks,
     bytes: &mut Bytes,
@@ -188,6 +211,7 @@ fn alone_by(
                 starts,
                 totals,
                 counts,
+                sums,
                 times,
                 peaks,
                 bytes,
@@ -277,6 +301,7 @@ fn called(
     starts: &mut Seconds,
     totals: &mut Seconds,
     counts: &mut Counts,
+    sums: &mut Sums,
     times: &mut Times,
     peaks: &mut Peaks,
     commands: &mut Words,
@@ -299,6 +324,7 @@ fn called(
                 starts,
                 totals,
                 counts,
+                sums,
                 times,
                 peaks,
                 commands,
@@ -313,6 +339,7 @@ fn called(
                 starts,
                 totals,
                 counts,
+                sums,
                 times,
                 peaks,
             ),
@@ -327,6 +354,7 @@ fn called(
                 starts,
                 totals,
                 counts,
+                sums,
                 times,
                 peaks,
                 bytes,
@@ -412,6 +440,7 @@ fn answered(
     starts: &mut Seconds,
     totals: &mut Seconds,
     counts: &mut Counts,
+    sums: &mut Sums,
     times: &mut Times,
     peaks: &mut Peaks,
     commands: &mut Words,
@@ -438,6 +467,7 @@ fn answered(
                 starts,
                 totals,
                 counts,
+                sums,
                 times,
                 peaks,
                 commands,
@@ -473,6 +503,7 @@ fn answered(
                 starts,
                 totals,
                 counts,
+                sums,
                 times,
                 peaks,
                 bytes,
@@ -532,6 +563,7 @@ fn run(
     starts: &mut Seconds,
     totals: &mut Seconds,
     counts: &mut Counts,
+    sums: &mut Sums,
     times: &mut Times,
     peaks: &mut Peaks,
     commands: &mut Words,
@@ -557,6 +589,7 @@ fn run(
                 starts,
                 totals,
                 counts,
+                sums,
                 times,
                 peaks,
                 commands,
@@ -580,6 +613,7 @@ fn main() {
     let mut starts = [0u64; 187];
     let mut totals = [0u64; 187];
     let mut counts = [0u32; 765_952];
+    let mut sums = [0u64; 69_632];
     let mut times = [0u64; 10_200];
     let mut peaks = [0u32; 10_200];
     let mut commands = [0u32; 192];
@@ -591,6 +625,7 @@ fn main() {
         &mut starts,
         &mut totals,
         &mut counts,
+        &mut sums,
         &mut times,
         &mut peaks,
         &mut commands,

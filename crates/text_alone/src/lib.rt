@@ -12,8 +12,10 @@ use text_lending::Counts;
 use text_lending::LONE_COUNTS;
 use text_lending::LONE_PEAKS;
 use text_lending::LONE_SECONDS;
+use text_lending::LONE_SUMS;
 use text_lending::Peaks;
 use text_lending::Seconds;
+use text_lending::Sums;
 use text_lending::Times;
 use text_lending::buckets;
 use text_lending::cut;
@@ -73,6 +75,7 @@ fn on_seconds(
     starts: &mut [u64],
     totals: &mut [u64],
     counts: &mut [u32],
+    sums: &mut [u64],
 ) -> Answered {
     let kept = alone.window;
     let n = cut(LagWindow::SECONDS, short);
@@ -88,6 +91,7 @@ fn on_seconds(
         &mut starts[a0..a1],
         &mut totals[b0..b1],
         counts,
+        sums,
     );
     let left = done.window;
     let answer = done.answer;
@@ -100,7 +104,7 @@ fn on_seconds(
     }
 }
 
-// On its places of the counts too.
+// On its places of the counts and the sums too.
 fn on_window(
     request: Lone,
     alone: Alone,
@@ -108,16 +112,26 @@ fn on_window(
     starts: &mut Seconds,
     totals: &mut Seconds,
     counts: &mut [u32],
+    sums: &mut [u64],
 ) -> Answered {
     let kept = alone.window;
-    let n = cut(
-        product_usize(LagWindow::SECONDS, buckets_for(request, kept)),
-        short,
-    );
+    let buckets = buckets_for(request, kept);
+    let n = cut(product_usize(LagWindow::SECONDS, buckets), short);
     let c = places(LONE_COUNTS, n, counts.len());
+    let d = places(LONE_SUMS, cut(buckets, short), sums.len());
     let c0 = c.from;
     let c1 = c.to;
-    on_seconds(request, alone, short, starts, totals, &mut counts[c0..c1])
+    let d0 = d.from;
+    let d1 = d.to;
+    on_seconds(
+        request,
+        alone,
+        short,
+        starts,
+        totals,
+        &mut counts[c0..c1],
+        &mut sums[d0..d1],
+    )
 }
 
 // A call on the hold, on its places of the lists.
@@ -201,12 +215,13 @@ pub fn answer(
     starts: &mut Seconds,
     totals: &mut Seconds,
     counts: &mut Counts,
+    sums: &mut Sums,
     times: &mut Times,
     peaks: &mut Peaks,
 ) -> Answered {
     match request {
         Lone::WindowNew(_) | Lone::Push(_) | Lone::Clear | Lone::Span | Lone::Quantile(_) => {
-            on_window(request, alone, short, starts, totals, counts)
+            on_window(request, alone, short, starts, totals, counts, sums)
         }
         Lone::HoldNew | Lone::Next(_) => on_hold(request, alone, short, times, peaks),
         _ => listless(request, alone),

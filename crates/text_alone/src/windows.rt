@@ -1,4 +1,4 @@
-// A window alone, over three lists.
+// A window alone, over four lists.
 use delay_hold::Lag;
 use lag_window::LagWindow;
 use rules_window::Quantile;
@@ -20,6 +20,7 @@ fn new(
     starts: &mut [u64],
     totals: &mut [u64],
     counts: &mut [u32],
+    sums: &mut [u64],
 ) -> WindowAnswered {
     let r = LagWindow::new(
         asked.offset,
@@ -28,6 +29,7 @@ fn new(
         starts,
         totals,
         counts,
+        sums,
     );
     if r.number != 0 {
         return WindowAnswered {
@@ -56,11 +58,12 @@ pub(crate) fn answer(
     starts: &mut [u64],
     totals: &mut [u64],
     counts: &mut [u32],
+    sums: &mut [u64],
 ) -> WindowAnswered {
     match request {
-        Lone::WindowNew(asked) => new(kept, asked, starts, totals, counts),
+        Lone::WindowNew(asked) => new(kept, asked, starts, totals, counts, sums),
         Lone::Push(asked) => {
-            let r = kept.push(asked.lag, asked.time, starts, totals, counts);
+            let r = kept.push(asked.lag, asked.time, starts, totals, counts, sums);
             let window = r.window;
             WindowAnswered {
                 window,
@@ -68,7 +71,7 @@ pub(crate) fn answer(
             }
         }
         Lone::Clear => {
-            let r = kept.clear(starts, totals, counts);
+            let r = kept.clear(starts, totals, counts, sums);
             let window = r.window;
             WindowAnswered {
                 window,
@@ -76,7 +79,7 @@ pub(crate) fn answer(
             }
         }
         Lone::Span => {
-            let r = kept.span(starts, totals, counts);
+            let r = kept.span(starts, totals, counts, sums);
             WindowAnswered {
                 window: kept,
                 answer: unless(r.number, Answer::Number(r.span)),
@@ -84,7 +87,14 @@ pub(crate) fn answer(
         }
         Lone::Quantile(asked) => WindowAnswered {
             window: kept,
-            answer: quantile(kept.quantile_upto(asked.q, asked.limit, starts, totals, counts)),
+            answer: quantile(kept.quantile_upto(
+                asked.q,
+                asked.limit,
+                starts,
+                totals,
+                counts,
+                sums,
+            )),
         },
         _ => WindowAnswered {
             window: kept,

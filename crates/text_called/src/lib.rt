@@ -90,6 +90,7 @@ fn changing(
     starts: &mut [u64],
     totals: &mut [u64],
     counts: &mut [u32],
+    sums: &mut [u64],
     times: &mut [u64],
     peaks: &mut [u32],
     commands: &mut [u32],
@@ -108,6 +109,7 @@ fn changing(
                     starts,
                     totals,
                     counts,
+                    sums,
                     times,
                     peaks,
                     commands,
@@ -127,6 +129,7 @@ fn changing(
                     starts,
                     totals,
                     counts,
+                    sums,
                     times,
                     peaks,
                     commands,
@@ -145,6 +148,7 @@ fn changing(
                     starts,
                     totals,
                     counts,
+                    sums,
                     times,
                     peaks,
                     commands,
@@ -160,6 +164,7 @@ fn changing(
                 starts,
                 totals,
                 counts,
+                sums,
                 times,
                 peaks,
                 commands,
@@ -175,6 +180,7 @@ fn changing(
                 starts,
                 totals,
                 counts,
+                sums,
                 times,
                 peaks,
                 commands,
@@ -199,6 +205,7 @@ fn asking(
     starts: &[u64],
     totals: &[u64],
     counts: &[u32],
+    sums: &[u64],
     times: &[u64],
     peaks: &[u32],
     file: &mut [u8],
@@ -213,6 +220,7 @@ fn asking(
                 starts,
                 totals,
                 counts,
+                sums,
                 times,
                 peaks,
             );
@@ -227,6 +235,7 @@ fn asking(
                 starts,
                 totals,
                 counts,
+                sums,
                 times,
                 peaks,
             );
@@ -240,13 +249,23 @@ fn asking(
                 starts,
                 totals,
                 counts,
+                sums,
                 times,
                 peaks,
             );
             unless(r.number, Answer::Bit(r.value))
         }
         Call::WriteDelays => {
-            let r = delay_files::write_delays(kept, starts, totals, counts, times, peaks, file);
+            let r = delay_files::write_delays(
+                kept,
+                starts,
+                totals,
+                counts,
+                sums,
+                times,
+                peaks,
+                file,
+            );
             unless(r.number, Answer::File(r.length))
         }
         Call::Dump => Answer::Dump,
@@ -266,6 +285,7 @@ pub fn change(
     starts: &mut [u64],
     totals: &mut [u64],
     counts: &mut [u32],
+    sums: &mut [u64],
     times: &mut [u64],
     peaks: &mut [u32],
     commands: &mut [u32],
@@ -274,9 +294,10 @@ pub fn change(
     let a = least_usize(z.seconds, starts.len());
     let b = least_usize(z.seconds, totals.len());
     let c = least_usize(z.counts, counts.len());
-    let d = least_usize(z.peaks, times.len());
-    let e = least_usize(z.peaks, peaks.len());
-    let f = least_usize(z.words, commands.len());
+    let d = least_usize(z.sums, sums.len());
+    let e = least_usize(z.peaks, times.len());
+    let f = least_usize(z.peaks, peaks.len());
+    let g = least_usize(z.words, commands.len());
     changing(
         call,
         kept,
@@ -287,9 +308,10 @@ pub fn change(
         &mut starts[..a],
         &mut totals[..b],
         &mut counts[..c],
-        &mut times[..d],
-        &mut peaks[..e],
-        &mut commands[..f],
+        &mut sums[..d],
+        &mut times[..e],
+        &mut peaks[..f],
+        &mut commands[..g],
     )
 }
 
@@ -301,6 +323,7 @@ pub fn ask(
     starts: &[u64],
     totals: &[u64],
     counts: &[u32],
+    sums: &[u64],
     times: &[u64],
     peaks: &[u32],
     file: &mut [u8],
@@ -310,17 +333,19 @@ pub fn ask(
     let a = least_usize(z.seconds, starts.len());
     let b = least_usize(z.seconds, totals.len());
     let c = least_usize(z.counts, counts.len());
-    let d = least_usize(z.peaks, times.len());
-    let e = least_usize(z.peaks, peaks.len());
-    let f = least_usize(y.file, file.len());
+    let d = least_usize(z.sums, sums.len());
+    let e = least_usize(z.peaks, times.len());
+    let f = least_usize(z.peaks, peaks.len());
+    let g = least_usize(y.file, file.len());
     asking(
         call,
         kept,
         &starts[..a],
         &totals[..b],
         &counts[..c],
-        &times[..d],
-        &peaks[..e],
-        &mut file[..f],
+        &sums[..d],
+        &times[..e],
+        &peaks[..f],
+        &mut file[..g],
     )
 }

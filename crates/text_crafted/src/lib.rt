@@ -1,6 +1,8 @@
-// What a line crafts: the rows of a window, the peaks of a hold, a part of an input's record. It is no call and is never refused. Its words were
-// read before (crate text_read): here they are stored. Of more rows or peaks than there are places only their number is kept.
+// What a line crafts: the rows of a window, one of its sums, the peaks of a hold, a part of an input's record. It is no call and is never refused.
+// Its words were read before (crate text_read): here they are stored. Of more rows or peaks than there are places only their number is kept.
+ghost use mathlib.Core.Path.{_≡_};
 use base::least_usize;
+use base::place_u32;
 use base::product_usize;
 use base::sum_usize;
 use delay_hold::DelayHold;
@@ -10,11 +12,13 @@ use rules_record::Slot;
 use text_lending::Counts;
 use text_lending::Peaks;
 use text_lending::Seconds;
+use text_lending::Sums;
 use text_lending::Times;
 use text_requests::CountersAsked;
 use text_requests::DelaysAsked;
 use text_requests::Part;
 use text_requests::PutAsked;
+use text_requests::SumAsked;
 use text_requests::lists::cell_at;
 use text_requests::lists::peak_at;
 use text_requests::lists::row_at;
@@ -69,7 +73,7 @@ fn store_cells(s: &[u8], at: usize, counts: &mut [u32], first: usize) -> usize {
 }
 
 // The rows from place `at` of the line on, as the seconds from `second` and the counts from `count` on.
-pub fn rows(
+fn store_rows(
     s: &[u8],
     at: usize,
     buckets: usize,
@@ -96,6 +100,60 @@ pub fn rows(
         first = sum_usize(first, buckets);
         i += 1;
     }
+}
+
+fn wide(n: u32) -> u64
+    ensures { λ r. ⌜ r ≡ n ⌝ }
+{
+    n as u64
+}
+
+// The lags of one bucket in all seconds: its count in the first is at `first`, the next one so many buckets on.
+fn column(counts: &[u32], first: usize, buckets: usize) -> u64 {
+    let mut sum: u64 = 0;
+    let mut at = first;
+    let mut i: usize = 0;
+    while i < LagWindow::SECONDS {
+        sum += wide(place_u32(counts, at));
+        at = sum_usize(at, buckets);
+        i += 1;
+    }
+    sum
+}
+
+// The sums from `first` on, of the counts from `count` on.
+fn sum_rows(buckets: usize, count: usize, first: usize, counts: &[u32], sums: &mut [u64]) {
+    let mut b: usize = 0;
+    while b < buckets {
+        put_u64(
+            sums,
+            sum_usize(first, b),
+            column(counts, sum_usize(count, b), buckets),
+        );
+        b += 1;
+    }
+}
+
+// The rows from place `at` of the line on, as the seconds from `second` and the counts from `count` on, with their sums, from `first` on.
+pub fn rows(
+    s: &[u8],
+    at: usize,
+    buckets: usize,
+    second: usize,
+    count: usize,
+    first: usize,
+    starts: &mut Seconds,
+    totals: &mut Seconds,
+    counts: &mut Counts,
+    sums: &mut Sums,
+) {
+    store_rows(s, at, buckets, second, count, starts, totals, counts);
+    sum_rows(buckets, count, first, counts, sums);
+}
+
+// One sum, right or not, of a window whose sums begin at `first`.
+pub fn sum(asked: SumAsked, first: usize, sums: &mut Sums) {
+    put_u64(sums, sum_usize(first, asked.bucket), asked.sum);
 }
 
 // ---- a hold
@@ -141,10 +199,11 @@ fn crafted(slot: Slot, part: Part) -> Slot {
         }
         Part::Counters(c) => with_counters(slot, c),
         Part::Delays(d) => with_delays(slot, d),
+        Part::Sum(_) => slot,
     }
 }
 
-// The part's rows or peaks, in the places of input i, whose window has so many buckets a second.
+// The part's rows, its peaks or its sum, in the places of input i, whose window has so many buckets a second.
 fn store(
     part: Part,
     i: usize,
@@ -153,6 +212,7 @@ fn store(
     starts: &mut Seconds,
     totals: &mut Seconds,
     counts: &mut Counts,
+    sums: &mut Sums,
     times: &mut Times,
     lags: &mut Peaks,
 ) {
@@ -160,8 +220,21 @@ fn store(
         Part::Window(w) => {
             let second = product_usize(i, LagWindow::SECONDS);
             let count = product_usize(second, buckets);
-            rows(s, w.at, buckets, second, count, starts, totals, counts);
+            let first = product_usize(i, buckets);
+            rows(
+                s,
+                w.at,
+                buckets,
+                second,
+                count,
+                first,
+                starts,
+                totals,
+                counts,
+                sums,
+            );
         }
+        Part::Sum(asked) => sum(asked, product_usize(i, buckets), sums),
         Part::Hold(h) => {
             let hold = h.hold;
             let first = product_usize(i, DelayHold::PLACES);
@@ -180,12 +253,24 @@ pub fn put(
     starts: &mut Seconds,
     totals: &mut Seconds,
     counts: &mut Counts,
+    sums: &mut Sums,
     times: &mut Times,
     lags: &mut Peaks,
 ) -> Inputs {
     let i = asked.input;
     let part = asked.part;
-    store(part, i, buckets, s, starts, totals, counts, times, lags);
+    store(
+        part,
+        i,
+        buckets,
+        s,
+        starts,
+        totals,
+        counts,
+        sums,
+        times,
+        lags,
+    );
     let slot = inputs_slots::slot_at(inputs, i);
     inputs_slots::put_slot(inputs, i, crafted(slot, part))
 }

@@ -21,12 +21,13 @@ countable n = min n (2 ^ 64 - 1)
 abbrev pub cutTo : (length : ℕ) (short : Bool) → ℕ
 cutTo length short = pick short (length - 1) length
 
--- 11 seconds an input with so many counts each, 600 peaks and 12 words an input
+-- 11 seconds an input with a count for each bucket, a sum for each bucket, 600 peaks and 12 words an input
 unfoldable pub lengthsFor : (n buckets : ℕ) (short : Bool) → Sizes
 lengthsFor n buckets short =
     record {
       seconds = cutTo (countable (n * 11)) short;
       counts = cutTo (countable (countable (n * 11) * buckets)) short;
+      sums = cutTo (countable (n * buckets)) short;
       peaks = cutTo (countable (n * 600)) short;
       words = cutTo (countable (n * 12)) short;
     }

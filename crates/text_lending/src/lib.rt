@@ -17,12 +17,16 @@ pub const LONE_SECONDS: usize = 176;
 
 pub const LONE_COUNTS: usize = 720_896;
 
+pub const LONE_SUMS: usize = 65_536;
+
 pub const LONE_PEAKS: usize = 9_600;
 
-// The starts and the totals of seconds, and the counts of their rows.
+// The starts and the totals of seconds, the counts of their rows, and the sums over the rows.
 pub type Seconds = [u64; 187];
 
 pub type Counts = [u32; 765_952];
+
+pub type Sums = [u64; 69_632];
 
 // The times and the lags of peaks.
 pub type Times = [u64; 10_200];
@@ -42,6 +46,7 @@ pub type Bytes = [u8; 1_287];
 pub struct Sizes {
     pub seconds: usize,
     pub counts: usize,
+    pub sums: usize,
     pub peaks: usize,
     pub words: usize,
 }
@@ -91,6 +96,7 @@ pub fn lengths(n: usize, buckets: usize, short: bool) -> Sizes
     Sizes {
         seconds: cut(seconds, short),
         counts: cut(product_usize(seconds, buckets), short),
+        sums: cut(product_usize(n, buckets), short),
         peaks: cut(product_usize(n, 600), short),
         words: cut(product_usize(n, 12), short),
     }

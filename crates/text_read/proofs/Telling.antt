@@ -7,7 +7,7 @@ use lib.Dec.{eqb}
 use lib.ListN.{take}
 use Rattle.base.specs.Choice.{pick}
 use Rattle.text_words.specs.declared.Word.{Word}
-use Rattle.text_words.specs.Words.{lost}
+use Rattle.text_words.specs.Words.{lost, below}
 use Rattle.text_requests.specs.declared.Call.the-variants.{Tick}
 use Rattle.text_requests.specs.declared.Known.{Known}
 use Rattle.text_requests.specs.declared.lists.Found.{Found}
@@ -15,7 +15,7 @@ use Rattle.text_requests.specs.Forms.{space, u64At}
 use Rattle.text_requests.specs.Lists.{Lags, heardAs, looksEnd, lagsAt}
 use Rattle.text_read.specs.declared.supervisor.CallLine.{CallLine}
 use Rattle.text_read.specs.declared.supervisor.TickName.{TickName}
-use Rattle.text_read.specs.Supervisor.{below, tickName, tickLine, tickSaid, lagsOf, orElse, newLine, routeLine, updateLine, confirmLine, settledLine, statusLine, hasLine, dumpLine, dwrite1Line, putLine, changeLines, askLines, callLine}
+use Rattle.text_read.specs.Supervisor.{tickName, tickLine, tickSaid, lagsOf, orElse, newLine, routeLine, updateLine, confirmLine, settledLine, statusLine, hasLine, dumpLine, dwrite1Line, putLine, changeLines, askLines, callLine}
 
 module _ (s : List ℕ) (at inputs room : ℕ) {name : TickName} (n : name ≡ tickName s at) {time : Word} (t : time ≡ u64At s (name .next) space) {end : ℕ} (e : end ≡ looksEnd s (time .next) inputs) (found : Found) (heard : List ℕ) (l : heardAs found heard ≡ lagsAt s end room) {next : ℕ} (p : next ≡ below inputs 0 (found .next)) where
   pub tick-told : tickSaid (record { call = Tick (record { dry = name .dry; time = time .value; looks = time .next; lags = found .count }); next = next }) heard ≡ tickLine s at inputs room

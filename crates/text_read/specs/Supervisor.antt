@@ -3,29 +3,25 @@
 use Prim.Native.Nat.{ℕ}
 use mathlib.Core.Bool.{true, false}
 use mathlib.Core.List.{List}
-use lib.Dec.{eqb, leb}
+use lib.Dec.{eqb}
 use lib.Ieee.{binary64, ofBits}
 use lib.ListN.{take}
 use Rattle.base.specs.Choice.{pick}
 use Rattle.rules_calls.specs.declared.Wanted.the-variants.{From, Nothing}
-use Rattle.text_words.specs.Words.{lost}
+use Rattle.text_words.specs.Words.{lost, below}
 use Rattle.text_requests.specs.declared.Call.{Call}
 use Rattle.text_requests.specs.declared.Call.the-variants.{New, Route, Update, Confirm, Tick, Status, Has, Settled, WriteDelays, Dump, Put}
 use Rattle.text_requests.specs.declared.Known.{Known}
-use Rattle.text_requests.specs.declared.Part.the-variants.{Window, Hold, Counters, Delays}
+use Rattle.text_requests.specs.declared.Part.the-variants.{Window, Hold, Counters, Delays, Sum}
 use Rattle.text_requests.specs.Forms.{space, slash, u64At, hexAt, u32At, bitAt, maybeU64At, maybeU32At, flowAt, kindAt, textEnd, wordEnd}
 use Rattle.text_requests.specs.Lists.{kindsEnd, looksEnd, loadsEnd, Lags, lagsAt, rowsAt}
 use Rattle.text_requests.specs.Parts.{inodeOf, readerOf, kindOf, proposalOf}
-use Rattle.text_read_alone.specs.Alone.{holdAt}
+use Rattle.text_read_alone.specs.Alone.{holdAt, sumAt}
 use Rattle.text_read.specs.declared.supervisor.CallLine.{CallLine}
 use Rattle.text_read.specs.declared.supervisor.PartLine.{PartLine}
 use Rattle.text_read.specs.declared.supervisor.SettingsWords.{SettingsWords}
 use Rattle.text_read.specs.declared.supervisor.TickName.{TickName}
 use Rattle.text_read.specs.declared.supervisor.WantedWord.{WantedWord}
-
--- this place, if n is below the limit
-unfoldable pub below : (limit n next : ℕ) → ℕ
-below limit n next = pick (leb limit n) lost next
 
 -- ---- `new`: now u64, n u32, offset u32, max u32, W u32, hold u64, window u64, stall u64, margin u32, percent hex64, confirm bit, n kinds,
 -- k u32 (at most 16,384), k times flow=delay
@@ -201,7 +197,7 @@ dwrite1Line s at =
     let name = wordEnd s at "dwrite1" in
     record { call = WriteDelays; next = name }
 
--- ---- `put`: input u64 that exists, then one of four parts
+-- ---- `put`: input u64 that exists, then one of five parts
 -- `window`: rows
 unfoldable pub windowPart : (s : List ℕ) (at buckets : ℕ) → PartLine
 windowPart s at buckets =
@@ -233,6 +229,13 @@ delaysPart s at =
     let proposed = maybeU32At s (delay .next) space in
     record { part = Delays (record { delay = delay .value; proposed = proposalOf proposed }); next = proposed .next }
 
+-- `sum`: bucket u32, sum u64
+unfoldable pub sumPart : (s : List ℕ) (at buckets : ℕ) → PartLine
+sumPart s at buckets =
+    let name = wordEnd s at " sum" in
+    let words = sumAt s name buckets in
+    record { part = Sum (words .asked); next = words .next }
+
 unfoldable pub partOr : (first second : PartLine) → PartLine
 partOr first second = pick (eqb (first .next) lost) second first
 
@@ -241,7 +244,7 @@ putLine s at inputs buckets =
     let name = wordEnd s at "put" in
     let input = u64At s name space in
     let next = input .next in
-    let part = partOr (partOr (partOr (windowPart s next buckets) (holdPart s next)) (countersPart s next)) (delaysPart s next) in
+    let part = partOr (partOr (partOr (partOr (windowPart s next buckets) (holdPart s next)) (countersPart s next)) (delaysPart s next)) (sumPart s next buckets) in
     record { call = Put (record { input = input .value; part = part .part }); next = below inputs (input .value) (part .next) }
 
 -- ---- all lines but a tick: the first that is there; before the first `new` there is no other

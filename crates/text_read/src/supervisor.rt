@@ -2,7 +2,7 @@
 // or a word is missing or of another form, the place after the words is LOST.
 ghost use mathlib.Core.Path.{_≡_};
 ghost use lib.ListN.{length};
-ghost use Rattle.text_read.specs.Supervisor.{orElse, partOr, settingsAt, newLine, wantedAt, routeLine, updateLine, confirmLine, settledLine, tickName, tickSaid, tickLine, statusLine, hasLine, dumpLine, dwrite1Line, below, windowPart, holdPart, countersPart, delaysPart, putLine, changeLines, askLines, callLine};
+ghost use Rattle.text_read.specs.Supervisor.{orElse, partOr, settingsAt, newLine, wantedAt, routeLine, updateLine, confirmLine, settledLine, tickName, tickSaid, tickLine, statusLine, hasLine, dumpLine, dwrite1Line, windowPart, holdPart, countersPart, delaysPart, sumPart, putLine, changeLines, askLines, callLine};
 use rules_calls::Settings;
 use rules_calls::Source;
 use rules_calls::Wanted;
@@ -10,6 +10,7 @@ use rules_record::Flow;
 use rules_routing::World;
 use text_print::bits::double;
 use text_read_alone::hold_at;
+use text_read_alone::sum_at;
 use text_requests::Call;
 use text_requests::CountersAsked;
 use text_requests::DelaysAsked;
@@ -40,6 +41,7 @@ use text_words::hex_word;
 use text_words::kind_word;
 use text_words::maybe_u32_word;
 use text_words::maybe_u64_word;
+use text_words::present;
 use text_words::text_end;
 use text_words::u32_word;
 use text_words::u64_word;
@@ -59,16 +61,6 @@ fn either(first: CallLine, second: CallLine) -> CallLine
         return second;
     }
     first
-}
-
-// This place, if `most` is below the limit.
-fn present(limit: usize, most: usize, next: usize) -> usize
-    ensures { λ r. ⌜ r ≡ below limit most next ⌝ }
-{
-    if limit <= most {
-        return LOST;
-    }
-    next
 }
 
 // ---- new
@@ -423,6 +415,18 @@ fn delays(s: &[u8], at: usize) -> PartLine
     }
 }
 
+fn sum(s: &[u8], at: usize, buckets: usize) -> PartLine
+    ensures { λ r. ⌜ r ≡ sumPart (now (s .entry)) at buckets ⌝ }
+{
+    let name = word_end(s, at, b" sum");
+    let words = sum_at(s, name, buckets);
+    let asked = words.asked;
+    PartLine {
+        part: Part::Sum(asked),
+        next: words.next,
+    }
+}
+
 // Of an input that exists.
 fn put(s: &[u8], at: usize, inputs: usize, buckets: usize) -> CallLine
     ensures { λ r. ⌜ r ≡ putLine (now (s .entry)) at inputs buckets ⌝ }
@@ -433,12 +437,13 @@ fn put(s: &[u8], at: usize, inputs: usize, buckets: usize) -> CallLine
     let b = part_or(a, hold(s, word.next));
     let c = part_or(b, counters(s, word.next));
     let d = part_or(c, delays(s, word.next));
-    let part = d.part;
+    let e = part_or(d, sum(s, word.next, buckets));
+    let part = e.part;
     let input = word.value as usize;
     let asked = PutAsked { input, part };
     CallLine {
         call: Call::Put(asked),
-        next: present(inputs, input, d.next),
+        next: present(inputs, input, e.next),
     }
 }
 

@@ -5,14 +5,15 @@ use mathlib.Core.List.{List}
 use lib.Dec.{eqb}
 use lib.Ieee.{binary64, ofBits}
 use Rattle.base.specs.Choice.{pick}
-use Rattle.text_words.specs.Words.{lost}
+use Rattle.text_words.specs.Words.{lost, below}
 use Rattle.text_files.specs.Files.{fileAt}
-use Rattle.text_requests.specs.declared.Lone.the-variants.{Ms, Samples, Need, IndexAt, TimeOf, WindowNew, WindowSet, Push, Clear, Span, Quantile, HoldNew, HoldSet, Next, CoalesceSet, Changed, Pending, Take, TakeDue, QuerySet, QueryUp, QueryFailed, ReadDelays}
+use Rattle.text_requests.specs.declared.Lone.the-variants.{Ms, Samples, Need, IndexAt, TimeOf, WindowNew, WindowSet, WindowSum, Push, Clear, Span, Quantile, HoldNew, HoldSet, Next, CoalesceSet, Changed, Pending, Take, TakeDue, QuerySet, QueryUp, QueryFailed, ReadDelays}
 use Rattle.text_requests.specs.Forms.{space, u64At, hexAt, u32At, u8At, bitAt, maybeU64At, maybeU32At, pairAt, wordEnd}
 use Rattle.text_requests.specs.Lists.{peaksEnd, rowsAt}
 use Rattle.text_requests.specs.Parts.{lagOf, dueOf, downOf, momentOf, timerOf, seedOf}
 use Rattle.text_read_alone.specs.declared.HoldWords.{HoldWords}
 use Rattle.text_read_alone.specs.declared.LoneLine.{LoneLine}
+use Rattle.text_read_alone.specs.declared.SumWords.{SumWords}
 
 -- ---- numbers
 
@@ -72,6 +73,20 @@ wsetLine s at buckets =
     let name = wordEnd s at "wset" in
     let rows = rowsAt s name buckets in
     record { lone = WindowSet (record { at = name; seconds = rows .count }); next = rows .next }
+
+-- a sum: bucket u32, which exists, sum u64
+unfoldable pub sumAt : (s : List ℕ) (at buckets : ℕ) → SumWords
+sumAt s at buckets =
+    let bucket = u32At s at space in
+    let sum = u64At s (bucket .next) space in
+    record { asked = record { bucket = bucket .value; sum = sum .value }; next = below buckets (bucket .value) (sum .next) }
+
+-- `wsum`: a sum
+unfoldable pub wsumLine : (s : List ℕ) (at buckets : ℕ) → LoneLine
+wsumLine s at buckets =
+    let name = wordEnd s at "wsum" in
+    let words = sumAt s name buckets in
+    record { lone = WindowSum (words .asked); next = words .next }
 
 -- `wpush`: lag u32, now u64
 unfoldable pub wpushLine : (s : List ℕ) (at : ℕ) → LoneLine
@@ -246,6 +261,7 @@ numberLines s at = msLine s at
 unfoldable pub windowLines : (s : List ℕ) (at buckets : ℕ) → LoneLine
 windowLines s at buckets = wnewLine s at
     or wsetLine s at buckets
+    or wsumLine s at buckets
     or wpushLine s at
     or wclearLine s at
     or wspanLine s at

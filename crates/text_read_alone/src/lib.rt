@@ -1,7 +1,7 @@
 // The lines of the calls that need no supervisor (compare/README.md): each is its name and its words, read from place `at`. Where the name is
 // another, or a word is missing or of another form, the place after the words is LOST.
 ghost use mathlib.Core.Path.{_≡_};
-ghost use Rattle.text_read_alone.specs.Alone.{orElse, holdAt, msLine, samplesLine, needLine, indexAtLine, timeOfLine, wnewLine, wsetLine, wpushLine, wclearLine, wspanLine, wquantLine, hnewLine, hsetLine, nextLine, coSetLine, coChangedLine, coPendingLine, coTakeLine, coTakeDueLine, qSetLine, qUpLine, qFailedLine, dread1Line, numberLines, windowLines, holdLines, clockLines, loneLine};
+ghost use Rattle.text_read_alone.specs.Alone.{orElse, holdAt, msLine, samplesLine, needLine, indexAtLine, timeOfLine, wnewLine, wsetLine, sumAt, wsumLine, wpushLine, wclearLine, wspanLine, wquantLine, hnewLine, hsetLine, nextLine, coSetLine, coChangedLine, coPendingLine, coTakeLine, coTakeDueLine, qSetLine, qUpLine, qFailedLine, dread1Line, numberLines, windowLines, holdLines, clockLines, loneLine};
 use delay_hold::DelayHold;
 use text_files::file_word;
 use text_print::bits::double;
@@ -13,6 +13,7 @@ use text_requests::NextAsked;
 use text_requests::PushAsked;
 use text_requests::QuantileAsked;
 use text_requests::RowsAsked;
+use text_requests::SumAsked;
 use text_requests::WindowAsked;
 use text_requests::lists::peaks_end;
 use text_requests::lists::rows_at;
@@ -29,6 +30,7 @@ use text_words::hex_word;
 use text_words::maybe_pair_word;
 use text_words::maybe_u32_word;
 use text_words::maybe_u64_word;
+use text_words::present;
 use text_words::u8_word;
 use text_words::u32_word;
 use text_words::u64_word;
@@ -150,6 +152,41 @@ fn wset(s: &[u8], at: usize, buckets: usize) -> LoneLine
     LoneLine {
         lone: Lone::WindowSet(asked),
         next: rows.next,
+    }
+}
+
+// A sum of a line, and the place after it.
+pub struct SumWords {
+    pub asked: SumAsked,
+    pub next: usize,
+}
+
+// A bucket that exists and its sum, after their name.
+pub fn sum_at(s: &[u8], at: usize, buckets: usize) -> SumWords
+    ensures { λ r. ⌜ r ≡ sumAt (now (s .entry)) at buckets ⌝ }
+{
+    let word = u32_word(s, at, b' ');
+    let sum = u64_word(s, word.next, b' ');
+    let bucket = word.value as usize;
+    let asked = SumAsked {
+        bucket,
+        sum: sum.value,
+    };
+    SumWords {
+        asked,
+        next: present(buckets, bucket, sum.next),
+    }
+}
+
+fn wsum(s: &[u8], at: usize, buckets: usize) -> LoneLine
+    ensures { λ r. ⌜ r ≡ wsumLine (now (s .entry)) at buckets ⌝ }
+{
+    let name = word_end(s, at, b"wsum");
+    let words = sum_at(s, name, buckets);
+    let asked = words.asked;
+    LoneLine {
+        lone: Lone::WindowSum(asked),
+        next: words.next,
     }
 }
 
@@ -420,10 +457,11 @@ fn window_lines(s: &[u8], at: usize, buckets: usize) -> LoneLine
 {
     let first = wnew(s, at);
     let b = either(first, wset(s, at, buckets));
-    let c = either(b, wpush(s, at));
-    let d = either(c, wclear(s, at));
-    let e = either(d, wspan(s, at));
-    either(e, wquant(s, at))
+    let c = either(b, wsum(s, at, buckets));
+    let d = either(c, wpush(s, at));
+    let e = either(d, wclear(s, at));
+    let f = either(e, wspan(s, at));
+    either(f, wquant(s, at))
 }
 
 fn hold_lines(s: &[u8], at: usize) -> LoneLine

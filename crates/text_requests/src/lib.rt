@@ -13,7 +13,7 @@ pub mod lists;
 pub mod parts;
 
 // What reading a line depends on: the inputs of the supervisor (0 before the first `new`), and the buckets a second of its windows and of the
-// window alone, which a crafted row may name.
+// window alone, which a crafted row or sum may name.
 pub struct Known {
     pub inputs: usize,
     pub buckets: usize,
@@ -70,6 +70,12 @@ pub struct RowsAsked {
     pub seconds: usize,
 }
 
+// A crafted sum of a window, and its bucket.
+pub struct SumAsked {
+    pub bucket: usize,
+    pub sum: u64,
+}
+
 // A crafted hold: where its peaks begin, and the hold that its fields make.
 pub struct HoldAsked {
     pub at: usize,
@@ -85,6 +91,7 @@ pub enum Lone {
     TimeOf(u64),
     WindowNew(WindowAsked),
     WindowSet(RowsAsked),
+    WindowSum(SumAsked),
     Push(PushAsked),
     Clear,
     Span,
@@ -164,6 +171,7 @@ pub enum Part {
     Hold(HoldAsked),
     Counters(CountersAsked),
     Delays(DelaysAsked),
+    Sum(SumAsked),
 }
 
 pub struct PutAsked {

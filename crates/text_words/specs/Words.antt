@@ -95,3 +95,7 @@ abbrev pub kindWordOf : KindText → KindWord
 kindWordOf no-kind = record { manual = false; bits = 0; next = lost }
 kindWordOf (Auto next) = record { manual = false; bits = 0; next = next }
 kindWordOf (Ms bits next) = record { manual = true; bits = bits; next = next }
+
+-- ---- this place, if n is below the limit
+unfoldable pub below : (limit n next : ℕ) → ℕ
+below limit n next = pick (leb limit n) lost next

@@ -4,7 +4,7 @@
 ghost use mathlib.Core.Path.{_≡_};
 ghost use Rattle.text_scan.specs.Scan.{afterText, afterWord};
 ghost use Rattle.text_fields.specs.Fields.{numberAfter, smallAfter, flagAfter, maybeAfter, maybeSmallAfter, flowAfter, kindAfter};
-ghost use Rattle.text_words.specs.Words.{wordOf, smallWordOf, byteWordOf, bitWordOf, maybeWordOf, maybeSmallWordOf, pairOf, flowWordOf, kindWordOf, placeOf};
+ghost use Rattle.text_words.specs.Words.{wordOf, smallWordOf, byteWordOf, bitWordOf, maybeWordOf, maybeSmallWordOf, pairOf, flowWordOf, kindWordOf, placeOf, below};
 use text_fields::Flag;
 use text_fields::FlowText;
 use text_fields::KindText;
@@ -271,4 +271,14 @@ pub fn word_end(s: &[u8], at: usize, text: &[u8]) -> usize
     ensures { λ r. ⌜ r ≡ placeOf (afterWord (now (s .entry)) at (now (text .entry))) ⌝ }
 {
     place(after_word(s, at, text))
+}
+
+// This place, if n is below the limit.
+pub fn present(limit: usize, n: usize, next: usize) -> usize
+    ensures { λ r. ⌜ r ≡ below limit n next ⌝ }
+{
+    if limit <= n {
+        return LOST;
+    }
+    next
 }

@@ -83,12 +83,12 @@ module _ (s : Inputs) (l : Lists) (i : ℕ) (f : Fitting s l) (h : i < s .count)
       emptied = withWindow (bucketsIn s) i (fresh (bucketsIn s) (s .width)) l
 
       beside : Beside (s .count) (bucketsIn s) i l emptied
-      beside = beside-window (s .count) (bucketsIn s) i l (f .long) h (fresh (bucketsIn s) (s .width)) (length-replicate {A = ℕ} 11 0) (length-replicate {A = ℕ} 11 0) (length-replicate {A = ℕ} _ 0)
+      beside = beside-window (s .count) (bucketsIn s) i l (f .long) h (fresh (bucketsIn s) (s .width)) (length-replicate {A = ℕ} 11 0) (length-replicate {A = ℕ} 11 0) (length-replicate {A = ℕ} _ 0) refl
 
       window : windowFor s (clearedLists i s l) i slot ≡ fresh (bucketsIn s) (s .width)
       window =
           (λ t. partOf i (windowed (none t) (bucketsIn s) (s .width) (emptied .starts) (emptied .totals) (emptied .counts)))
-          ∙ window-same (s .count) (bucketsIn s) i l (f .long) h (fresh (bucketsIn s) (s .width)) (length-replicate {A = ℕ} 11 0) (length-replicate {A = ℕ} 11 0) (length-replicate {A = ℕ} _ 0) (s .width)
+          ∙ window-same (s .count) (bucketsIn s) i l (f .long) h (fresh (bucketsIn s) (s .width)) (length-replicate {A = ℕ} 11 0) (length-replicate {A = ℕ} 11 0) (length-replicate {A = ℕ} _ 0) refl (s .width)
 
       hold : heldFor (withHeld i (clearedHold (heldOf s l i)) emptied) i (clearedSlot slot) ≡ clearedHold (heldOf s l i)
       hold =

@@ -51,7 +51,7 @@ night = record {
   bytes = [];
   delays = [];
   time = 0;
-  lists = lists (replicate 11 0) (replicate 11 0) (replicate 253 0) (replicate 600 0) (replicate 600 0);
+  lists = lists (replicate 11 0) (replicate 11 0) (replicate 253 0) (replicate 23 0) (replicate 600 0) (replicate 600 0);
   commands = replicate 12 0;
 }
 

@@ -4,7 +4,7 @@ use Prim.Native.Nat.{ℕ}
 use lib.Ieee.{round, mul, div, ofInt, le}
 use Rattle.base.specs.Any.{any}
 use Rattle.base.specs.Choice.{both, ask}
-use Rattle.base.specs.Lists.{padded, blankFrom, sum, all, sumFrom}
+use Rattle.base.specs.Lists.{padded, blankFrom, sum, all, listed, sumFrom}
 use Rattle.base.specs.Rows.{apart, upTo}
 use Rattle.base.specs.First as firsts
 use Rattle.buckets.specs.Ranges.{reachesAllowed, widthAllowed, bucketsOf, bucketsFew, rangesNumber}
@@ -14,6 +14,7 @@ use Rattle.policy.specs.Need.{shareOf, needOf}
 use Rattle.policy.specs.Settings.{timesAllowed, marginsAllowed, shareOfPercent, percentAllowed}
 use Rattle.rules_window.specs.Quantile.{column, within, running, reach, quantileIn, thousandths}
 use Rattle.rules_window.specs.WholeWindow.{summed, wholeWindow}
+use Rattle.rules_window.specs.ColumnSums.{columnSums, rightSums}
 use Rattle.rules_window.specs.Window.{inUse, laid, opened, dropped, counted, pushed, pushedAll}
 use Rattle.rules_window.specs.Checks.{newestOf}
 use Rattle.rules_window.specs.Window as windows
@@ -57,12 +58,12 @@ use Rattle.rules_tick.specs.TickReply.{tickReply}
 
 -- of base, doubles and policy
 unfoldable pub base-opened : ℕ
-unfolding any both ask padded blankFrom sum all sumFrom apart upTo firsts.first halfAway ceilOf quantiles.targetOf shareOf needOf reachesAllowed widthAllowed bucketsFew rangesNumber timesAllowed marginsAllowed shareOfPercent percentAllowed round mul div ofInt le
+unfolding any both ask padded blankFrom sum all listed sumFrom apart upTo firsts.first halfAway ceilOf quantiles.targetOf shareOf needOf reachesAllowed widthAllowed bucketsFew rangesNumber timesAllowed marginsAllowed shareOfPercent percentAllowed round mul div ofInt le
 base-opened = 0
 
 -- of a window
 unfoldable pub window-opened : ℕ
-unfolding column within running reach quantileIn summed wholeWindow bucketsOf windows.fresh inUse laid opened dropped counted pushed pushedAll newestOf
+unfolding column within running reach quantileIn columnSums rightSums summed wholeWindow bucketsOf windows.fresh inUse laid opened dropped counted pushed pushedAll newestOf
 window-opened = 0
 
 -- of a hold

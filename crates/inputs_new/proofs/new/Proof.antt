@@ -54,7 +54,7 @@ blank-for-requires : tie.Need-blank-for-requires
 blank-for-requires c κs = tt
 
 load-requires : tie.Need-load-requires
-load-requires c κs = load-asked (c .before .before .before .before .before .before .before .before .before .before .before .before .before .before .before .before .before .args .settings) (c .before .before .before .before .before .before .before .before .before .before .before .before .before .before .before .before .before .args .kinds) (c .before .before .before .before .before .before .before .before .before .before .before .before .before .before .before .before .before .args .flows .now) (c .before .before .before .before .before .before .before .before .before .before .before .before .before .before .before .before .before .args .delays .now) (c .before .before .before .before .before .before .before .before .before .before .before .before .before .before .before .before .before .args .time) (lists (c .before .before .before .before .before .before .before .before .before .before .before .before .before .before .before .before .before .args .starts .now) (c .before .before .before .before .before .before .before .before .before .before .before .before .before .before .before .before .before .args .totals .now) (c .before .before .before .before .before .before .before .before .before .before .before .before .before .before .before .before .before .args .counts .now) (c .before .before .before .before .before .before .before .before .before .before .before .before .before .before .before .before .before .args .times .now) (c .before .before .before .before .before .before .before .before .before .before .before .before .before .before .before .before .before .args .peaks .now)) (c .before .before .before .before .before .before .before .before .before .before .before .before .before .before .before .before .before .args .commands .now) (c .before .before .before .settings-number .ensures) (c .before .before .if1 .left)
+load-requires c κs = load-asked (c .before .before .before .before .before .before .before .before .before .before .before .before .before .before .before .before .before .before .before .args .settings) (c .before .before .before .before .before .before .before .before .before .before .before .before .before .before .before .before .before .before .before .args .kinds) (c .before .before .before .before .before .before .before .before .before .before .before .before .before .before .before .before .before .before .before .args .flows .now) (c .before .before .before .before .before .before .before .before .before .before .before .before .before .before .before .before .before .before .before .args .delays .now) (c .before .before .before .before .before .before .before .before .before .before .before .before .before .before .before .before .before .before .before .args .time) (lists (c .before .before .before .before .before .before .before .before .before .before .before .before .before .before .before .before .before .before .before .args .starts .now) (c .before .before .before .before .before .before .before .before .before .before .before .before .before .before .before .before .before .before .before .args .totals .now) (c .before .before .before .before .before .before .before .before .before .before .before .before .before .before .before .before .before .before .before .args .counts .now) (c .before .before .before .before .before .before .before .before .before .before .before .before .before .before .before .before .before .before .before .args .sums .now) (c .before .before .before .before .before .before .before .before .before .before .before .before .before .before .before .before .before .before .before .args .times .now) (c .before .before .before .before .before .before .before .before .before .before .before .before .before .before .before .before .before .before .before .args .peaks .now)) (c .before .before .before .before .before .before .before .before .before .before .before .before .before .before .before .before .before .before .before .args .commands .now) (c .before .before .before .settings-number .ensures) (c .before .before .if1 .left)
 
 no-inputs-requires-3 : tie.Need-no-inputs-requires-3
 no-inputs-requires-3 c κs = tt
@@ -84,7 +84,7 @@ zero-u32-requires : tie.Need-zero-u32-requires
 zero-u32-requires c κs = tt
 
 started-requires : tie.Need-started-requires
-started-requires c κs = start-asked (c .before .before .before .before .before .before .before .before .before .before .before .before .before .before .before .before .before .before .before .before .before .before .before .before .before .before .before .before .before .before .before .before .before .before .before .before .before .before .before .before .before .before .args .settings) (c .before .before .before .before .before .before .before .before .before .before .before .before .before .before .before .before .before .before .before .before .before .before .before .before .before .before .before .before .before .before .before .before .before .before .before .before .before .before .before .before .before .before .args .kinds) (c .before .before .before .before .before .before .before .before .before .before .before .before .before .before .before .before .before .before .before .before .before .before .before .before .before .before .before .before .before .before .before .before .before .before .before .before .before .before .before .before .before .before .args .flows .now) (c .before .before .before .before .before .before .before .before .before .before .before .before .before .before .before .before .before .before .before .before .before .before .before .before .before .before .before .before .before .before .before .before .before .before .before .before .before .before .before .before .before .before .args .delays .now) (c .before .before .before .before .before .before .before .before .before .before .before .before .before .before .before .before .before .before .before .before .before .before .before .before .before .before .before .before .before .before .before .before .before .before .before .before .before .before .before .before .before .before .args .time) (lists (c .before .before .before .before .before .before .before .before .before .before .before .before .before .before .before .before .before .before .before .before .before .before .before .before .before .before .before .before .before .before .before .before .before .before .before .before .before .before .before .before .before .before .args .starts .now) (c .before .before .before .before .before .before .before .before .before .before .before .before .before .before .before .before .before .before .before .before .before .before .before .before .before .before .before .before .before .before .before .before .before .before .before .before .before .before .before .before .before .before .args .totals .now) (c .before .before .before .before .before .before .before .before .before .before .before .before .before .before .before .before .before .before .before .before .before .before .before .before .before .before .before .before .before .before .before .before .before .before .before .before .before .before .before .before .before .before .args .counts .now) (c .before .before .before .before .before .before .before .before .before .before .before .before .before .before .before .before .before .before .before .before .before .before .before .before .before .before .before .before .before .before .before .before .before .before .before .before .before .before .before .before .before .before .args .times .now) (c .before .before .before .before .before .before .before .before .before .before .before .before .before .before .before .before .before .before .before .before .before .before .before .before .before .before .before .before .before .before .before .before .before .before .before .before .before .before .before .before .before .before .args .peaks .now)) (c .before .before .before .before .before .before .before .before .before .before .before .before .before .before .before .before .before .before .before .before .before .before .before .before .before .before .before .before .before .before .before .before .before .before .before .before .before .before .before .before .before .before .args .commands .now) (c .before .before .before .before .before .before .before .before .before .before .before .before .before .before .before .before .before .before .before .before .before .before .before .before .before .before .before .before .settings-number .ensures) (c .before .before .before .before .before .before .before .before .before .before .before .before .before .before .before .before .before .before .before .before .before .before .before .before .before .before .before .if1 .left) (c .before .before .before .zero-u32 .ensures)
+started-requires c κs = start-asked (c .before .before .before .before .before .before .before .before .before .before .before .before .before .before .before .before .before .before .before .before .before .before .before .before .before .before .before .before .before .before .before .before .before .before .before .before .before .before .before .before .before .before .before .before .before .before .before .args .settings) (c .before .before .before .before .before .before .before .before .before .before .before .before .before .before .before .before .before .before .before .before .before .before .before .before .before .before .before .before .before .before .before .before .before .before .before .before .before .before .before .before .before .before .before .before .before .before .before .args .kinds) (c .before .before .before .before .before .before .before .before .before .before .before .before .before .before .before .before .before .before .before .before .before .before .before .before .before .before .before .before .before .before .before .before .before .before .before .before .before .before .before .before .before .before .before .before .before .before .before .args .flows .now) (c .before .before .before .before .before .before .before .before .before .before .before .before .before .before .before .before .before .before .before .before .before .before .before .before .before .before .before .before .before .before .before .before .before .before .before .before .before .before .before .before .before .before .before .before .before .before .before .args .delays .now) (c .before .before .before .before .before .before .before .before .before .before .before .before .before .before .before .before .before .before .before .before .before .before .before .before .before .before .before .before .before .before .before .before .before .before .before .before .before .before .before .before .before .before .before .before .before .before .before .args .time) (lists (c .before .before .before .before .before .before .before .before .before .before .before .before .before .before .before .before .before .before .before .before .before .before .before .before .before .before .before .before .before .before .before .before .before .before .before .before .before .before .before .before .before .before .before .before .before .before .before .args .starts .now) (c .before .before .before .before .before .before .before .before .before .before .before .before .before .before .before .before .before .before .before .before .before .before .before .before .before .before .before .before .before .before .before .before .before .before .before .before .before .before .before .before .before .before .before .before .before .before .before .args .totals .now) (c .before .before .before .before .before .before .before .before .before .before .before .before .before .before .before .before .before .before .before .before .before .before .before .before .before .before .before .before .before .before .before .before .before .before .before .before .before .before .before .before .before .before .before .before .before .before .before .args .counts .now) (c .before .before .before .before .before .before .before .before .before .before .before .before .before .before .before .before .before .before .before .before .before .before .before .before .before .before .before .before .before .before .before .before .before .before .before .before .before .before .before .before .before .before .before .before .before .before .before .args .sums .now) (c .before .before .before .before .before .before .before .before .before .before .before .before .before .before .before .before .before .before .before .before .before .before .before .before .before .before .before .before .before .before .before .before .before .before .before .before .before .before .before .before .before .before .before .before .before .before .before .args .times .now) (c .before .before .before .before .before .before .before .before .before .before .before .before .before .before .before .before .before .before .before .before .before .before .before .before .before .before .before .before .before .before .before .before .before .before .before .before .before .before .before .before .before .before .before .before .before .before .before .args .peaks .now)) (c .before .before .before .before .before .before .before .before .before .before .before .before .before .before .before .before .before .before .before .before .before .before .before .before .before .before .before .before .before .before .before .before .before .before .before .before .before .before .before .before .before .before .before .before .before .before .before .args .commands .now) (c .before .before .before .before .before .before .before .before .before .before .before .before .before .before .before .before .before .before .before .before .before .before .before .before .before .before .before .before .before .before .before .settings-number .ensures) (c .before .before .before .before .before .before .before .before .before .before .before .before .before .before .before .before .before .before .before .before .before .before .before .before .before .before .before .before .before .before .if1 .left) (c .before .before .before .zero-u32 .ensures)
 
 same-length-16 : tie.Need-same-length-16
 same-length-16 c = search needs
@@ -104,8 +104,20 @@ same-length-20 c = search needs
 same-length-21 : tie.Need-same-length-21
 same-length-21 c = search needs
 
+same-length-22 : tie.Need-same-length-22
+same-length-22 c = search needs
+
+same-length-23 : tie.Need-same-length-23
+same-length-23 c = search needs
+
+same-length-24 : tie.Need-same-length-24
+same-length-24 c = search needs
+
+same-length-25 : tie.Need-same-length-25
+same-length-25 c = search needs
+
 returns-4 : tie.Need-returns-4
-returns-4 c = new-done _ _ _ _ _ _ _ (c .before .before .before .before .before .before .before .before .before .before .before .before .before .before .before .before .before .before .before .before .before .before .before .before .before .before .before .before .before .before .before .before .settings-number .ensures) (c .before .before .before .before .before .before .before .before .before .before .before .before .before .before .before .before .before .before .before .before .before .before .before .before .before .before .before .before .before .before .before .if1 .left) (c .before .before .before .before .before .before .before .before .before .before .before .before .before .before .before .before .before .before .before .before .before .before .before .before .before .before .before .before .before .before .if2 .left) (c .before .before .before .before .before .before .before .before .before .before .before .before .before .before .before .before .before .before .before .before .before .before .before .before .before .before .before .before .before .blank-for .ensures) (c .before .before .before .before .before .before .before .before .before .before .before .before .before .before .before .before .before .before .before .before .before .before .before .before .before .before .before .before .load .ensures .0) (c .before .before .before .before .before .before .before .before .before .before .before .before .before .before .before .before .before .before .before .before .before .before .before .before .before .before .if3 .left) (c .before .before .before .before .before .before .before .before .before .before .before .before .before .before .before .before .before .before .before .before .before .before .before .before .before .before .before .before .load .ensures .1) (c .before .before .before .before .before .before .before .before .before .before .before .before .before .before .before .before .before .before .before .zero-lists .ensures) (c .before .before .before .before .before .before .before .zero-u32 .ensures) (c .before .before .before .started .ensures)
+returns-4 c = new-done _ _ _ _ _ _ _ (c .before .before .before .before .before .before .before .before .before .before .before .before .before .before .before .before .before .before .before .before .before .before .before .before .before .before .before .before .before .before .before .before .before .before .before .settings-number .ensures) (c .before .before .before .before .before .before .before .before .before .before .before .before .before .before .before .before .before .before .before .before .before .before .before .before .before .before .before .before .before .before .before .before .before .before .if1 .left) (c .before .before .before .before .before .before .before .before .before .before .before .before .before .before .before .before .before .before .before .before .before .before .before .before .before .before .before .before .before .before .before .before .before .if2 .left) (c .before .before .before .before .before .before .before .before .before .before .before .before .before .before .before .before .before .before .before .before .before .before .before .before .before .before .before .before .before .before .before .before .blank-for .ensures) (c .before .before .before .before .before .before .before .before .before .before .before .before .before .before .before .before .before .before .before .before .before .before .before .before .before .before .before .before .before .before .before .load .ensures .0) (c .before .before .before .before .before .before .before .before .before .before .before .before .before .before .before .before .before .before .before .before .before .before .before .before .before .before .before .before .before .if3 .left) (c .before .before .before .before .before .before .before .before .before .before .before .before .before .before .before .before .before .before .before .before .before .before .before .before .before .before .before .before .before .before .before .load .ensures .1) (c .before .before .before .before .before .before .before .before .before .before .before .before .before .before .before .before .before .before .before .before .before .zero-lists .ensures) (c .before .before .before .before .before .before .before .zero-u32 .ensures) (c .before .before .before .started .ensures)
 
 pub new-spec : {M : Type 1} → statement M
 new-spec =
@@ -118,30 +130,34 @@ new-spec =
     same-length-3
     same-length-4
     same-length-5
+    same-length-6
     returns
     no-inputs-requires-2
-    same-length-6
     same-length-7
     same-length-8
     same-length-9
     same-length-10
+    same-length-11
+    same-length-12
     returns-2
     blank-for-requires
     load-requires
     no-inputs-requires-3
-    same-length-11
-    same-length-12
     same-length-13
     same-length-14
     same-length-15
+    same-length-16
+    same-length-17
+    same-length-18
     returns-3
     zero-lists-requires
     zero-u32-requires
     started-requires
-    same-length-16
-    same-length-17
-    same-length-18
     same-length-19
     same-length-20
     same-length-21
+    same-length-22
+    same-length-23
+    same-length-24
+    same-length-25
     returns-4)

@@ -38,13 +38,13 @@ buckets-of-requires : tie.Need-buckets-of-requires
 buckets-of-requires c κs = buckets-asked _ _ _ (ranges-let _ _ _ (c .before .before .before .before .before .before .ranges-number .ensures) (c .before .before .before .before .before .if2 .left))
 
 lists-fit-requires : tie.Need-lists-fit-requires
-lists-fit-requires c κs = lists-asked (c .before .before .before .before .before .before .before .before .before .before .before .before .before .before .before .args .settings) (c .before .before .before .before .before .before .before .before .before .before .before .before .before .before .before .args .bytes) (c .before .before .before .before .before .before .before .before .before .before .before .before .before .before .before .args .delays) (lists (c .before .before .before .before .before .before .before .before .before .before .before .before .before .before .before .args .starts .now) (c .before .before .before .before .before .before .before .before .before .before .before .before .before .before .before .args .totals .now) (c .before .before .before .before .before .before .before .before .before .before .before .before .before .before .before .args .counts .now) (c .before .before .before .before .before .before .before .before .before .before .before .before .before .before .before .args .times .now) (c .before .before .before .before .before .before .before .before .before .before .before .before .before .before .before .args .peaks .now)) (c .before .before .before .before .before .before .before .before .before .before .before .before .before .before .before .args .words) (told-yes _ _ (c .before .before .before .before .before .before .before .before .before .inputs-allowed .ensures) (c .before .before .before .before .before .before .before .before .if1 .left)) (ranges-let _ _ _ (c .before .before .before .before .before .before .before .ranges-number .ensures) (c .before .before .before .before .before .before .if2 .left)) (c .before .before .before .before .before .policy-of .ensures) (told-yes _ _ (c .before .before .before .before .pauses-allowed .ensures) (c .before .before .before .if3 .left)) (told-yes _ _ (c .before .before .margin-fits .ensures) (c .before .if4 .left)) (c .buckets-of .ensures)
+lists-fit-requires c κs = lists-asked (c .before .before .before .before .before .before .before .before .before .before .before .before .before .before .before .before .args .settings) (c .before .before .before .before .before .before .before .before .before .before .before .before .before .before .before .before .args .bytes) (c .before .before .before .before .before .before .before .before .before .before .before .before .before .before .before .before .args .delays) (lists (c .before .before .before .before .before .before .before .before .before .before .before .before .before .before .before .before .args .starts .now) (c .before .before .before .before .before .before .before .before .before .before .before .before .before .before .before .before .args .totals .now) (c .before .before .before .before .before .before .before .before .before .before .before .before .before .before .before .before .args .counts .now) (c .before .before .before .before .before .before .before .before .before .before .before .before .before .before .before .before .args .sums .now) (c .before .before .before .before .before .before .before .before .before .before .before .before .before .before .before .before .args .times .now) (c .before .before .before .before .before .before .before .before .before .before .before .before .before .before .before .before .args .peaks .now)) (c .before .before .before .before .before .before .before .before .before .before .before .before .before .before .before .before .args .words) (told-yes _ _ (c .before .before .before .before .before .before .before .before .before .inputs-allowed .ensures) (c .before .before .before .before .before .before .before .before .if1 .left)) (ranges-let _ _ _ (c .before .before .before .before .before .before .before .ranges-number .ensures) (c .before .before .before .before .before .before .if2 .left)) (c .before .before .before .before .before .policy-of .ensures) (told-yes _ _ (c .before .before .before .before .pauses-allowed .ensures) (c .before .before .before .if3 .left)) (told-yes _ _ (c .before .before .margin-fits .ensures) (c .before .if4 .left)) (c .buckets-of .ensures)
 
 returns-5 : tie.Need-returns-5
 returns-5 c = refused-lists _ _ _ _ _ (told-yes _ _ (c .before .before .before .before .before .before .before .before .before .before .before .inputs-allowed .ensures) (c .before .before .before .before .before .before .before .before .before .before .if1 .left)) (ranges-let _ _ _ (c .before .before .before .before .before .before .before .before .before .ranges-number .ensures) (c .before .before .before .before .before .before .before .before .if2 .left)) (c .before .before .before .before .before .before .before .policy-of .ensures) (told-yes _ _ (c .before .before .before .before .before .before .pauses-allowed .ensures) (c .before .before .before .before .before .if3 .left)) (told-yes _ _ (c .before .before .before .before .margin-fits .ensures) (c .before .before .before .if4 .left)) (c .before .before .buckets-of .ensures) (told-no _ _ (c .before .lists-fit .ensures) (c .if5 .taken))
 
 output-fits-requires : tie.Need-output-fits-requires
-output-fits-requires c κs = count-asked (c .before .before .before .before .before .before .before .before .before .before .before .before .before .before .before .before .before .args .settings) (c .before .before .before .before .before .before .before .before .before .before .before .before .before .before .before .before .before .args .bytes) (c .before .before .before .before .before .before .before .before .before .before .before .before .before .before .before .before .before .args .delays) (lists (c .before .before .before .before .before .before .before .before .before .before .before .before .before .before .before .before .before .args .starts .now) (c .before .before .before .before .before .before .before .before .before .before .before .before .before .before .before .before .before .args .totals .now) (c .before .before .before .before .before .before .before .before .before .before .before .before .before .before .before .before .before .args .counts .now) (c .before .before .before .before .before .before .before .before .before .before .before .before .before .before .before .before .before .args .times .now) (c .before .before .before .before .before .before .before .before .before .before .before .before .before .before .before .before .before .args .peaks .now)) (c .before .before .before .before .before .before .before .before .before .before .before .before .before .before .before .before .before .args .words) (told-yes _ _ (c .before .before .before .before .before .before .before .before .before .before .before .inputs-allowed .ensures) (c .before .before .before .before .before .before .before .before .before .before .if1 .left)) (ranges-let _ _ _ (c .before .before .before .before .before .before .before .before .before .ranges-number .ensures) (c .before .before .before .before .before .before .before .before .if2 .left)) (c .before .before .before .before .before .before .before .policy-of .ensures) (told-yes _ _ (c .before .before .before .before .before .before .pauses-allowed .ensures) (c .before .before .before .before .before .if3 .left))
+output-fits-requires c κs = count-asked (c .before .before .before .before .before .before .before .before .before .before .before .before .before .before .before .before .before .before .args .settings) (c .before .before .before .before .before .before .before .before .before .before .before .before .before .before .before .before .before .before .args .bytes) (c .before .before .before .before .before .before .before .before .before .before .before .before .before .before .before .before .before .before .args .delays) (lists (c .before .before .before .before .before .before .before .before .before .before .before .before .before .before .before .before .before .before .args .starts .now) (c .before .before .before .before .before .before .before .before .before .before .before .before .before .before .before .before .before .before .args .totals .now) (c .before .before .before .before .before .before .before .before .before .before .before .before .before .before .before .before .before .before .args .counts .now) (c .before .before .before .before .before .before .before .before .before .before .before .before .before .before .before .before .before .before .args .sums .now) (c .before .before .before .before .before .before .before .before .before .before .before .before .before .before .before .before .before .before .args .times .now) (c .before .before .before .before .before .before .before .before .before .before .before .before .before .before .before .before .before .before .args .peaks .now)) (c .before .before .before .before .before .before .before .before .before .before .before .before .before .before .before .before .before .before .args .words) (told-yes _ _ (c .before .before .before .before .before .before .before .before .before .before .before .inputs-allowed .ensures) (c .before .before .before .before .before .before .before .before .before .before .if1 .left)) (ranges-let _ _ _ (c .before .before .before .before .before .before .before .before .before .ranges-number .ensures) (c .before .before .before .before .before .before .before .before .if2 .left)) (c .before .before .before .before .before .before .before .policy-of .ensures) (told-yes _ _ (c .before .before .before .before .before .before .pauses-allowed .ensures) (c .before .before .before .before .before .if3 .left))
 
 returns-6 : tie.Need-returns-6
 returns-6 c = refused-words _ _ _ _ _ (told-yes _ _ (c .before .before .before .before .before .before .before .before .before .before .before .before .before .inputs-allowed .ensures) (c .before .before .before .before .before .before .before .before .before .before .before .before .if1 .left)) (ranges-let _ _ _ (c .before .before .before .before .before .before .before .before .before .before .before .ranges-number .ensures) (c .before .before .before .before .before .before .before .before .before .before .if2 .left)) (c .before .before .before .before .before .before .before .before .before .policy-of .ensures) (told-yes _ _ (c .before .before .before .before .before .before .before .before .pauses-allowed .ensures) (c .before .before .before .before .before .before .before .if3 .left)) (told-yes _ _ (c .before .before .before .before .before .before .margin-fits .ensures) (c .before .before .before .before .before .if4 .left)) (c .before .before .before .before .buckets-of .ensures) (told-yes _ _ (c .before .before .before .lists-fit .ensures) (c .before .before .if5 .left)) (told-no _ _ (c .before .output-fits .ensures) (c .if6 .taken))

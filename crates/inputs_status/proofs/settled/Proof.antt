@@ -22,7 +22,7 @@ settled-slot-requires c κs = search needs
 
 returns-2 : tie.Need-returns-2
 unfolding settledReply
-returns-2 c = answer-accepted _ (c .before .before .before .before .settled-number .ensures) (c .before .before .before .if1 .left) _ (c .settled-slot .ensures ∙ ap (λ (x : Slot). settledSlot x (c .before .before .before .before .before .before .before .before .before .before .args .inputs .policy .hold) (c .before .before .before .before .before .before .before .before .before .before .args .time)) (c .before .before .slot-at .ensures))
+returns-2 c = answer-accepted _ (c .before .before .before .before .settled-number .ensures) (c .before .before .before .if1 .left) _ (c .settled-slot .ensures ∙ ap (λ (x : Slot). settledSlot x (c .before .before .before .before .before .before .before .before .before .before .before .args .inputs .policy .hold) (c .before .before .before .before .before .before .before .before .before .before .before .args .time)) (c .before .before .slot-at .ensures))
 
 pub settled-spec : {M : Type 1} → statement M
 settled-spec =

@@ -26,10 +26,10 @@ returns-2 : tie.Need-returns-2
 returns-2 c = confirm-nothing _ _ _ _ _ (c .before .before .before .before .input-checks .ensures) (c .before .before .before .if1 .left) (c .before .before .slot-at .ensures) (c .enum-told .given .1)
 
 taken-requires : tie.Need-taken-requires
-taken-requires c κs = taken-asked _ _ (c .before .before .before .before .before .before .before .before .before .before .before .before .args .commands .now) _ _ (c .before .before .before .before .before .input-checks .ensures) (c .before .before .before .before .if1 .left) (c .before .before .before .slot-at .ensures)
+taken-requires c κs = taken-asked _ _ (c .before .before .before .before .before .before .before .before .before .before .before .before .before .args .commands .now) _ _ (c .before .before .before .before .before .input-checks .ensures) (c .before .before .before .before .if1 .left) (c .before .before .before .slot-at .ensures)
 
 delay-set-requires : tie.Need-delay-set-requires
-delay-set-requires c κs = confirm-asked _ _ (c .before .before .before .before .before .before .before .before .before .before .before .before .before .before .args .commands .now) _ _ (c .before .before .before .before .before .before .before .input-checks .ensures) (c .before .before .before .before .before .before .if1 .left) (c .before .before .before .before .before .slot-at .ensures)
+delay-set-requires c κs = confirm-asked _ _ (c .before .before .before .before .before .before .before .before .before .before .before .before .before .before .before .args .commands .now) _ _ (c .before .before .before .before .before .before .before .input-checks .ensures) (c .before .before .before .before .before .before .if1 .left) (c .before .before .before .before .before .slot-at .ensures)
 
 same-length : tie.Need-same-length
 same-length c = search needs

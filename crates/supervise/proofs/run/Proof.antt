@@ -5,10 +5,10 @@ use Rattle.supervise.proofs.run.Statement.{statement}
 use Rattle.supervise.proofs.run.Tie as tie
 
 abbrev Inv-loop : tie.InvT-loop
-Inv-loop input₀ out₀ starts₀ totals₀ counts₀ times₀ peaks₀ commands₀ bytes₀ heard₀ state₀ inputs₀ turns₀ input out starts totals counts times peaks commands bytes heard state inputs turns = Unit {0}
+Inv-loop input₀ out₀ starts₀ totals₀ counts₀ sums₀ times₀ peaks₀ commands₀ bytes₀ heard₀ state₀ inputs₀ turns₀ input out starts totals counts sums times peaks commands bytes heard state inputs turns = Unit {0}
 
 abbrev μ-loop : tie.MeasureT-loop
-μ-loop input₀ out₀ starts₀ totals₀ counts₀ times₀ peaks₀ commands₀ bytes₀ heard₀ state₀ inputs₀ turns₀ input out starts totals counts times peaks commands bytes heard state inputs turns = turns
+μ-loop input₀ out₀ starts₀ totals₀ counts₀ sums₀ times₀ peaks₀ commands₀ bytes₀ heard₀ state₀ inputs₀ turns₀ input out starts totals counts sums times peaks commands bytes heard state inputs turns = turns
 
 pub run-spec : {M : Type 1} → statement M
 run-spec =

@@ -18,13 +18,15 @@ ask-spec =
     (λ c κs. search needs)  -- least-usize-requires-4
     (λ c κs. search needs)  -- least-usize-requires-5
     (λ c κs. search needs)  -- least-usize-requires-6
-    (λ c. sym (length-take-le _ _ (within _ _ (c .before .before .before .before .before .before .least-usize .ensures))))  -- slice-aggregate-asking
-    (λ c. sym (length-take-le _ _ (within _ _ (c .before .before .before .before .before .before .least-usize2 .ensures))))  -- slice-aggregate-asking-2
-    (λ c. sym (length-take-le _ _ (within _ _ (c .before .before .before .before .before .before .least-usize3 .ensures))))  -- slice-aggregate-asking-3
-    (λ c. sym (length-take-le _ _ (within _ _ (c .before .before .before .before .before .before .least-usize4 .ensures))))  -- slice-aggregate-asking-4
-    (λ c. sym (length-take-le _ _ (within _ _ (c .before .before .before .before .before .before .least-usize5 .ensures))))  -- slice-aggregate-asking-5
+    (λ c κs. search needs)  -- least-usize-requires-7
+    (λ c. sym (length-take-le _ _ (within _ _ (c .before .before .before .before .before .before .before .least-usize .ensures))))  -- slice-aggregate-asking
+    (λ c. sym (length-take-le _ _ (within _ _ (c .before .before .before .before .before .before .before .least-usize2 .ensures))))  -- slice-aggregate-asking-2
+    (λ c. sym (length-take-le _ _ (within _ _ (c .before .before .before .before .before .before .before .least-usize3 .ensures))))  -- slice-aggregate-asking-3
+    (λ c. sym (length-take-le _ _ (within _ _ (c .before .before .before .before .before .before .before .least-usize4 .ensures))))  -- slice-aggregate-asking-4
+    (λ c. sym (length-take-le _ _ (within _ _ (c .before .before .before .before .before .before .before .least-usize5 .ensures))))  -- slice-aggregate-asking-5
+    (λ c. sym (length-take-le _ _ (within _ _ (c .before .before .before .before .before .before .before .least-usize6 .ensures))))  -- slice-aggregate-asking-6
     (λ c. search needs)  -- slice-relend-prefix-asking
-    (λ c. sym (length-take-le _ _ (within _ _ (c .before .before .before .before .before .before .least-usize6 .ensures))))  -- slice-aggregate-asking-6
+    (λ c. sym (length-take-le _ _ (within _ _ (c .before .before .before .before .before .before .before .least-usize7 .ensures))))  -- slice-aggregate-asking-7
     (λ c κs. search needs)  -- asking-requires
     (λ c. search needs)  -- same-length
     (λ c. search needs))  -- returns

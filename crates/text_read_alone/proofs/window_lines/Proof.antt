@@ -7,7 +7,7 @@ use Rattle.text_read_alone.proofs.window_lines.Tie as tie
 
 returns : tie.Need-returns
 unfolding windowLines
-returns c = rw (c .either5 .ensures, c .before .wquant .ensures, c .before .before .either4 .ensures, c .before .before .before .wspan .ensures, c .before .before .before .before .either3 .ensures, c .before .before .before .before .before .wclear .ensures, c .before .before .before .before .before .before .either2 .ensures, c .before .before .before .before .before .before .before .wpush .ensures, c .before .before .before .before .before .before .before .before .either .ensures, c .before .before .before .before .before .before .before .before .before .wset .ensures, c .before .before .before .before .before .before .before .before .before .before .wnew .ensures)
+returns c = rw (c .either6 .ensures, c .before .wquant .ensures, c .before .before .either5 .ensures, c .before .before .before .wspan .ensures, c .before .before .before .before .either4 .ensures, c .before .before .before .before .before .wclear .ensures, c .before .before .before .before .before .before .either3 .ensures, c .before .before .before .before .before .before .before .wpush .ensures, c .before .before .before .before .before .before .before .before .either2 .ensures, c .before .before .before .before .before .before .before .before .before .wsum .ensures, c .before .before .before .before .before .before .before .before .before .before .either .ensures, c .before .before .before .before .before .before .before .before .before .before .before .wset .ensures, c .before .before .before .before .before .before .before .before .before .before .before .before .wnew .ensures)
 
 pub window-lines-spec : {M : Type 1} → statement M
 window-lines-spec =
@@ -16,12 +16,14 @@ window-lines-spec =
     (λ c κs. search needs)  -- wnew-requires
     (λ c κs. search needs)  -- wset-requires
     (λ c κs. search needs)  -- either-requires
-    (λ c κs. search needs)  -- wpush-requires
+    (λ c κs. search needs)  -- wsum-requires
     (λ c κs. search needs)  -- either-requires-2
-    (λ c κs. search needs)  -- wclear-requires
+    (λ c κs. search needs)  -- wpush-requires
     (λ c κs. search needs)  -- either-requires-3
-    (λ c κs. search needs)  -- wspan-requires
+    (λ c κs. search needs)  -- wclear-requires
     (λ c κs. search needs)  -- either-requires-4
-    (λ c κs. search needs)  -- wquant-requires
+    (λ c κs. search needs)  -- wspan-requires
     (λ c κs. search needs)  -- either-requires-5
+    (λ c κs. search needs)  -- wquant-requires
+    (λ c κs. search needs)  -- either-requires-6
     returns)

@@ -1,10 +1,10 @@
 -- `lag_rows::core::long_sum` meets its contract. Assumes nothing.
 use Prim.Native.Nat.{_≤_, _-_, _*_}
+use mathlib.Core.Path.{_≡_}
 use native.Mathlib.Omega.{arith}
 use borrow.Author.Needs.{needs}
-use Rattle.base.proofs.All.{from-none, from-more, from-end}
 use Rattle.base.specs.Lists.{sumFrom}
-use mathlib.Core.Path.{_≡_}
+use Rattle.base.proofs.All.{from-none, from-more, from-end}
 use Rattle.lag_rows.proofs.core.long_sum.Statement.{statement}
 use Rattle.lag_rows.proofs.core.long_sum.Tie as tie
 

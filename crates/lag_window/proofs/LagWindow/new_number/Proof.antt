@@ -39,10 +39,20 @@ returns-4 c =
 returns-5 : tie.Need-returns-5
 unfolding newNumber
 returns-5 c =
-    sym (ranges-go _ _ _ (c .before .before .before .before .before .ranges-number .ensures) (c .before .before .before .before .if1 .left) _
-    ∙ yes-ask 5 _ (eq-eqb _ _ (c .before .before .before .if2 .left))
-    ∙ yes-ask 5 _ (eq-eqb _ _ (c .before .before .if3 .left))
-    ∙ yes-ask 5 _ (eq-eqb _ _ (rw (c .before .buckets-of .ensures) at (c .if4 .left))))
+    sym (ranges-go _ _ _ (c .before .before .before .before .before .before .ranges-number .ensures) (c .before .before .before .before .before .if1 .left) _
+    ∙ yes-ask 5 _ (eq-eqb _ _ (c .before .before .before .before .if2 .left))
+    ∙ yes-ask 5 _ (eq-eqb _ _ (c .before .before .before .if3 .left))
+    ∙ yes-ask 5 _ (eq-eqb _ _ (rw (c .before .before .buckets-of .ensures) at (c .before .if4 .left)))
+    ∙ no-ask 5 _ (ne-eqb _ _ (rw (c .before .before .buckets-of .ensures) at (c .if5 .taken))))
+
+returns-6 : tie.Need-returns-6
+unfolding newNumber
+returns-6 c =
+    sym (ranges-go _ _ _ (c .before .before .before .before .before .before .ranges-number .ensures) (c .before .before .before .before .before .if1 .left) _
+    ∙ yes-ask 5 _ (eq-eqb _ _ (c .before .before .before .before .if2 .left))
+    ∙ yes-ask 5 _ (eq-eqb _ _ (c .before .before .before .if3 .left))
+    ∙ yes-ask 5 _ (eq-eqb _ _ (rw (c .before .before .buckets-of .ensures) at (c .before .if4 .left)))
+    ∙ yes-ask 5 _ (eq-eqb _ _ (rw (c .before .before .buckets-of .ensures) at (c .if5 .left))))
 
 pub new-number-spec : {M : Type 1} → statement M
 new-number-spec =
@@ -55,4 +65,5 @@ new-number-spec =
     buckets-of-requires
     mul-if4
     returns-4
-    returns-5)
+    returns-5
+    returns-6)

@@ -45,20 +45,6 @@ returns-5 c =
     ∙ yes-ask 5 _ (eq-eqb _ _ (c .before .before .if4 .left))
     ∙ no-ask 5 _ (ne-eqb _ _ (c .if5 .taken)))
 
-whole-requires : tie.Need-whole-requires
-whole-requires c κs =
-    let wide = width-told _ (told-yes _ _ (c .before .before .before .before .before .before .before .width-allowed .ensures) (c .before .before .before .before .before .before .if1 .left)) in
-    let some = buckets-told _ (told-yes _ _ (c .before .before .before .before .before .buckets-allowed .ensures) (c .before .before .before .before .if2 .left)) in
-    record {
-      width-low = wide .0;
-      width-high = wide .1;
-      buckets-low = some .0;
-      buckets-high = some .1;
-      starts-long = c .before .before .before .if3 .left;
-      totals-long = c .before .before .if4 .left;
-      counts-long = c .if5 .left;
-    }
-
 returns-6 : tie.Need-returns-6
 unfolding checked
 returns-6 c =
@@ -67,17 +53,45 @@ returns-6 c =
     ∙ yes-ask 5 _ (eq-eqb _ _ (c .before .before .before .before .before .if3 .left))
     ∙ yes-ask 5 _ (eq-eqb _ _ (c .before .before .before .before .if4 .left))
     ∙ yes-ask 5 _ (eq-eqb _ _ (c .before .before .if5 .left))
-    ∙ no-ask 6 _ (told-no _ _ (c .before .whole .ensures) (c .if6 .taken)))
+    ∙ no-ask 5 _ (ne-eqb _ _ (c .if6 .taken)))
+
+whole-requires : tie.Need-whole-requires
+whole-requires c κs =
+    let wide = width-told _ (told-yes _ _ (c .before .before .before .before .before .before .before .before .before .width-allowed .ensures) (c .before .before .before .before .before .before .before .before .if1 .left)) in
+    let some = buckets-told _ (told-yes _ _ (c .before .before .before .before .before .before .before .buckets-allowed .ensures) (c .before .before .before .before .before .before .if2 .left)) in (
+      record {
+        width-low = wide .0;
+        width-high = wide .1;
+        buckets-low = some .0;
+        buckets-high = some .1;
+        starts-long = c .before .before .before .before .before .if3 .left;
+        totals-long = c .before .before .before .before .if4 .left;
+        counts-long = c .before .before .if5 .left;
+      },
+      c .if6 .left,
+    )
 
 returns-7 : tie.Need-returns-7
 unfolding checked
 returns-7 c =
-    sym (yes-ask 17 _ (told-yes _ _ (c .before .before .before .before .before .before .before .before .before .width-allowed .ensures) (c .before .before .before .before .before .before .before .before .if1 .left))
-    ∙ yes-ask 18 _ (told-yes _ _ (c .before .before .before .before .before .before .before .buckets-allowed .ensures) (c .before .before .before .before .before .before .if2 .left))
-    ∙ yes-ask 5 _ (eq-eqb _ _ (c .before .before .before .before .before .if3 .left))
-    ∙ yes-ask 5 _ (eq-eqb _ _ (c .before .before .before .before .if4 .left))
-    ∙ yes-ask 5 _ (eq-eqb _ _ (c .before .before .if5 .left))
-    ∙ yes-ask 6 _ (told-yes _ _ (c .before .whole .ensures) (c .if6 .left)))
+    sym (yes-ask 17 _ (told-yes _ _ (c .before .before .before .before .before .before .before .before .before .before .before .width-allowed .ensures) (c .before .before .before .before .before .before .before .before .before .before .if1 .left))
+    ∙ yes-ask 18 _ (told-yes _ _ (c .before .before .before .before .before .before .before .before .before .buckets-allowed .ensures) (c .before .before .before .before .before .before .before .before .if2 .left))
+    ∙ yes-ask 5 _ (eq-eqb _ _ (c .before .before .before .before .before .before .before .if3 .left))
+    ∙ yes-ask 5 _ (eq-eqb _ _ (c .before .before .before .before .before .before .if4 .left))
+    ∙ yes-ask 5 _ (eq-eqb _ _ (c .before .before .before .before .if5 .left))
+    ∙ yes-ask 5 _ (eq-eqb _ _ (c .before .before .if6 .left))
+    ∙ no-ask 6 _ (told-no _ _ (c .before .whole .ensures) (c .if7 .taken)))
+
+returns-8 : tie.Need-returns-8
+unfolding checked
+returns-8 c =
+    sym (yes-ask 17 _ (told-yes _ _ (c .before .before .before .before .before .before .before .before .before .before .before .width-allowed .ensures) (c .before .before .before .before .before .before .before .before .before .before .if1 .left))
+    ∙ yes-ask 18 _ (told-yes _ _ (c .before .before .before .before .before .before .before .before .before .buckets-allowed .ensures) (c .before .before .before .before .before .before .before .before .if2 .left))
+    ∙ yes-ask 5 _ (eq-eqb _ _ (c .before .before .before .before .before .before .before .if3 .left))
+    ∙ yes-ask 5 _ (eq-eqb _ _ (c .before .before .before .before .before .before .if4 .left))
+    ∙ yes-ask 5 _ (eq-eqb _ _ (c .before .before .before .before .if5 .left))
+    ∙ yes-ask 5 _ (eq-eqb _ _ (c .before .before .if6 .left))
+    ∙ yes-ask 6 _ (told-yes _ _ (c .before .whole .ensures) (c .if7 .left)))
 
 pub number-spec : {M : Type 1} → statement M
 number-spec =
@@ -91,6 +105,7 @@ number-spec =
     returns-4
     mul-if5
     returns-5
-    whole-requires
     returns-6
-    returns-7)
+    whole-requires
+    returns-7
+    returns-8)

@@ -9,6 +9,6 @@ quantile-upto-spec =
     tie.close
     (tie.spec
     (λ c κs. search needs)  -- quantile-number-requires
-    (λ c. quantile-refused _ _ _ (c .before .before .before .before .before .args .limit) (c .before .quantile-number .ensures) (c .if1 .taken))  -- returns
-    (λ c κs. quantile-asks _ _ _ _ (c .before .quantile-number .ensures) (c .if1 .left))  -- quantile-upto-requires
-    (λ c. quantile-made _ _ _ (c .before .before .before .before .before .before .args .limit) _ (c .before .before .quantile-number .ensures) (c .before .if1 .left) (c .quantile-upto .ensures)))  -- returns-2
+    (λ c. quantile-refused _ _ _ _ (c .before .before .before .before .before .before .args .limit) (c .before .quantile-number .ensures) (c .if1 .taken))  -- returns
+    (λ c κs. quantile-asks _ _ _ _ _ (c .before .quantile-number .ensures) (c .if1 .left))  -- quantile-upto-requires
+    (λ c. quantile-made _ _ _ _ (c .before .before .before .before .before .before .before .args .limit) _ (c .before .before .quantile-number .ensures) (c .before .if1 .left) (c .quantile-upto .ensures)))  -- returns-2

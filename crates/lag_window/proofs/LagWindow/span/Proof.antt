@@ -9,6 +9,6 @@ span-spec =
     tie.close
     (tie.spec
     (λ c κs. search needs)  -- number-requires
-    (λ c. span-refused _ _ (c .before .number .ensures) (c .if1 .taken))  -- returns
-    (λ c κs. span-asks _ _ (c .before .number .ensures) (c .if1 .left))  -- span-requires
-    (λ c. span-made _ _ _ (c .before .before .number .ensures) (c .before .if1 .left) (c .span .ensures)))  -- returns-2
+    (λ c. span-refused _ _ _ (c .before .number .ensures) (c .if1 .taken))  -- returns
+    (λ c κs. span-asks _ _ _ (c .before .number .ensures) (c .if1 .left))  -- span-requires
+    (λ c. span-made _ _ _ _ (c .before .before .number .ensures) (c .before .if1 .left) (c .span .ensures)))  -- returns-2

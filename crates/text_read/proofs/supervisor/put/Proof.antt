@@ -7,7 +7,7 @@ use Rattle.text_read.proofs.supervisor.put.Tie as tie
 
 returns : tie.Need-returns
 unfolding putLine
-returns c = rw (c .present .ensures, c .before .part-or3 .ensures, c .before .before .delays .ensures, c .before .before .before .part-or2 .ensures, c .before .before .before .before .counters .ensures, c .before .before .before .before .before .part-or .ensures, c .before .before .before .before .before .before .hold .ensures, c .before .before .before .before .before .before .before .window .ensures, c .before .before .before .before .before .before .before .before .u64-word .ensures, c .before .before .before .before .before .before .before .before .before .word-end .ensures)
+returns c = rw (c .present .ensures, c .before .part-or4 .ensures, c .before .before .sum .ensures, c .before .before .before .part-or3 .ensures, c .before .before .before .before .delays .ensures, c .before .before .before .before .before .part-or2 .ensures, c .before .before .before .before .before .before .counters .ensures, c .before .before .before .before .before .before .before .part-or .ensures, c .before .before .before .before .before .before .before .before .hold .ensures, c .before .before .before .before .before .before .before .before .before .window .ensures, c .before .before .before .before .before .before .before .before .before .before .u64-word .ensures, c .before .before .before .before .before .before .before .before .before .before .before .word-end .ensures)
 
 pub put-spec : {M : Type 1} → statement M
 put-spec =
@@ -23,5 +23,7 @@ put-spec =
     (λ c κs. search needs)  -- part-or-requires-2
     (λ c κs. search needs)  -- delays-requires
     (λ c κs. search needs)  -- part-or-requires-3
+    (λ c κs. search needs)  -- sum-requires
+    (λ c κs. search needs)  -- part-or-requires-4
     (λ c κs. search needs)  -- present-requires
     returns)
