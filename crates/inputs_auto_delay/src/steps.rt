@@ -83,7 +83,7 @@ pub(crate) fn interrupted(inputs: Inputs, i: usize, slot: Slot) -> Inputs
     inputs_slots::put_slot(inputs, i, changed)
 }
 
-// The 0.999 quantile of the lags that the largest delay could cover, after a second of lags: by the row of sums, which are those of whatever totals and counts the window has.
+// The 0.999 quantile of the lags that the largest delay could cover, after a second of lags: from the row of sums alone; the contract says it of every list of counts that has these sums.
 fn p999(inputs: Inputs, slot: Slot, i: usize, starts: &[u64], sums: &[u64]) -> Lag
     requires { ⌜ P999Asked inputs slot i (now starts) (now sums) ⌝ }
     ensures { λ r. ⌜ ((totals counts times peaks : List ℕ) → OwnSums inputs (lists (now (starts .entry)) totals counts (now (sums .entry)) times peaks) i slot → r ≡ p999Of (inputs .policy) (windowFor inputs (lists (now (starts .entry)) totals counts (now (sums .entry)) times peaks) i slot)) ⌝ }

@@ -52,9 +52,6 @@ module _ (s : Inputs) (l : Lists) (c : Checked s l) (i : ℕ) (h : i < s .count)
   window-is-sound : Sound (windowOf s l i)
   window-is-sound = window-sound s l c i h
 
-  pub own-sums : OwnSums s l i slot
-  own-sums = subst (λ (x : Slot). OwnSums s l i x) (sym is-slot) (window-sums s l c i h)
-
   pub countable : {w : LagWindow} → w ≡ windowIn (s .policy) (s .width) slot → Countable w i (l .sums)
   unfolding bucketsIn
   countable is-window =
@@ -81,7 +78,7 @@ module _ (s : Inputs) (l : Lists) (i applied channels : ℕ) {slot : Slot} (is-s
       → source ≡ sourceOf s (slot .route)
       → w ≡ windowIn (s .policy) (s .width) slot
       → arrival ≡ arrivalIn (asOneSecond (w .buckets) (w .width) (part (i * w .buckets) (w .buckets) (l .sums)))
-      → OwnSums s l i slot
+      → OwnSums s l i (slotAt s i)
       → k ≡ 600
       → worst ≡ worstMs slot (part (i * 600) k (l .peaks))
       → proposed ≡ proposedMs (slot .proposed)
@@ -120,7 +117,7 @@ module _ (s : Inputs) (l : Lists) (i applied channels : ℕ) {slot : Slot} (is-s
         «effective_delay_ms» = is-effective t;
         «proposed_delay_ms» = is-proposed t;
         «lag_ms» = is-last t;
-        «arrival_lag_ms» = (is-arrival ∙ (λ u. arrivalIn (asOneSecond (is-window u .buckets) (is-window u .width) (part (i * is-window u .buckets) (is-window u .buckets) (l .sums)))) ∙ arrival-row (windowFor s l i slot) own) t;
+        «arrival_lag_ms» = (is-arrival ∙ (λ u. arrivalIn (asOneSecond (is-window u .buckets) (is-window u .width) (part (i * is-window u .buckets) (is-window u .buckets) (l .sums)))) ∙ arrival-row (windowFor s l i slot) (subst (λ (x : Slot). OwnSums s l i x) (sym is-slot) own)) t;
         «worst_lag_ms» = (is-worst ∙ (λ u. worstMs slot (part (i * 600) (is-k u) (l .peaks)))) t;
         «delay_changes» = slot .«delay_changes»;
         «late_events» = slot .«late_events»;

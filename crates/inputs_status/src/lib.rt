@@ -186,18 +186,7 @@ pub fn status(
     if number != 0 {
         return no_status(number);
     }
-    shown::status(
-        inputs,
-        input,
-        applied,
-        channels,
-        starts,
-        totals,
-        counts,
-        sums,
-        times,
-        peaks,
-    )
+    shown::status(inputs, input, applied, channels, sums, peaks)
 }
 
 // Is the input running with at least the wanted channels?

@@ -1,10 +1,13 @@
 // What a status shows of one input, for a record and lists that the checks let through.
 ghost use mathlib.Core.Path.{_≡_};
-ghost use Prim.Native.Nat.{_*_, _≤_};
+ghost use mathlib.Core.List.{List};
+ghost use Prim.Native.Nat.{ℕ, _*_, _≤_};
 ghost use lib.ListN.{length};
 ghost use Rattle.base.specs.Lists.{part};
 ghost use Rattle.rules_window.specs.ColumnSums.{asOneSecond};
+ghost use Rattle.rules_record.specs.Inputs.{slotAt};
 ghost use Rattle.rules_record.specs.Lent.{lists};
+ghost use Rattle.rules_record.specs.Facts.{OwnSums};
 ghost use Rattle.rules_calls.specs.Status.{sourceOf, channelsShown, proposedMs, lagMs, worstMs, arrivalOf, arrivalIn, statusOf};
 ghost use Rattle.inputs_status.specs.StatusAsked.{Countable, Showable};
 use delay_hold::DelayHold;
@@ -113,21 +116,17 @@ fn arrival(window: LagWindow, i: usize, sums: &[u64]) -> Arrival
     arrival_of(half, high, highest)
 }
 
-// The status of input i.
+// The status of input i, from its row of sums and its peaks; the contract says it of every list of counts that has these sums.
 pub(crate) fn status(
     inputs: Inputs,
     i: usize,
     applied: u32,
     channels: u32,
-    starts: &[u64],
-    totals: &[u64],
-    counts: &[u32],
     sums: &[u64],
-    times: &[u64],
     peaks: &[u32],
 ) -> InputStatus
-    requires { ⌜ Showable inputs (lists (now starts) (now totals) (now counts) (now sums) (now times) (now peaks)) i applied ⌝ }
-    ensures { λ r. ⌜ r ≡ statusOf inputs (lists (now (starts .entry)) (now (totals .entry)) (now (counts .entry)) (now (sums .entry)) (now (times .entry)) (now (peaks .entry))) i applied channels ⌝ }
+    requires { ⌜ Showable inputs i applied (now sums) (now peaks) ⌝ }
+    ensures { λ r. ⌜ ((starts totals counts times : List ℕ) → OwnSums inputs (lists starts totals counts (now (sums .entry)) times (now (peaks .entry))) i (slotAt inputs i) → r ≡ statusOf inputs (lists starts totals counts (now (sums .entry)) times (now (peaks .entry))) i applied channels) ⌝ }
 {
     let slot = inputs_slots::slot_at(inputs, i);
     let policy = inputs.policy;

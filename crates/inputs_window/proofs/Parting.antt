@@ -5,7 +5,6 @@ use mathlib.Core.Path.{_≡_, sym, ap, subst, _∙_}
 use mathlib.Core.List.{List}
 use lib.Ieee.{Float}
 use lib.ListN.{length}
-use Rattle.base.specs.Choice.{both}
 use Rattle.base.specs.Lists.{part, patched}
 use Rattle.base.proofs.Patch.{part-long}
 use Rattle.base.specs.Limits.{timeLimit, widthLimit, bucketsLimit}
@@ -13,10 +12,10 @@ use Rattle.lag_window.specs.declared.LagWindow.{LagWindow}
 use Rattle.rules_window.specs.declared.Quantile.{Quantile}
 use Rattle.rules_window.specs.Window.{Window}
 use Rattle.lag_window.specs.Lent.{lent}
-use Rattle.rules_window.specs.WholeWindow.{wholeWindow, Shaped, Sound}
+use Rattle.rules_window.specs.WholeWindow.{wholeWindow, Shaped, Sound, wholeWithSums}
 use Rattle.rules_window.specs.Checks.{roomFor}
 use Rattle.rules_window.specs.Quantile.{quantileUpto, Placeable}
-use Rattle.rules_window.specs.ColumnSums.{columnSums, rightSums, asOneSecond}
+use Rattle.rules_window.specs.ColumnSums.{columnSums, asOneSecond}
 use Rattle.rules_window.specs.Parts.{partOf, placed, PartsIn}
 use Rattle.rules_window.proofs.Parting.{held-shaped, held-sound}
 
@@ -35,7 +34,7 @@ module _ (j : ℕ) (w : LagWindow) (s t c us : List ℕ) (k n m : ℕ) (ek : k �
   pub part-asks : PartsIn j (lent w s t c) → j * w .buckets + w .buckets ≤ length us → Shaped passed × (length passedSums ≡ w .buckets)
   part-asks h l = (rw is-part (held-shaped j (lent w s t c) h), rw em (part-long (j * w .buckets) (w .buckets) us l))
 
-  pub part-whole : (r : Bool) → r ≡ both (wholeWindow passed) (rightSums passed passedSums) → r ≡ both (wholeWindow (partOf j (lent w s t c))) (rightSums (partOf j (lent w s t c)) (part (j * w .buckets) (w .buckets) us))
+  pub part-whole : (r : Bool) → r ≡ wholeWithSums passed passedSums → r ≡ wholeWithSums (partOf j (lent w s t c)) (part (j * w .buckets) (w .buckets) us)
   part-whole r e = rw (is-part, em) at e
 
   pub part-push-asks : (time : ℕ) (lags : List ℕ) → PartsIn j (lent w s t c) → wholeWindow (partOf j (lent w s t c)) ≡ true → part (j * w .buckets) (w .buckets) us ≡ columnSums (partOf j (lent w s t c)) → time ≤ timeLimit → roomFor time (length lags) (partOf j (lent w s t c)) ≡ true → Sound passed × ((passedSums ≡ columnSums passed) × ((time ≤ timeLimit) × (roomFor time (length lags) passed ≡ true)))

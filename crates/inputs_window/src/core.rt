@@ -4,7 +4,6 @@ ghost use mathlib.Core.Bool.{true};
 ghost use mathlib.Core.List.{[]};
 ghost use Prim.Native.Nat.{_+_, _*_, _≤_};
 ghost use lib.ListN.{length};
-ghost use Rattle.base.specs.Choice.{both};
 ghost use Rattle.base.specs.Lists.{part, patched};
 ghost use Rattle.base.specs.Rows.{spanOf};
 ghost use Rattle.base.specs.Limits.{timeLimit, widthLimit, bucketsLimit};
@@ -12,10 +11,10 @@ ghost use Rattle.policy.specs.Settings.{Sound};
 ghost use Rattle.rules_window.specs.Window.{cleared, pushedAll};
 ghost use Rattle.lag_window.specs.Lent.{lent};
 ghost use Rattle.inputs_window.specs.Windows.{windowIn};
-ghost use Rattle.rules_window.specs.WholeWindow.{wholeWindow};
+ghost use Rattle.rules_window.specs.WholeWindow.{wholeWindow, wholeWithSums};
 ghost use Rattle.rules_window.specs.Checks.{roomFor};
 ghost use Rattle.rules_window.specs.Quantile.{quantileUpto, Placeable};
-ghost use Rattle.rules_window.specs.ColumnSums.{columnSums, rightSums, asOneSecond};
+ghost use Rattle.rules_window.specs.ColumnSums.{columnSums, asOneSecond};
 ghost use Rattle.rules_window.specs.Parts.{partOf, placed, PartsIn};
 use lag_window::LagWindow;
 use policy::DelayPolicy;
@@ -46,7 +45,7 @@ pub fn whole(
 ) -> bool
     requires { ⌜ PartsIn j (lent window (now starts) (now totals) (now counts)) ⌝ }
     requires { ⌜ j * window .buckets + window .buckets ≤ length (now sums) ⌝ }
-    ensures { λ r. ⌜ r ≡ both (wholeWindow (partOf j (lent window (now (starts .entry)) (now (totals .entry)) (now (counts .entry))))) (rightSums (partOf j (lent window (now (starts .entry)) (now (totals .entry)) (now (counts .entry)))) (part (j * window .buckets) (window .buckets) (now (sums .entry)))) ⌝ }
+    ensures { λ r. ⌜ r ≡ wholeWithSums (partOf j (lent window (now (starts .entry)) (now (totals .entry)) (now (counts .entry)))) (part (j * window .buckets) (window .buckets) (now (sums .entry))) ⌝ }
 {
     let a = j * LagWindow::SECONDS;
     let e = a + LagWindow::SECONDS;

@@ -26,7 +26,7 @@ use Rattle.base.proofs.Points.{zeros-at}
 use Rattle.base.proofs.Tests.{all-cong, all-split}
 use Rattle.base.proofs.Toward.{toward, toward-ahead, toward-more, toward-all}
 use Rattle.rules_window.specs.Window.{windowed}
-use Rattle.rules_window.specs.WholeWindow.{summed}
+use Rattle.rules_window.specs.WholeWindow.{summed, talliesRight}
 use Rattle.rules_window.specs.Quantile.{column}
 use Rattle.rules_window.specs.ColumnSums.{rightSums}
 use Rattle.rules_window.proofs.Reaching.{column-none, column-more}
@@ -241,7 +241,7 @@ module _ (B : ℕ) (ts cs us rows : List ℕ) (b bits : ℕ) (few : B ≤ bucket
   rows-are = all-cong _ _ 11 row-told
 
   module _ (wrong : ℕ) (ew : eqb wrong 0 ≡ alikeTo B b cs us) where
-    pub columns-fail : (wrong ≡ 0 → ⊥) → false ≡ both (summed 11 B ts cs) (rightSums (windowed 11 B 0 [] [] cs) us)
+    pub columns-fail : (wrong ≡ 0 → ⊥) → false ≡ talliesRight B ts cs us
     unfolding both
     columns-fail h = rw (← columns-are, ← ew, ne-eqb wrong 0 h) (none (summed 11 B ts cs))
       where
@@ -249,7 +249,7 @@ module _ (B : ℕ) (ts cs us rows : List ℕ) (b bits : ℕ) (few : B ≤ bucket
         none true = refl
         none false = refl
 
-    pub totals-tell : (wrong ≡ 0) → (q : Bool) → q ≡ totalsAre 11 rows ts → q ≡ both (summed 11 B ts cs) (rightSums (windowed 11 B 0 [] [] cs) us)
+    pub totals-tell : (wrong ≡ 0) → (q : Bool) → q ≡ totalsAre 11 rows ts → q ≡ talliesRight B ts cs us
     unfolding both
     totals-tell z q e = rw (← columns-are, ← ew, eq-eqb wrong 0 z) (e ∙ (rows-are ∙ last (summed 11 B ts cs)))
       where

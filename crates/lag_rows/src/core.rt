@@ -8,7 +8,7 @@ ghost use Rattle.base.specs.Choice.{both};
 ghost use Rattle.base.specs.Limits.{bucketsLimit};
 ghost use Rattle.base.specs.Lists.{sumFrom};
 ghost use Rattle.rules_window.specs.Window.{windowed};
-ghost use Rattle.rules_window.specs.WholeWindow.{summed};
+ghost use Rattle.rules_window.specs.WholeWindow.{summed, talliesRight};
 ghost use Rattle.rules_window.specs.InPlace.{lessRow, lessRows};
 ghost use Rattle.rules_window.specs.Quantile.{column};
 ghost use Rattle.rules_window.specs.ColumnSums.{rightSums};
@@ -222,7 +222,7 @@ fn sums_right(
 ) -> bool
     requires { ⌜ (buckets ≤ bucketsLimit) × (length (now totals) ≡ 11) × (length (now counts) ≡ 11 * buckets) × (length (now sums) ≡ buckets) ⌝ }
     requires { ⌜ (length (now places) ≡ 11) × (now places ≡ rowPlaces buckets) ⌝ }
-    ensures { λ r. ⌜ r ≡ both (summed 11 buckets (now (totals .entry)) (now (counts .entry))) (rightSums (windowed 11 buckets 0 [] [] (now (counts .entry))) (now (sums .entry))) ⌝ }
+    ensures { λ r. ⌜ r ≡ talliesRight buckets (now (totals .entry)) (now (counts .entry)) (now (sums .entry)) ⌝ }
 {
     let mut rows = [0u32; SECONDS];
     let mut columns = [0u32; BLOCK];
@@ -251,7 +251,7 @@ fn sums_right(
 pub fn right(buckets: usize, places: &[usize], totals: &[u64], counts: &[u32], sums: &[u64]) -> bool
     requires { ⌜ (0 < buckets) × (buckets ≤ bucketsLimit) × (length (now totals) ≡ 11) × (length (now counts) ≡ 11 * buckets) × (length (now sums) ≡ buckets) ⌝ }
     requires { ⌜ (length (now places) ≡ 11) × (now places ≡ rowPlaces buckets) ⌝ }
-    ensures { λ r. ⌜ r ≡ both (summed 11 buckets (now (totals .entry)) (now (counts .entry))) (rightSums (windowed 11 buckets 0 [] [] (now (counts .entry))) (now (sums .entry))) ⌝ }
+    ensures { λ r. ⌜ r ≡ talliesRight buckets (now (totals .entry)) (now (counts .entry)) (now (sums .entry)) ⌝ }
 {
     if blank_u64(totals, 0) {
         if !blank_u32(counts, 0) {

@@ -5,11 +5,10 @@ ghost use mathlib.Core.List.{List};
 ghost use Prim.Native.Nat.{ℕ, _+_, _-_, _*_, _≤_, _<_};
 ghost use lib.ListN.{length, getD};
 ghost use Rattle.base.specs.Limits.{timeLimit, bucketsLimit};
-ghost use Rattle.base.specs.Choice.{both};
 ghost use Rattle.base.specs.Lists.{bumped};
 ghost use Rattle.rules_window.specs.Window.{cleared, stale, opens, bucketOf, counted, pushed, pushedAll};
-ghost use Rattle.rules_window.specs.WholeWindow.{wholeWindow, Shaped, Sound};
-ghost use Rattle.rules_window.specs.ColumnSums.{columnSums, rightSums};
+ghost use Rattle.rules_window.specs.WholeWindow.{Shaped, Sound, wholeWithSums};
+ghost use Rattle.rules_window.specs.ColumnSums.{columnSums};
 ghost use Rattle.rules_window.specs.Checks.{newestOf, newest, roomOf, roomFor};
 ghost use Rattle.rules_window.specs.InPlace.{droppedInPlace, openedInPlace};
 ghost use Rattle.lag_window.specs.Lent.{lent};
@@ -229,7 +228,7 @@ pub fn whole(
 ) -> bool
     requires { ⌜ Shaped (lent window (now starts) (now totals) (now counts)) ⌝ }
     requires { ⌜ length (now sums) ≡ window .buckets ⌝ }
-    ensures { λ r. ⌜ r ≡ both (wholeWindow (lent window (now (starts .entry)) (now (totals .entry)) (now (counts .entry)))) (rightSums (lent window (now (starts .entry)) (now (totals .entry)) (now (counts .entry))) (now (sums .entry))) ⌝ }
+    ensures { λ r. ⌜ r ≡ wholeWithSums (lent window (now (starts .entry)) (now (totals .entry)) (now (counts .entry))) (now (sums .entry)) ⌝ }
 {
     let n = window.seconds;
     let buckets = window.buckets;

@@ -1,9 +1,10 @@
--- What `route` and `status` come to where they do little, in the papers' words. Assumes nothing.
+-- What `route` and `status` come to where they do little, and `settled` at its edges, in the papers' words. Assumes nothing.
 use Prim.Native.Nat.{ℕ, _-_}
 use mathlib.Core.Bool.{true, false, not}
 use mathlib.Core.Path.{_≡_, refl, sym, ap}
-use mathlib.Core.List.{List}
+use mathlib.Core.List.{List, [], _∷_}
 use lib.ListN.{length}
+use Rattle.base.specs.Choice.{both}
 use Rattle.base.proofs.Choices.{yes-pick, no-pick, pick-all}
 use Rattle.base.proofs.Points.{true-both}
 use borrow.Author.Tests.{ne-eqb}
@@ -14,7 +15,7 @@ use Rattle.rules_record.specs.declared.Routed.{Routed}
 use Rattle.rules_record.specs.declared.Routed.the-variants.{Nowhere, To}
 use Rattle.rules_record.specs.declared.Slot.{Slot}
 use Rattle.rules_record.specs.declared.Inputs.{Inputs}
-use Rattle.rules_record.specs.Slots.{isAuto}
+use Rattle.rules_record.specs.Slots.{isAuto, emptySlot, withState, withDelay, withLastInput}
 use Rattle.rules_record.specs.Inputs.{slotAt}
 use Rattle.rules_record.specs.Commands.{setDelay}
 use Rattle.rules_record.specs.Lent.{Lists}
@@ -26,6 +27,7 @@ use Rattle.rules_calls.specs.Route.{equalRoute, otherFlow, startsOver, z
 use Rattle.rules_calls.specs.RouteChecks.{routeNumber}
 use Rattle.rules_calls.specs.RouteReply.{routeReply}
 use Rattle.rules_calls.specs.Status.{channelsShown, worstMs}
+use Rattle.rules_calls.specs.Settled.{settledSlot}
 use Rattle.rules_calls.proofs.RouteReplies.{route-refused}
 
 -- ---- `route`
@@ -69,3 +71,37 @@ channels-routed Stalled routed channels = refl
 pub worst-of-manual : (slot : Slot) (lags : List ℕ) → isAuto (slot .config .«extra_delay») ≡ false → worstMs slot lags ≡ Milliseconds.None
 unfolding worstMs
 worst-of-manual slot lags manual = no-pick _ _ manual
+
+-- ---- `settled`
+-- document 02, §4, of a Running input with hold 10: "neither a SetDelay nor a SetInput went to the input within the last hold (the last of each is at least hold old, or none ever went)"
+abbrev running : Slot
+running = withState emptySlot Running
+
+pub settled-at-its-edges :
+    -- none ever went; only a SetDelay, at 5; only a SetInput, at 5, and then a clock that went back
+    settledSlot running 10 0
+    ∷ settledSlot (withDelay running 0 5) 10 14
+    ∷ settledSlot (withDelay running 0 5) 10 15
+    ∷ settledSlot (withLastInput running 5) 10 14
+    ∷ settledSlot (withLastInput running 5) 10 15
+    ∷ settledSlot (withLastInput running 5) 10 4
+    -- the SetDelay is the older one, the SetInput is
+    ∷ settledSlot (withLastInput (withDelay running 96 3) 5) 10 14
+    ∷ settledSlot (withLastInput (withDelay running 96 3) 5) 10 15
+    ∷ settledSlot (withLastInput (withDelay running 96 5) 3) 10 14
+    ∷ settledSlot (withLastInput (withDelay running 96 5) 3) 10 15
+    ∷ []
+    ≡ true ∷ false ∷ true ∷ false ∷ true ∷ false ∷ false ∷ true ∷ false ∷ true ∷ []
+unfolding both emptySlot settledSlot
+settled-at-its-edges = refl
+
+-- "exactly if Running"; with hold 0 a Running input is settled at once
+pub settled-only-running :
+    settledSlot (withState emptySlot Unrouted) 10 100
+    ∷ settledSlot (withState emptySlot Waiting) 10 100
+    ∷ settledSlot (withState emptySlot Stalled) 10 100
+    ∷ settledSlot (withLastInput (withDelay running 96 5) 5) 0 5
+    ∷ []
+    ≡ false ∷ false ∷ false ∷ true ∷ []
+unfolding both emptySlot settledSlot
+settled-only-running = refl

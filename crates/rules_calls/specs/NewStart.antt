@@ -39,7 +39,7 @@ unfoldable pub startedBelow : (n : ℕ) (kinds : List ExtraDelay) (time : ℕ) (
 startedBelow zero kinds time s = quiet s
 startedBelow (suc n) kinds time s = thenDone (startedBelow n kinds time s) (startedOne n (kindAt kinds n) time)
 
--- the making of windows and holds "writes every lent place"; the sums of no lags are zeros too
+-- the making of windows and holds "writes every lent place"; document 02, §5: "a fresh start must .. leave it true", and the sums of no lags are zeros
 abbrev pub zeroed : List ℕ → List ℕ
 zeroed places = replicate (length places) 0
 

@@ -10,7 +10,7 @@ use Rattle.policy.specs.Settings.{timesAllowed}
 use Rattle.rules_record.specs.declared.Output.the-variants.{Absent, Words, Bytes}
 use Rattle.rules_record.specs.Lent.{Lists, lists, windowOf, sumsOf}
 use Rattle.rules_record.specs.WholeRecord.{wholeInput}
-use Rattle.rules_window.specs.WholeWindow.{wholeWindow}
+use Rattle.rules_window.specs.WholeWindow.{wholeWindow, wholeWithSums}
 use Rattle.rules_window.specs.ColumnSums.{rightSums}
 use Rattle.rules_record.specs.Checks.{pausesAllowed, listsFit, outputFits, inputsAllowed}
 use lib.Dec.{ltb}
@@ -108,7 +108,7 @@ unrouted-exactly-without-a-route = refl
 pub wrong-sum-breaks : (s : Inputs) (l : Lists) (i : ℕ) → rightSums (windowOf s l i) (sumsOf s l i) ≡ false → wholeInput s l i ≡ false
 unfolding wholeInput both
 wrong-sum-breaks s l i wrong =
-    let broken : both (wholeWindow (windowOf s l i)) (rightSums (windowOf s l i) (sumsOf s l i)) ≡ false = rw wrong (pick-all (λ (b : Bool). b ≡ false) (wholeWindow (windowOf s l i)) refl refl) in
+    let broken : wholeWithSums (windowOf s l i) (sumsOf s l i) ≡ false = rw wrong (pick-all (λ (b : Bool). b ≡ false) (wholeWindow (windowOf s l i)) refl refl) in
     sym (both-no _ _ broken)
 
 -- 6: "times within 8", of the last SetDelay and (document 02, §4) of the last SetInput: the limit passes, a nanosecond more does not

@@ -10,7 +10,7 @@ use mir.Val.{Fits}
 use lib.Dec.{eqb, leb, ltb}
 use lib.ListN.{length, getD, take, drop}
 use borrow.Author.Tests.{leb-true, lt-ltb, le-ltb}
-use Rattle.base.specs.Choice.{pick, both}
+use Rattle.base.specs.Choice.{pick}
 use Rattle.base.specs.Limits.{timeLimit, bucketsLimit}
 use Rattle.base.specs.Lists.{part}
 use Rattle.base.proofs.All.{both-yes, both-no}
@@ -20,9 +20,8 @@ use Rattle.base.proofs.Blocks.{block-within}
 use Rattle.policy.specs.declared.DelayPolicy.{DelayPolicy}
 use Rattle.policy.specs.Settings.{Sound}
 use Rattle.rules_window.specs.Window.{Window, windowed}
-use Rattle.rules_window.specs.WholeWindow.{wholeWindow}
+use Rattle.rules_window.specs.WholeWindow.{wholeWithSums}
 use Rattle.rules_window.specs.Parts.{partOf, PartsIn}
-use Rattle.rules_window.specs.ColumnSums.{rightSums}
 use Rattle.delay_hold.specs.declared.Moment.{Moment}
 use Rattle.delay_hold.specs.declared.Moment.the-variants.{Never, At}
 use Rattle.delay_hold.specs.Next.{held}
@@ -120,13 +119,11 @@ module _ (i : ℕ) (starts totals counts sums times lags : List ℕ) where
   -- what the calls told of a slot and settings is so of the record that has them
   module _ (s : Inputs) {policy : DelayPolicy} {width : ℕ} {slot : Slot} (p : policy ≡ s .policy) (w : width ≡ s .width) (e : slot ≡ slotAt s i) where
     -- .. of its window and its sums, which the code looks at in one pass
-    pub told-window : {r : Bool} → r ≡ both (wholeWindow (partOf i (lentFor width slot (bucketsFor policy width)))) (rightSums (partOf i (lentFor width slot (bucketsFor policy width))) (part (i * bucketsFor policy width) (bucketsFor policy width) sums))
-        → r ≡ both (wholeWindow (windowOf s given i)) (rightSums (windowOf s given i) (sumsOf s given i))
+    pub told-window : {r : Bool} → r ≡ wholeWithSums (partOf i (lentFor width slot (bucketsFor policy width))) (part (i * bucketsFor policy width) (bucketsFor policy width) sums) → r ≡ wholeWithSums (windowOf s given i) (sumsOf s given i)
     unfolding bucketsIn
     told-window g =
         g
-        ∙ (λ t. both (wholeWindow (partOf i (lentFor (w t) (e t) (bucketsFor (p t) (w t)))))
-        (rightSums (partOf i (lentFor (w t) (e t) (bucketsFor (p t) (w t)))) (part (i * bucketsFor (p t) (w t)) (bucketsFor (p t) (w t)) sums)))
+        ∙ (λ t. wholeWithSums (partOf i (lentFor (w t) (e t) (bucketsFor (p t) (w t)))) (part (i * bucketsFor (p t) (w t)) (bucketsFor (p t) (w t)) sums))
 
     pub told-hold : {k : ℕ} {r : Bool} → k ≡ 600 → r ≡ wholeHold policy width (held (slot .hold) (take k (drop (i * 600) times)) (take k (drop (i * 600) lags))) → r ≡ wholeHold (s .policy) (s .width) (heldOf s given i)
     told-hold k g = g ∙ (λ t. wholeHold (p t) (w t) (held (e t .hold) (take (k t) (drop (i * 600) times)) (take (k t) (drop (i * 600) lags))))

@@ -53,7 +53,7 @@ heldFor l i slot = held (slot .hold) (part (i * 600) 600 (l .times)) (part (i * 
 abbrev pub heldOf : (s : Inputs) (l : Lists) (i : ℕ) → Held
 heldOf s l i = heldFor l i (slotAt s i)
 
--- the lists with those of window w for input i, and its sums: "a push, a dropped second, a cleared window and a fresh start must all leave it true";
+-- the lists with those of window w for input i, and its sums: "A push, a dropped second, a cleared window .. must all leave it true";
 -- its slot then says how many seconds are in use
 abbrev pub withWindow : (buckets i : ℕ) (w : Window) (l : Lists) → Lists
 withWindow buckets i w l =

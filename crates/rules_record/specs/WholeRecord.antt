@@ -4,8 +4,7 @@ use mathlib.Core.Bool.{Bool}
 use lib.Dec.{ltb}
 use Rattle.base.specs.Choice.{pick, both}
 use Rattle.base.specs.Lists.{all}
-use Rattle.rules_window.specs.WholeWindow.{wholeWindow}
-use Rattle.rules_window.specs.ColumnSums.{rightSums}
+use Rattle.rules_window.specs.WholeWindow.{wholeWithSums}
 use Rattle.delay_hold.specs.Whole.{wholeHold}
 use Rattle.rules_record.specs.declared.Inputs.{Inputs}
 use Rattle.rules_record.specs.Inputs.{slotAt}
@@ -15,7 +14,7 @@ use Rattle.rules_record.specs.WholePlaces.{wholeSlot, unusedSlot, wholeF
 -- input i: its seconds, "each sum to be right" (document 02, §5), its peaks with seed and timer, and the rest of its slot
 unfoldable pub wholeInput : (s : Inputs) (l : Lists) (i : ℕ) → Bool
 wholeInput s l i =
-    both (both (wholeWindow (windowOf s l i)) (rightSums (windowOf s l i) (sumsOf s l i)))
+    both (wholeWithSums (windowOf s l i) (sumsOf s l i))
     (both (wholeHold (s .policy) (s .width) (heldOf s l i))
     (wholeSlot (s .policy .«delay_max») (s .«flow_count») (slotAt s i)))
 

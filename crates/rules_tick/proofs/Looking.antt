@@ -5,7 +5,6 @@ use mathlib.Core.Path.{_≡_, refl, sym, ap, subst, _∙_}
 use native.Mathlib.Omega.{arith}
 use borrow.Author.Tests.{eq-eqb, ne-eqb, le-leb, lt-leb}
 use Rattle.base.specs.Limits.{timeLimit}
-use Rattle.base.specs.Lists.{part}
 use Rattle.base.proofs.Choices.{yes-pick, no-pick, pick-all}
 use Rattle.rules_window.specs.Window.{windowed}
 use Rattle.rules_window.specs.WholeWindow.{wholeWindow}

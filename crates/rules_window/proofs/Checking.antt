@@ -14,7 +14,7 @@ use Rattle.base.proofs.Choices.{by-bool, by-le}
 use Rattle.base.proofs.Points.{true-both, all-at, all-intro, blank-at, blank-intro, past-end, sum-zero}
 use Rattle.base.proofs.Tests.{not-both}
 use Rattle.rules_window.specs.Window.{windowed}
-use Rattle.rules_window.specs.WholeWindow.{summed}
+use Rattle.rules_window.specs.WholeWindow.{summed, talliesRight}
 use Rattle.rules_window.specs.Quantile.{column}
 use Rattle.rules_window.specs.ColumnSums.{rightSums}
 use Rattle.rules_window.proofs.Wholes.{unused-zero}
@@ -66,7 +66,7 @@ module _ (B : ℕ) (cs us : List ℕ) where
 -- ---- every total is zero
 module _ (B : ℕ) (ts cs us : List ℕ) (pos : 0 < B) (long : length cs ≡ 11 * B) (t : Bool) (et : t ≡ blankFrom 0 ts) (ht : t ≡ true) (z : Bool) (ez : z ≡ blankFrom 0 cs) where
   -- a count that is not zero is in a row whose total is
-  pub counted-fails : not z ≡ true → false ≡ both (summed 11 B ts cs) (rightSums (windowed 11 B 0 [] [] cs) us)
+  pub counted-fails : not z ≡ true → false ≡ talliesRight B ts cs us
   counted-fails h = both-no _ _ (by-bool (summed 11 B ts cs) (λ s. absurd (not-both (blank-intro 0 cs (λ i l. unused-zero B ts cs 0 long pos (omega arith) (sym et ∙ ht) s i (omega arith))) (sym ez ∙ not-true z h))) (λ s. s))
 
   module _ (h : not z ≡ false) where
@@ -96,6 +96,6 @@ module _ (B : ℕ) (ts cs us : List ℕ) (pos : 0 < B) (long : length cs ≡ 11 
         (λ x. y ∙ sym x))
 
     -- with counts of zero the sums are right where they are zero
-    pub zeros-tell : length us ≡ B → (r : Bool) → r ≡ blankFrom 0 us → r ≡ both (summed 11 B ts cs) (rightSums (windowed 11 B 0 [] [] cs) us)
+    pub zeros-tell : length us ≡ B → (r : Bool) → r ≡ blankFrom 0 us → r ≡ talliesRight B ts cs us
     unfolding both
     zeros-tell e r er = rw rows-right (er ∙ sums-blank e)

@@ -19,7 +19,7 @@ use Rattle.rules_window.specs.WholeWindow.{summed, wholeWindow}
 use Rattle.rules_window.specs.Quantile.{column, within, running, reach, quantileIn, quantileUpto, quantileOf}
 use Rattle.rules_window.specs.ColumnSums.{columnSums, rightSums}
 use Rattle.rules_window.specs.Parts.{placed}
-use Rattle.rules_window.specs.Checks.{checked, fromZeroToOne, newNumber, quantileNumber, newReply, spanReply, answered, quantileReply, numberOf, valueOf}
+use Rattle.rules_window.specs.Checks.{checked, fromZeroToOne, newNumber, quantileNumber, newReply, spanReply, answered, quantileReply, numberOf, valueOf, pushNumber, pushReply, clearReply, newestOf}
 use Rattle.rules_window.proofs.Answers.{after, one}
 
 -- a window that is cleared keeps its buckets and their width
@@ -59,6 +59,19 @@ pub span-to-the-newest :
     ≡ record { number = 0; span = 0 } ∷ record { number = 0; span = 0 } ∷ record { number = 0; span = 1000000000 } ∷ []
 unfolding both ask padded sum all blankFrom sumFrom apart upTo fresh inUse laid opened dropped counted pushed summed wholeWindow listed column columnSums rightSums widthAllowed bucketsFew bucketsAllowed checked spanReply
 span-to-the-newest = refl
+
+-- document 02, §5: "a push, a dropped second, a cleared window and a fresh start must all leave it true"; a refused call leaves the row as it came
+pub sums-through-the-calls :
+    newReply 0 0 4800 (replicate 11 7) (replicate 11 7) (replicate 33 7) (replicate 3 7) .sums
+    ∷ pushReply 0 5 (fresh 3 4800) (0 ∷ 0 ∷ 0 ∷ []) .sums
+    ∷ pushReply 4800 1000000005 (pushed 0 5 (fresh 3 4800)) (1 ∷ 0 ∷ 0 ∷ []) .sums
+    ∷ pushReply 9600 10000000006 (pushed 4800 1000000005 (pushed 0 5 (fresh 3 4800))) (1 ∷ 1 ∷ 0 ∷ []) .sums
+    ∷ clearReply (pushed 4800 1000000005 (pushed 0 5 (fresh 3 4800))) (1 ∷ 1 ∷ 0 ∷ []) .sums
+    ∷ clearReply (pushed 4800 1000000005 (pushed 0 5 (fresh 3 4800))) (1 ∷ 1 ∷ 1 ∷ []) .sums
+    ∷ []
+    ≡ (0 ∷ 0 ∷ 0 ∷ []) ∷ (1 ∷ 0 ∷ 0 ∷ []) ∷ (1 ∷ 1 ∷ 0 ∷ []) ∷ (0 ∷ 1 ∷ 1 ∷ []) ∷ (0 ∷ 0 ∷ 0 ∷ []) ∷ (1 ∷ 1 ∷ 1 ∷ []) ∷ []
+unfolding both ask padded sum all blankFrom sumFrom apart upTo fresh inUse laid opened dropped counted pushed summed wholeWindow listed column columnSums rightSums reachesAllowed widthAllowed bucketsOf bucketsFew bucketsAllowed rangesNumber checked newestOf newNumber pushNumber newReply pushReply clearReply
+sums-through-the-calls = refl
 
 -- "quantiles .. without limit": a lag of 9,600 counts, and one far beyond the last bucket, which ends at 212 times 48
 pub quantile-without-limit : quantileOf one (after (9600 ∷ [])) ∷ quantileOf one (after (1000000 ∷ [])) ∷ [] ≡ End 9648 ∷ End 10176 ∷ []

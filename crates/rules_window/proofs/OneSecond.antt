@@ -10,7 +10,6 @@ use Rattle.base.specs.Choice.{pick}
 use Rattle.base.specs.Lists.{sum}
 use Rattle.base.proofs.Points.{sum-cong}
 use Rattle.doubles.specs.Quantile as places
-use Rattle.rules_window.specs.declared.Quantile.{Quantile}
 use Rattle.rules_window.specs.declared.Quantile.the-variants.{None}
 use Rattle.rules_window.specs.declared.Found.{Found}
 use Rattle.rules_window.specs.declared.Found.the-variants.{At}

@@ -19,7 +19,7 @@ use Rattle.base.specs.Rows.{apart, upTo, spanOf}
 use Rattle.rules_window.specs.Window.{Window, windowed}
 use Rattle.rules_window.specs.Quantile.{column}
 use Rattle.rules_window.specs.ColumnSums.{rightSums}
-use Rattle.rules_window.specs.WholeWindow.{summed, wholeWindow, Shaped}
+use Rattle.rules_window.specs.WholeWindow.{summed, wholeWindow, Shaped, talliesRight, wholeWithSums}
 use Rattle.rules_window.proofs.Sums.{sum-past}
 use Rattle.rules_window.proofs.WholeAt.{Whole, Parts, parts-of, of-parts, whole-of, blank-row}
 
@@ -83,7 +83,7 @@ module _ (w : Window) where
       all-cong _ _ (w .buckets)
       (λ b l. ap (λ (x : ℕ). eqb (getD sums b 0) x) (sum-past (λ r. getD (w .counts) (r * w .buckets + b) 0) (w .seconds) 11 (h .few) (λ r g k. h .blankC (r * w .buckets + b) (omega (arith, row-le (w .seconds) r (w .buckets) g)))))
 
-  pub rows-tell : (ra : Bool) (a : ℕ) (rt rs rz q : Bool) (sums : List ℕ) → Shaped w → w .seconds ≤ 11 → ra ≡ apart nanos (w .seconds - 1) (w .starts) → not ra ≡ false → a ≡ spanOf (w .seconds) (w .starts) → a ≤ windowReach → rt ≡ upTo timeLimit (w .seconds) (w .starts) → not rt ≡ false → rs ≡ blankFrom (w .seconds) (w .starts) → not rs ≡ false → rz ≡ blankFrom (w .seconds) (w .totals) → not rz ≡ false → q ≡ both (summed 11 (w .buckets) (w .totals) (w .counts)) (rightSums (windowed 11 (w .buckets) 0 [] [] (w .counts)) sums) → q ≡ both (wholeWindow w) (rightSums w sums)
+  pub rows-tell : (ra : Bool) (a : ℕ) (rt rs rz q : Bool) (sums : List ℕ) → Shaped w → w .seconds ≤ 11 → ra ≡ apart nanos (w .seconds - 1) (w .starts) → not ra ≡ false → a ≡ spanOf (w .seconds) (w .starts) → a ≤ windowReach → rt ≡ upTo timeLimit (w .seconds) (w .starts) → not rt ≡ false → rs ≡ blankFrom (w .seconds) (w .starts) → not rs ≡ false → rz ≡ blankFrom (w .seconds) (w .totals) → not rz ≡ false → q ≡ talliesRight (w .buckets) (w .totals) (w .counts) sums → q ≡ wholeWithSums w sums
   unfolding both
   rows-tell ra a rt rs rz q sums s few ea ha es hs et ht eb hb ez hz e =
       e

@@ -14,9 +14,9 @@ use Rattle.base.specs.Limits.{timely}
 use Rattle.base.specs.Rows.{spanOf}
 use Rattle.buckets.specs.Ranges.{widthAllowed, bucketsOf, bucketsAllowed, rangesNumber}
 use Rattle.rules_window.specs.Window.{Window, fresh, cleared, opens, pushed}
-use Rattle.rules_window.specs.WholeWindow.{wholeWindow}
+use Rattle.rules_window.specs.WholeWindow.{wholeWithSums}
 use Rattle.rules_window.specs.Quantile.{quantileUpto, quantileOf}
-use Rattle.rules_window.specs.ColumnSums.{columnSums, rightSums}
+use Rattle.rules_window.specs.ColumnSums.{columnSums}
 
 -- what every call on a window asks: 17 ("W outside 1 to 4,800"), 18 ("more than 4,096 buckets", or none),
 -- 5 ("each lent list its exact length", the row of sums among them) and 6, of the window and of each sum; `rest` is the number that the checks after these give
@@ -28,7 +28,7 @@ checked w sums rest =
     (ask 5 (eqb (length (w .totals)) 11)
     (ask 5 (eqb (length (w .counts)) (11 * w .buckets))
     (ask 5 (eqb (length sums) (w .buckets))
-    (ask 6 (both (wholeWindow w) (rightSums w sums)) rest))))))
+    (ask 6 (wholeWithSums w sums) rest))))))
 
 -- 11: "does the newest total (0 if its tick opens a second) plus its lags stay within 4,294,967,295"
 unfoldable pub newestOf : (time n : ℕ) (starts totals : List ℕ) → ℕ

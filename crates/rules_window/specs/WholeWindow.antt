@@ -1,15 +1,16 @@
--- Document 01, check 6 of one window: whether it is whole. Assumes nothing.
+-- Document 01, check 6 of one window: whether it is whole; with document 02's row of sums. Assumes nothing.
 use Prim.Native.Nat.{ℕ, _-_, _*_, _≤_}
 use mathlib.Core.Bool.{Bool, true}
 use mathlib.Core.Path.{_≡_}
-use mathlib.Core.List.{List}
+use mathlib.Core.List.{List, []}
 use lib.Dec.{leb, eqb}
 use lib.ListN.{length, getD}
 use Rattle.base.specs.Choice.{both}
 use Rattle.base.specs.Lists.{all, blankFrom, rowSum}
 use Rattle.base.specs.Limits.{nanos, timeLimit, widthLimit, bucketsLimit, windowReach}
 use Rattle.base.specs.Rows.{apart, upTo, spanOf}
-use Rattle.rules_window.specs.Window.{Window}
+use Rattle.rules_window.specs.Window.{Window, windowed}
+use Rattle.rules_window.specs.ColumnSums.{rightSums}
 
 -- 6: "row sums equal to totals up to 4,294,967,295"
 unfoldable pub summed : (n buckets : ℕ) (totals counts : List ℕ) → Bool
@@ -26,6 +27,14 @@ wholeWindow w =
     (both (blankFrom (w .seconds) (w .totals))
     (both (blankFrom (w .seconds * w .buckets) (w .counts))
     (upTo timeLimit (w .seconds) (w .starts))))))))
+
+-- 6 of a window with its row of sums: it is whole and, document 02, §5, "each sum .. right"
+abbrev pub wholeWithSums : (w : Window) (sums : List ℕ) → Bool
+wholeWithSums w sums = both (wholeWindow w) (rightSums w sums)
+
+-- totals and sums are those of the counts, over all 11 rows, used or not
+abbrev pub talliesRight : (buckets : ℕ) (totals counts sums : List ℕ) → Bool
+talliesRight buckets totals counts sums = both (summed 11 buckets totals counts) (rightSums (windowed 11 buckets 0 [] [] counts) sums)
 
 -- a window that 17, 18 and 5 let through
 pub record Shaped (w : Window) : Type 0 where

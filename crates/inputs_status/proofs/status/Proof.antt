@@ -2,7 +2,7 @@
 use borrow.Author.Needs.{needs}
 use Rattle.rules_calls.specs.Status.{statusReply}
 use Rattle.rules_calls.proofs.StatusReplies.{status-refused, status-accepted}
-use Rattle.inputs_status.proofs.StatusNumbers.{status-showable}
+use Rattle.inputs_status.proofs.StatusNumbers.{status-showable, status-own}
 use Rattle.inputs_status.proofs.status.Statement.{statement}
 use Rattle.inputs_status.proofs.status.Tie as tie
 
@@ -21,7 +21,7 @@ status-requires c κs = status-showable _ _ _ _ _ (c .before .status-number .ens
 
 returns-2 : tie.Need-returns-2
 unfolding statusReply
-returns-2 c = status-accepted _ (c .before .before .status-number .ensures .0) (c .before .if1 .left) _ (c .status .ensures)
+returns-2 c = status-accepted _ (c .before .before .status-number .ensures .0) (c .before .if1 .left) _ (c .status .ensures _ _ _ _ (status-own _ _ _ _ _ (c .before .before .status-number .ensures .1) (c .before .before .status-number .ensures .0) (c .before .if1 .left)))
 
 pub status-spec : {M : Type 1} → statement M
 status-spec =

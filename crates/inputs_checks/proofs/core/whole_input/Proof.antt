@@ -8,10 +8,8 @@ use borrow.Author.Needs.{needs}
 use Rattle.base.proofs.All.{both-no, both-yes, told-no, told-yes}
 use Rattle.lag_window.specs.declared.LagWindow.{LagWindow}
 use Rattle.lag_window.specs.Lent.{lent}
-use Rattle.rules_window.specs.WholeWindow.{wholeWindow}
-use Rattle.rules_window.specs.ColumnSums.{rightSums}
+use Rattle.rules_window.specs.WholeWindow.{wholeWithSums}
 use Rattle.rules_window.specs.Parts.{partOf}
-use Rattle.base.specs.Choice.{both}
 use Rattle.base.specs.Lists.{part}
 use Rattle.rules_record.specs.WholeRecord.{wholeInput}
 use Rattle.rules_record.proofs.RecordCases.{told-hold, told-slot, told-window}
@@ -20,7 +18,7 @@ use Rattle.inputs_checks.proofs.core.whole_input.Tie as tie
 
 -- whether the window of input i is whole and its sums are right
 abbrev rightIn : (i : ℕ) (starts totals counts sums : List ℕ) (w : LagWindow) → Bool
-rightIn i starts totals counts sums w = both (wholeWindow (partOf i (lent w starts totals counts))) (rightSums (partOf i (lent w starts totals counts)) (part (i * w .buckets) (w .buckets) sums))
+rightIn i starts totals counts sums w = wholeWithSums (partOf i (lent w starts totals counts)) (part (i * w .buckets) (w .buckets) sums)
 
 -- what is told of the window that was made is so of the window of the slot
 of-slot : (i : ℕ) (starts totals counts sums : List ℕ) {made window : LagWindow} {r : Bool} → made ≡ window → r ≡ rightIn i starts totals counts sums made → r ≡ rightIn i starts totals counts sums window
