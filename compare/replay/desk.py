@@ -26,7 +26,7 @@ def calls():
         if maximum:
             both(5, 0, step(limit, -1), step(most, -1), limit / 2)
 
-    section("the desk: what is no delay, and far values (12)")
+    section("the desk: what is no delay, and far values (12, 21, or accepted)")
     say(new_line())
     both(5, 0, NAN, -NAN, INF, -INF, 1e300, -1e300, -LEAST, -1.0, -50.0, LEAST, 49.99, 50.01, 99.99, 100.01, 89_478_485.3125)
 

@@ -53,7 +53,7 @@ lagOf w = pick (w .some) (lag-of (w .value)) None
 unfoldable pub kindOf : KindWord → ExtraDelay
 kindOf w = pick (w .manual) (Ms (ofBits binary64 (w .bits))) (Auto auto-tag)
 
--- in `update`, a kind that the scoring program sends
+-- in `update`, a kind that is not the desk's
 unfoldable pub settingOf : KindWord → DelaySetting
 settingOf w = pick (w .manual) (set-ms (ofBits binary64 (w .bits))) (set-auto auto-tag)
 

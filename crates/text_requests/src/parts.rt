@@ -49,7 +49,7 @@ pub fn kind_of(w: KindWord) -> ExtraDelay
     ExtraDelay::Auto(AutoTag::Auto)
 }
 
-// A kind that the scoring program sends.
+// A kind that is not the desk's.
 pub fn setting_of(w: KindWord) -> DelaySetting
     ensures { λ r. ⌜ r ≡ settingOf w ⌝ }
 {
