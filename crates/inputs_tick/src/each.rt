@@ -34,6 +34,12 @@ pub(crate) fn tick_inputs(
     let mut i: usize = 0;
     while i < inputs.count {
         let look = looks[i];
+        let slot = all.slots[i];
+        // Most inputs wait for their flow, and their tick changes nothing: the record, which is large, goes through no call for them.
+        if inputs_tick_input::core::stays(slot, look) {
+            i += 1;
+            continue;
+        }
         let to = from + look.lags;
         let sent = inputs_tick_input::core::tick_input(
             all,

@@ -1,6 +1,7 @@
 // Over the whole record and the lists of all inputs, for the crate above, which has checked what is asked here.
 ghost use mathlib.Core.Bool.{true};
 ghost use mathlib.Core.Path.{_≡_};
+ghost use mathlib.Core.List.{[]};
 ghost use Prim.Native.Nat.{ℕ, _+_, _<_, _≤_};
 ghost use lib.ListN.{length};
 ghost use Rattle.base.specs.Limits.{timeLimit, counterLimit};
@@ -10,8 +11,9 @@ ghost use Rattle.rules_record.specs.Inputs.{slotAt, putSlot};
 ghost use Rattle.rules_record.specs.Sized.{Sized};
 ghost use Rattle.rules_record.specs.Commands.{Did, quiet};
 ghost use Rattle.rules_routing.specs.Watch.{movedSlot};
-ghost use Rattle.rules_record.specs.Lent.{lists};
-ghost use Rattle.rules_record.specs.Effects.{Effected};
+ghost use Rattle.rules_record.specs.Lent.{Lists, lists};
+ghost use Rattle.rules_record.specs.Facts.{OwnSums};
+ghost use Rattle.rules_record.specs.Effects.{silent, Effected};
 ghost use Rattle.rules_tick.specs.Tick.{looked, tickedInput};
 ghost use Rattle.rules_tick.specs.TickAsked.{InputAsked};
 use inputs_watch::Found;
@@ -67,6 +69,19 @@ fn rests(slot: Slot, look: Look) -> bool
         return true;
     };
     false
+}
+
+// Does the whole tick of an input with this slot leave everything as it was? It rests, no lags arrive, and it is not marked late.
+pub fn stays(slot: Slot, look: Look) -> bool
+    ensures { λ r. ⌜ (r ≡ true → (look .lags ≡ 0) × ((s : Inputs) (l : Lists) (i time : ℕ) → slotAt s i ≡ slot → OwnSums s l i slot → tickedInput i look [] time s l ≡ silent s l)) ⌝ }
+{
+    if look.lags != 0 {
+        return false;
+    }
+    if slot.late_before {
+        return false;
+    }
+    rests(slot, look)
 }
 
 // Does an input with this slot watch, and only see its head move?
