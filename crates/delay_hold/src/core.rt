@@ -23,9 +23,6 @@ use policy::DelayPolicy;
 // One millisecond of samples: the delay goes down only where the need is at least so much lower.
 pub const DELAY_LOWER_SAMPLES: u32 = 48;
 
-// A lowering that is due happens at once.
-pub const ALWAYS_LOWER: bool = true;
-
 // A fresh hold.
 pub fn fresh() -> DelayHold
     ensures { λ r. ⌜ r ≡ freshHold ⌝ }
