@@ -36,11 +36,11 @@ module _ (s : Inputs) (l : Lists) (words input time : ℕ) {n : ℕ} (is-record 
       module _ (soon : time ≤ timeLimit) where
         pub week-refused : weekFits (s .week) ≡ false → 22 ≡ timedNumber s l words input time 0
         unfolding timedNumber
-        week-refused no = sym (yes-ask 8 _ (le-leb _ _ soon) ∙ no-ask 22 0 no) ∙ seven.input-there s l (Words words) input is-record passed there _
+        week-refused bad = sym (yes-ask 8 _ (le-leb _ _ soon) ∙ no-ask 22 0 bad) ∙ seven.input-there s l (Words words) input is-record passed there _
 
         pub week-taken : weekFits (s .week) ≡ true → 0 ≡ timedNumber s l words input time 0
         unfolding timedNumber
-        week-taken yes = sym (yes-ask 8 _ (le-leb _ _ soon) ∙ yes-ask 22 0 yes) ∙ seven.input-there s l (Words words) input is-record passed there _
+        week-taken good = sym (yes-ask 8 _ (le-leb _ _ soon) ∙ yes-ask 22 0 good) ∙ seven.input-there s l (Words words) input is-record passed there _
 
 -- ---- another check after 22
 module _ (s : Inputs) (l : Lists) (words input time : ℕ) where

@@ -125,7 +125,7 @@ module _ (i : ℕ) (look : Look) (lags : List ℕ) (time : ℕ) (s : Inputs) (l 
     (is-largest : largest ≡ largestOf lags)
     (is-late : heard-slot ≡ lateSlot (s .policy) slot (look .applied) largest)
     (is-seen : Did 6 (looked i look time (withSlots s (set (s .slots) i heard-slot))) seen before middle used)
-    (is-answer : Effected 3 (autoDelayed i largest time (seen .inputs) (lists a b c d (l .times) (l .peaks))) answer (lists a b c d times peaks) middle after (seen .used)) where
+    (is-answer : Effected 3 (autoDelayed i largest time mayLower (seen .inputs) (lists a b c d (l .times) (l .peaks))) answer (lists a b c d times peaks) middle after (seen .used)) where
   abbrev all : Inputs
   all = putSlot s i slot
 
@@ -151,12 +151,12 @@ module _ (i : ℕ) (look : Look) (lags : List ℕ) (time : ℕ) (s : Inputs) (l 
   seen-by : Effected 6 (beside (lists a b c d (l .times) (l .peaks)) (looked i look time after-late)) seen (lists a b c d (l .times) (l .peaks)) before middle used
   seen-by = effected-done is-seen refl
 
-  pub ticked-by : Effected 9 (tickedInput i look lags time s l) answer (lists a b c d times peaks) before after used
+  pub ticked-by : Effected 9 (tickedInput i look lags time mayLower s l) answer (lists a b c d times peaks) before after used
   unfolding tickedInput
   ticked-by =
-      effected-then 6 3 _ (autoDelayed i (largestOf lags) time)
+      effected-then 6 3 _ (autoDelayed i (largestOf lags) time mayLower)
       (effected-then 0 6 (heard i look lags time s l) (λ z m. beside m (looked i look time z)) heard-by seen-by)
-      (subst (λ (x : Lag). Effected 3 (autoDelayed i x time (seen .inputs) (lists a b c d (l .times) (l .peaks))) answer (lists a b c d times peaks) middle after (seen .used)) is-largest is-answer)
+      (subst (λ (x : Lag). Effected 3 (autoDelayed i x time mayLower (seen .inputs) (lists a b c d (l .times) (l .peaks))) answer (lists a b c d times peaks) middle after (seen .used)) is-largest is-answer)
 
 -- ---- the ways of an input that goes through no other function
 stored-slot : (s : Inputs) (i : ℕ) (slot : Slot) → i < 16 → length (s .slots) ≡ 16 → slotAt (withSlots s (set (s .slots) i slot)) i ≡ slot
@@ -168,7 +168,7 @@ pub rested-by : (i : ℕ) (look : Look) (lags : List ℕ) (time : ℕ) (s : Inpu
     → largest ≡ largestOf lags
     → heard-slot ≡ lateSlot (s .policy) slot (look .applied) largest
     → (stateNumber (heard-slot .state) < 2) × ((z : Inputs) (j at : ℕ) → slotAt z j ≡ heard-slot → looked j look at z ≡ quiet z)
-    → Effected 9 (tickedInput i look lags time s l) (record { inputs = withSlots s (set (s .slots) i heard-slot); used = used }) (lists a b c d (l .times) (l .peaks)) words words used
+    → Effected 9 (tickedInput i look lags time mayLower s l) (record { inputs = withSlots s (set (s .slots) i heard-slot); used = used }) (lists a b c d (l .times) (l .peaks)) words words used
 rested-by i look lags time s l slot heard-slot {largest} low sized is-arrived is-largest is-late rests =
     ticked-by i look lags time s l slot low sized is-arrived is-largest is-late
     (did-by (rests .1 stored i time here) (did-quiet refl))

@@ -40,10 +40,10 @@ module _ (i : ℕ) (look : Look) (lags : List ℕ) (time : ℕ) (s : Inputs) (l 
   pub between-raised : Raised 1 0 1 (slotAt s i) (slotAt (lookedInputs i look lags time s l) i)
   between-raised = raised-then 0 0 1 1 0 0 (slotAt s i) (slotAt (heardInputs i look lags time s l) i) (slotAt (lookedInputs i look lags time s l) i) heard-raised (looked-raised i look time (heardInputs i look lags time s l) low (heard-sized i look lags time s l sized))
 
-  pub input-raised : Raised 1 1 1 (slotAt s i) (slotAt (tickedInput i look lags time s l .inputs) i)
+  pub input-raised : Raised 1 1 1 (slotAt s i) (slotAt (tickedInput i look lags time mayLower s l .inputs) i)
   unfolding tickedInput followedBy
   input-raised =
-      raised-then 1 0 1 0 1 0 (slotAt s i) (slotAt (lookedInputs i look lags time s l) i) (slotAt (autoDelayed i (largestOf lags) time (lookedInputs i look lags time s l) (heardLists i look lags time s l) .inputs) i) between-raised
+      raised-then 1 0 1 0 1 0 (slotAt s i) (slotAt (lookedInputs i look lags time s l) i) (slotAt (autoDelayed i (largestOf lags) time mayLower (lookedInputs i look lags time s l) (heardLists i look lags time s l) .inputs) i) between-raised
       (auto-raised i (largestOf lags) time (lookedInputs i look lags time s l) (heardLists i look lags time s l) low (between-sized i look lags time s l sized))
 
 -- ---- the whole tick
@@ -54,7 +54,7 @@ module _ (looks : List Look) (lags : List ℕ) (time : ℕ) (s : Inputs) (l : Li
   input-turn : (j : ℕ) → j < s .count → Raised 1 1 1 (slotAt s j) (slotAt after j)
   input-turn j h =
       raised-by 1 1 1 (slotAt s j) (ticked-slot looks lags time s l j h)
-      (subst (λ (x : Slot). Raised 1 1 1 x (slotAt (tickedInput j (lookAt looks j) (lagsOf looks lags j) time (turn looks lags time s l j .inputs) (turn looks lags time s l j .lists) .inputs) j))
+      (subst (λ (x : Slot). Raised 1 1 1 x (slotAt (tickedInput j (lookAt looks j) (lagsOf looks lags j) time mayLower (turn looks lags time s l j .inputs) (turn looks lags time s l j .lists) .inputs) j))
       (below-slots looks lags time s l j j (omega arith))
       (input-raised j (lookAt looks j) (lagsOf looks lags j) time (turn looks lags time s l j .inputs) (turn looks lags time s l j .lists) (omega arith) (below-sized looks lags time s l j sized)))
 

@@ -46,7 +46,7 @@ use Rattle.rules_tick.proofs.Looked.{looked-settings}
 use Rattle.rules_tick.proofs.TickSteps.{laggedInputs, heardInputs, heardLists, lookedInputs}
 
 -- ---- the steps of one input
-auto-sized : (i : ℕ) (largest : Lag) (time : ℕ) (s : Inputs) (l : Lists) → Sized s → Sized (autoDelayed i largest time s l .inputs)
+auto-sized : (i : ℕ) (largest : Lag) (time : ℕ) (s : Inputs) (l : Lists) → Sized s → Sized (autoDelayed i largest time mayLower s l .inputs)
 unfolding setDelayOf sendFirst quiet
 auto-sized i largest time s l h =
     auto-rule i largest time s l (λ effect. Sized (effect .inputs))
@@ -81,15 +81,15 @@ module _ (i : ℕ) (look : Look) (lags : List ℕ) (time : ℕ) (s : Inputs) (l 
   between-sized h = looked-leaves i look time (heardInputs i look lags time s l) .sized (heard-sized h)
 
   -- ---- one input
-  pub input-settings : SameSettings s (tickedInput i look lags time s l .inputs)
+  pub input-settings : SameSettings s (tickedInput i look lags time mayLower s l .inputs)
   unfolding tickedInput followedBy
-  input-settings = settings-then s (lookedInputs i look lags time s l) (autoDelayed i (largestOf lags) time (lookedInputs i look lags time s l) (heardLists i look lags time s l) .inputs) between-settings (auto-settings i (largestOf lags) time (lookedInputs i look lags time s l) (heardLists i look lags time s l))
+  input-settings = settings-then s (lookedInputs i look lags time s l) (autoDelayed i (largestOf lags) time mayLower (lookedInputs i look lags time s l) (heardLists i look lags time s l) .inputs) between-settings (auto-settings i (largestOf lags) time (lookedInputs i look lags time s l) (heardLists i look lags time s l))
 
-  pub input-other : (j : ℕ) → (j ≡ i → ⊥) → slotAt (tickedInput i look lags time s l .inputs) j ≡ slotAt s j
+  pub input-other : (j : ℕ) → (j ≡ i → ⊥) → slotAt (tickedInput i look lags time mayLower s l .inputs) j ≡ slotAt s j
   unfolding tickedInput followedBy
   input-other j apart = auto-other i (largestOf lags) time (lookedInputs i look lags time s l) (heardLists i look lags time s l) j apart ∙ looked-leaves i look time (heardInputs i look lags time s l) .others j apart ∙ heard-other j apart
 
-  pub input-sized : Sized s → Sized (tickedInput i look lags time s l .inputs)
+  pub input-sized : Sized s → Sized (tickedInput i look lags time mayLower s l .inputs)
   unfolding tickedInput followedBy
   input-sized h = auto-sized i (largestOf lags) time (lookedInputs i look lags time s l) (heardLists i look lags time s l) (between-sized h)
 
@@ -107,14 +107,14 @@ module _ (i : ℕ) (look : Look) (lags : List ℕ) (time : ℕ) (s : Inputs) (l 
     unfolding heard followedBy
     heard-beside = arrived-beside i time lags s l r soon room
 
-    pub input-beside : Beside (s .count) (bucketsIn s) i l (tickedInput i look lags time s l .lists)
+    pub input-beside : Beside (s .count) (bucketsIn s) i l (tickedInput i look lags time mayLower s l .lists)
     unfolding tickedInput followedBy
     input-beside =
-        beside-then (s .count) (bucketsIn s) i l (heardLists i look lags time s l) (autoDelayed i (largestOf lags) time (lookedInputs i look lags time s l) (heardLists i look lags time s l) .lists) heard-beside
-        (beside-under s (lookedInputs i look lags time s l) between-settings i (heardLists i look lags time s l) (autoDelayed i (largestOf lags) time (lookedInputs i look lags time s l) (heardLists i look lags time s l) .lists) (auto-beside i (largestOf lags) time (lookedInputs i look lags time s l) (heardLists i look lags time s l) between-ready soon))
+        beside-then (s .count) (bucketsIn s) i l (heardLists i look lags time s l) (autoDelayed i (largestOf lags) time mayLower (lookedInputs i look lags time s l) (heardLists i look lags time s l) .lists) heard-beside
+        (beside-under s (lookedInputs i look lags time s l) between-settings i (heardLists i look lags time s l) (autoDelayed i (largestOf lags) time mayLower (lookedInputs i look lags time s l) (heardLists i look lags time s l) .lists) (auto-beside i (largestOf lags) time (lookedInputs i look lags time s l) (heardLists i look lags time s l) between-ready soon))
 
-    pub input-same : (j : ℕ) → j < s .count → (j ≡ i → ⊥) → SameInput s l (tickedInput i look lags time s l .inputs) (tickedInput i look lags time s l .lists) j
-    input-same j h apart = same-beside s (tickedInput i look lags time s l .inputs) input-settings l (tickedInput i look lags time s l .lists) i j input-beside h apart (input-other j apart)
+    pub input-same : (j : ℕ) → j < s .count → (j ≡ i → ⊥) → SameInput s l (tickedInput i look lags time mayLower s l .inputs) (tickedInput i look lags time mayLower s l .lists) j
+    input-same j h apart = same-beside s (tickedInput i look lags time mayLower s l .inputs) input-settings l (tickedInput i look lags time mayLower s l .lists) i j input-beside h apart (input-other j apart)
 
 -- ---- the first n inputs
 module _ (looks : List Look) (lags : List ℕ) (time : ℕ) (s : Inputs) (l : Lists) where
@@ -126,11 +126,11 @@ module _ (looks : List Look) (lags : List ℕ) (time : ℕ) (s : Inputs) (l : Li
   unfolding tickedBelow
   turn-none = refl
 
-  pub turn-inputs : (n : ℕ) → turn (suc n) .inputs ≡ tickedInput n (lookAt looks n) (lagsOf looks lags n) time (turn n .inputs) (turn n .lists) .inputs
+  pub turn-inputs : (n : ℕ) → turn (suc n) .inputs ≡ tickedInput n (lookAt looks n) (lagsOf looks lags n) time mayLower (turn n .inputs) (turn n .lists) .inputs
   unfolding tickedBelow followedBy
   turn-inputs n = refl
 
-  pub turn-lists : (n : ℕ) → turn (suc n) .lists ≡ tickedInput n (lookAt looks n) (lagsOf looks lags n) time (turn n .inputs) (turn n .lists) .lists
+  pub turn-lists : (n : ℕ) → turn (suc n) .lists ≡ tickedInput n (lookAt looks n) (lagsOf looks lags n) time mayLower (turn n .inputs) (turn n .lists) .lists
   unfolding tickedBelow followedBy
   turn-lists n = refl
 
@@ -264,7 +264,7 @@ module _ (looks : List Look) (lags : List ℕ) (time : ℕ) (s : Inputs) (l : Li
 
   -- the slot of input j is what its own tick leaves
   pub ticked-slot : (j : ℕ) → j < s .count
-      → slotAt after j ≡ slotAt (tickedInput j (lookAt looks j) (lagsOf looks lags j) time (turn looks lags time s l j .inputs) (turn looks lags time s l j .lists) .inputs) j
+      → slotAt after j ≡ slotAt (tickedInput j (lookAt looks j) (lagsOf looks lags j) time mayLower (turn looks lags time s l j .inputs) (turn looks lags time s l j .lists) .inputs) j
   unfolding ticked tickedAll
   ticked-slot j h = lastly-slots (all .inputs) j ∙ later-slots looks lags time s l (s .count) j h ∙ ap (λ (z : Inputs). slotAt z j) (turn-inputs looks lags time s l j)
 

@@ -71,7 +71,7 @@ module _ (i : ℕ) (look : Look) (lags : List ℕ) (time : ℕ) (s : Inputs) (l 
       looked-keeps i look time (heardInputs i look lags time s l) (heardLists i look lags time s l) heard-keeps (subst (λ (x : Inputs). i < x .count) (sym (heard-settings i look lags time s l)) h) soon
       (omega (arith, heard-raised i look lags time s l low (c .sized) .reopens, few .reopens))
 
-  pub input-keeps : Checked (tickedInput i look lags time s l .inputs) (tickedInput i look lags time s l .lists)
+  pub input-keeps : Checked (tickedInput i look lags time mayLower s l .inputs) (tickedInput i look lags time mayLower s l .lists)
   unfolding tickedInput followedBy
   input-keeps =
       auto-keeps i (largestOf lags) time (lookedInputs i look lags time s l) (heardLists i look lags time s l) between-keeps (subst (λ (x : Inputs). i < x .count) (sym (between-settings i look lags time s l)) h) soon

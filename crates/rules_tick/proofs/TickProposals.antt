@@ -43,7 +43,7 @@ module _ (i : ℕ) (look : Look) (lags : List ℕ) (time : ℕ) (s : Inputs) (l 
 
 module _ (i : ℕ) (look : Look) (lags : List ℕ) (time : ℕ) (s : Inputs) (l : Lists) (r : Ready s l i) (sized : Sized s) (soon : time ≤ timeLimit)
     (room : roomFor time (length lags) (windowOf s l i) ≡ true) (off : s .confirm ≡ false) where
-  pub input-proposed : slotAt (tickedInput i look lags time s l .inputs) i .proposed ≡ slotAt s i .proposed
+  pub input-proposed : slotAt (tickedInput i look lags time mayLower s l .inputs) i .proposed ≡ slotAt s i .proposed
   unfolding tickedInput followedBy
   input-proposed =
       auto-proposed i (largestOf lags) time (lookedInputs i look lags time s l) (heardLists i look lags time s l) (between-ready i look lags time s l r sized soon room) (between-sized i look lags time s l sized)

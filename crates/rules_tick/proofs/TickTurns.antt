@@ -92,11 +92,11 @@ module _ (looks : List Look) (lags : List ℕ) (time : ℕ) (s₀ : Inputs) (l�
           subst (λ (x : Look). InputAsked s l i x (length (part from k lags)) time) (sym is-look)
           (subst (λ (n : ℕ). InputAsked s l i (lookAt looks i) n time) (sym own-length) (turn .later i (omega arith) h))
 
-      module _ {sent : Sent} {m : Lists} {d : List ℕ} (e : Effected 9 (tickedInput i look (part from k lags) time s l) sent m c d used) where
-        step : Effected 9 (tickedInput i (lookAt looks i) (lagsOf looks lags i) time s l) sent m c d used
+      module _ {sent : Sent} {m : Lists} {d : List ℕ} (e : Effected 9 (tickedInput i look (part from k lags) time mayLower s l) sent m c d used) where
+        step : Effected 9 (tickedInput i (lookAt looks i) (lagsOf looks lags i) time mayLower s l) sent m c d used
         step =
-            subst (λ (x : List ℕ). Effected 9 (tickedInput i (lookAt looks i) x time s l) sent m c d used) own-lags
-            (subst (λ (x : Look). Effected 9 (tickedInput i x (part from k lags) time s l) sent m c d used) is-look e)
+            subst (λ (x : List ℕ). Effected 9 (tickedInput i (lookAt looks i) x time mayLower s l) sent m c d used) own-lags
+            (subst (λ (x : Look). Effected 9 (tickedInput i x (part from k lags) time mayLower s l) sent m c d used) is-look e)
 
         pub turn-again :
             (length (m .starts) ≡ length (l .starts)) → (length (m .totals) ≡ length (l .totals)) → (length (m .counts) ≡ length (l .counts)) → (length (m .sums) ≡ length (l .sums)) → (length (m .times) ≡ length (l .times)) → (length (m .peaks) ≡ length (l .peaks)) → (length d ≡ length c)
@@ -129,13 +129,13 @@ module _ (looks : List Look) (lags : List ℕ) (time : ℕ) (s₀ : Inputs) (l�
                 let q : i * 9 + 9 ≡ (i + 1) * 9 = omega arith in
                 subst (λ (n : ℕ). Effected n (tickedBelow (i + 1) looks lags time s₀ l₀) sent m c₀ d 0) q
                 (subst (λ (n : ℕ). Effected (i * 9 + 9) (tickedBelow n looks lags time s₀ l₀) sent m c₀ d 0) (sym (add-one i))
-                (effected-then (i * 9) 9 (tickedBelow i looks lags time s₀ l₀) (tickedInput i (lookAt looks i) (lagsOf looks lags i) time) (turn .effected) step))
+                (effected-then (i * 9) 9 (tickedBelow i looks lags time s₀ l₀) (tickedInput i (lookAt looks i) (lagsOf looks lags i) time mayLower) (turn .effected) step))
 
             after : (j : ℕ) → i + 1 ≤ j → j < s₀ .count → InputAsked (sent .inputs) m j (lookAt looks j) (lookAt looks j .lags) time
             after j g there =
                 subst (λ (x : Inputs). InputAsked x m j (lookAt looks j) (lookAt looks j .lags) time) (sym (step .done .inputs))
-                (subst (λ (x : Lists). InputAsked (tickedInput i (lookAt looks i) (lagsOf looks lags i) time s l .inputs) x j (lookAt looks j) (lookAt looks j .lags) time) (sym (step .lists))
-                (asked-same s (tickedInput i (lookAt looks i) (lagsOf looks lags i) time s l .inputs) l (tickedInput i (lookAt looks i) (lagsOf looks lags i) time s l .lists) j
+                (subst (λ (x : Lists). InputAsked (tickedInput i (lookAt looks i) (lagsOf looks lags i) time mayLower s l .inputs) x j (lookAt looks j) (lookAt looks j .lags) time) (sym (step .lists))
+                (asked-same s (tickedInput i (lookAt looks i) (lagsOf looks lags i) time mayLower s l .inputs) l (tickedInput i (lookAt looks i) (lagsOf looks lags i) time mayLower s l .lists) j
                 (input-settings i (lookAt looks i) (lagsOf looks lags i) time s l)
                 (input-beside i (lookAt looks i) (lagsOf looks lags i) time s l (here .ready) (turn .sized) (asked .timely) fits .long)
                 (input-same i (lookAt looks i) (lagsOf looks lags i) time s l (here .ready) (turn .sized) (asked .timely) fits j (omega (arith, turn .count)) (λ same. omega arith))
