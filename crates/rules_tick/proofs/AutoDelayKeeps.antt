@@ -1,6 +1,6 @@
 -- What `auto_delay` leaves: the input's hold and its answer, all else as it was, and a checked record checked. Assumes nothing.
 use Prim.Native.Nat.{ℕ, _+_, _<_, _≤_}
-use mathlib.Core.Bool.{true, false}
+use mathlib.Core.Bool.{Bool, true, false}
 use mathlib.Core.Path.{_≡_, refl, sym, ap, subst, _∙_}
 use native.Mathlib.Omega.{arith}
 use borrow.Author.Tests.{le-leb, eqb-true}
@@ -44,7 +44,7 @@ use Rattle.rules_tick.proofs.Interrupts.{interrupt-keeps-whole}
 use Rattle.rules_routing.proofs.SetDelayKeeps.{stored-keeps}
 
 -- ---- what `next` is asked, and what it keeps
-module _ (i : ℕ) (largest : Lag) (time : ℕ) (s : Inputs) (l : Lists) (r : Ready s l i) where
+module _ (i : ℕ) (largest : Lag) (time : ℕ) (mayLower : Bool) (s : Inputs) (l : Lists) (r : Ready s l i) where
   pub next-asked : AskedFor (s .width) (s .policy) (heldOf s l i) (p999Of (s .policy) (windowOf s l i)) (currentOf (slotAt s i))
   next-asked = record {
     sound = r .fitting .allowed .sound;
@@ -75,7 +75,7 @@ module _ (i : ℕ) (largest : Lag) (time : ℕ) (s : Inputs) (l : Lists) (r : Re
     next-answer-fits delay e = subst (ChangeFits (s .policy .«delay_max»)) e next-fits
 
 -- ---- the five ways that `auto_delay` goes
-module _ (i : ℕ) (largest : Lag) (time : ℕ) (s : Inputs) (l : Lists) where
+module _ (i : ℕ) (largest : Lag) (time : ℕ) (mayLower : Bool) (s : Inputs) (l : Lists) where
   abbrev decision : Decided
   decision = nextFor i largest time mayLower s l
 
@@ -125,7 +125,7 @@ module _ (i : ℕ) (largest : Lag) (time : ℕ) (s : Inputs) (l : Lists) where
 
   module _ (r : Ready s l i) (soon : time ≤ timeLimit) where
     held-beside : Beside (s .count) (bucketsIn s) i l lists
-    held-beside = beside-held (s .count) (bucketsIn s) i l (r .fitting .long) (r .input) (decision .held) (next-long i largest time s l r soon .0) (next-long i largest time s l r soon .1)
+    held-beside = beside-held (s .count) (bucketsIn s) i l (r .fitting .long) (r .input) (decision .held) (next-long i largest time mayLower s l r soon .0) (next-long i largest time mayLower s l r soon .1)
 
     pub auto-beside : Beside (s .count) (bucketsIn s) i l (autoDelayed i largest time mayLower s l .lists)
     auto-beside =
@@ -173,7 +173,7 @@ module _ (i : ℕ) (largest : Lag) (time : ℕ) (s : Inputs) (l : Lists) where
     module _ (new : Slot) (seconds : new .«lag_seconds» ≡ slotAt s i .«lag_seconds») (hold : new .hold ≡ decision .held .hold) (fits : WholeSlot (s .policy .«delay_max») (s .«flow_count») new) where
       decided-keeps : Checked (putSlot s i new) lists
       decided-keeps =
-          hold-keeps s l i new c h fits (decision .held) (next-long i largest time s l ready soon .0) (next-long i largest time s l ready soon .1) (next-whole i largest time s l ready soon) seconds hold
+          hold-keeps s l i new c h fits (decision .held) (next-long i largest time mayLower s l ready soon .0) (next-long i largest time mayLower s l ready soon .1) (next-whole i largest time mayLower s l ready soon) seconds hold
 
     keep-fits : WholeSlot (s .policy .«delay_max») (s .«flow_count») slot
     keep-fits = record { delay = old .delay; proposed = old .proposed; route = old .route; reopens = old .reopens; changes = old .changes; lates = old .lates; head = old .head; set = old .set; opened = old .opened }
@@ -192,9 +192,9 @@ module _ (i : ℕ) (largest : Lag) (time : ℕ) (s : Inputs) (l : Lists) where
         (λ e. interrupted-keeps)
         (λ e. c)
         (λ on e. decided-keeps slot refl refl keep-fits)
-        (λ on delay e g. decided-keeps (withProposed slot (Pending delay)) refl refl (propose-fits delay (next-answer-fits i largest time s l ready soon delay e)))
+        (λ on delay e g. decided-keeps (withProposed slot (Pending delay)) refl refl (propose-fits delay (next-answer-fits i largest time mayLower s l ready soon delay e)))
         (λ on delay e g.
         stored-keeps (changing i slot s) lists i delay time (decided-keeps (withDelayChanges slot (slot .«delay_changes» + 1)) refl refl (change-fits few))
         (subst (λ (z : Inputs). i < z .count) (sym (settings-put s i _)) h)
-        (subst (λ (z : Inputs). delay ≤ z .policy .«delay_max») (sym (settings-put s i _)) (next-answer-fits i largest time s l ready soon delay e))
+        (subst (λ (z : Inputs). delay ≤ z .policy .«delay_max») (sym (settings-put s i _)) (next-answer-fits i largest time mayLower s l ready soon delay e))
         soon)
