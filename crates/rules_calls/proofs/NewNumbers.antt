@@ -6,7 +6,8 @@ use mathlib.Core.List.{List}
 use lib.ListN.{length}
 use lib.Dec.{eqb}
 use borrow.Author.Tests.{leb-true, lt-leb, le-leb}
-use Rattle.base.specs.Limits.{timeLimit}
+use Rattle.base.specs.Choice.{ask}
+use Rattle.base.specs.Limits.{timeLimit, timely}
 use Rattle.recording.specs.Recording.{weekFits}
 use Rattle.base.proofs.Choices.{yes-ask, no-ask, asked, same-refusal, by-zero}
 use Rattle.buckets.specs.Ranges.{Ranged}
@@ -59,6 +60,11 @@ module _ (settings : Settings) (bytes delays : List ℕ) (time : ℕ) (l : Lists
   number-refused h = settings-refused settings (length bytes) (length delays) l words h _
 
   module _ (passed : settingsNumber settings (length bytes) (length delays) l words 0 ≡ 0) where
+    -- 8 and 22 are asked before 9
+    pub number-early : (ask 8 (timely time) (ask 22 (weekFits (settings .week)) 0) ≡ 0 → ⊥) → newNumber settings bytes delays time l words ≡ ask 8 (timely time) (ask 22 (weekFits (settings .week)) 0)
+    unfolding newNumber
+    number-early h = settings-passed settings (length bytes) (length delays) l words passed _ ∙ same-refusal 8 (timely time) (same-refusal 22 (weekFits (settings .week)) (λ none. absurd (none refl))) h
+
     -- a late call gets 8, whether its week fits and its flows have room or not
     pub number-late : timeLimit < time → newNumber settings bytes delays time l words ≡ 8
     unfolding newNumber
