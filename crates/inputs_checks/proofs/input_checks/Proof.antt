@@ -21,10 +21,10 @@ week-fits-requires : tie.Need-week-fits-requires
 week-fits-requires c κs = search needs
 
 returns-4 : tie.Need-returns-4
-returns-4 c = week-refused _ _ _ _ _ (c .checks .ensures .0) (c .if1 .left) (c .if2 .left) (c .if3 .left) (told-no _ _ (c .week-fits .ensures) (c .if4 .taken))
+returns-4 c = week-refused _ _ _ _ _ (c .before .before .before .before .before .before .before .checks .ensures .0) (c .before .before .before .before .before .before .if1 .left) (c .before .before .before .before .if2 .left) (c .before .before .before .if3 .left) (told-no _ _ (c .before .week-fits .ensures) (c .if4 .taken))
 
 returns-5 : tie.Need-returns-5
-returns-5 c = week-taken _ _ _ _ _ (c .checks .ensures .0) (c .if1 .left) (c .if2 .left) (c .if3 .left) (told-yes _ _ (c .week-fits .ensures) (c .if4 .left))
+returns-5 c = week-taken _ _ _ _ _ (c .before .before .before .before .before .before .before .checks .ensures .0) (c .before .before .before .before .before .before .if1 .left) (c .before .before .before .before .if2 .left) (c .before .before .before .if3 .left) (told-yes _ _ (c .before .week-fits .ensures) (c .if4 .left))
 
 pub input-checks-spec : {M : Type 1} → statement M
 input-checks-spec = tie.close (tie.spec checks-requires returns returns-2 returns-3 week-fits-requires returns-4 returns-5)
