@@ -2,7 +2,7 @@
 use Prim.Native.Nat.{ℕ, _/_, _%_}
 use mathlib.Core.Bool.{Bool, true, false}
 use mathlib.Core.Path.{_≡_, refl}
-use mathlib.Core.List.{List, [], _∷_}
+use mathlib.Core.List.{[], _∷_}
 use Rattle.base.specs.Choice.{pick, both}
 use Rattle.base.specs.Lists.{all}
 use Rattle.recording.specs.declared.Day.{Day}
@@ -15,7 +15,7 @@ day opens closes = record { opens = opens; closes = closes }
 
 -- Monday from 22:00 to 06:00, Tuesday from 09:00 to 10:00, Wednesday none, Sunday from 23:00 to 01:00
 abbrev nights : Week
-nights = record { days = day 1320 360 ∷ day 540 600 ∷ day 700 700 ∷ noDay ∷ noDay ∷ noDay ∷ day 1380 60 ∷ [] }
+nights = record { monday = day 1320 360; tuesday = day 540 600; wednesday = day 700 700; thursday = noDay; friday = noDay; saturday = noDay; sunday = day 1380 60 }
 
 -- "The opening minute belongs to the window and the closing one does not": Tuesday at 08:59, 09:00, 09:59, 10:00
 pub opening-belongs-closing-not :
@@ -46,10 +46,10 @@ none-opens-that-day = refl
 -- "0 to 1,439": of an opening and of a closing minute; a day that never opens is asked too
 pub minutes-of-a-day :
     weekFits nights ∷ weekFits noWindows
-    ∷ weekFits (record { days = day 1439 1439 ∷ day 1439 0 ∷ noDay ∷ noDay ∷ noDay ∷ noDay ∷ day 0 1439 ∷ [] })
-    ∷ weekFits (record { days = day 1440 0 ∷ noDay ∷ noDay ∷ noDay ∷ noDay ∷ noDay ∷ noDay ∷ [] })
-    ∷ weekFits (record { days = noDay ∷ noDay ∷ noDay ∷ noDay ∷ noDay ∷ noDay ∷ day 0 1440 ∷ [] })
-    ∷ weekFits (record { days = noDay ∷ noDay ∷ noDay ∷ day 1440 1440 ∷ noDay ∷ noDay ∷ noDay ∷ [] })
+    ∷ weekFits (record { monday = day 1439 1439; tuesday = day 1439 0; wednesday = noDay; thursday = noDay; friday = noDay; saturday = noDay; sunday = day 0 1439 })
+    ∷ weekFits (record { monday = day 1440 0; tuesday = noDay; wednesday = noDay; thursday = noDay; friday = noDay; saturday = noDay; sunday = noDay })
+    ∷ weekFits (record { monday = noDay; tuesday = noDay; wednesday = noDay; thursday = noDay; friday = noDay; saturday = noDay; sunday = day 0 1440 })
+    ∷ weekFits (record { monday = noDay; tuesday = noDay; wednesday = noDay; thursday = day 1440 1440; friday = noDay; saturday = noDay; sunday = noDay })
     ∷ []
     ≡ true ∷ true ∷ true ∷ false ∷ false ∷ false ∷ []
 unfolding weekFits all dayFits dayAt noWindows both

@@ -1,8 +1,7 @@
 -- Document 02, §7: the week of recording windows, which minutes lie inside one, and check 22. Assumes nothing.
 use Prim.Native.Nat.{ℕ, _+_, _/_, _%_}
 use mathlib.Core.Bool.{Bool, _||_}
-use lib.Dec.{leb, ltb}
-use lib.ListN.{getD, replicate}
+use lib.Dec.{leb, ltb, eqb}
 use Rattle.base.specs.Choice.{pick, both}
 use Rattle.base.specs.Lists.{all}
 use Rattle.recording.specs.declared.Day.{Day}
@@ -21,11 +20,19 @@ abbrev pub noDay : Day
 noDay = record { opens = 0; closes = 0 }
 
 unfoldable pub noWindows : Week
-noWindows = record { days = replicate 7 noDay }
+noWindows =
+    record { monday = noDay; tuesday = noDay; wednesday = noDay; thursday = noDay; friday = noDay; saturday = noDay; sunday = noDay }
 
 -- the weekdays by number: Monday is 0, Sunday 6
 unfoldable pub dayAt : (week : Week) (d : ℕ) → Day
-dayAt week d = pick (ltb d 7) (getD (week .days) d noDay) noDay
+dayAt week d =
+    pick (eqb d 0) (week .monday)
+    (pick (eqb d 1) (week .tuesday)
+    (pick (eqb d 2) (week .wednesday)
+    (pick (eqb d 3) (week .thursday)
+    (pick (eqb d 4) (week .friday)
+    (pick (eqb d 5) (week .saturday)
+    (week .sunday))))))
 
 -- 22 of a week
 unfoldable pub weekFits : Week → Bool

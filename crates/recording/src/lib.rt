@@ -8,9 +8,14 @@ pub struct Day {
     pub closes: u32,
 }
 
-// Monday first.
 pub struct Week {
-    pub days: [Day; 7],
+    pub monday: Day,
+    pub tuesday: Day,
+    pub wednesday: Day,
+    pub thursday: Day,
+    pub friday: Day,
+    pub saturday: Day,
+    pub sunday: Day,
 }
 
 const DAYS: usize = 7;
@@ -27,8 +32,15 @@ pub fn no_windows() -> Week
         opens: 0,
         closes: 0,
     };
-    let days = [day; 7];
-    Week { days }
+    Week {
+        monday: day,
+        tuesday: day,
+        wednesday: day,
+        thursday: day,
+        friday: day,
+        saturday: day,
+        sunday: day,
+    }
 }
 
 fn day_fits(day: Day) -> bool
@@ -41,17 +53,35 @@ fn day_fits(day: Day) -> bool
 }
 
 // The weekday of this number: Monday is 0.
-fn day_at(week: Week, i: usize) -> Day
-    ensures { λ r. ⌜ r ≡ dayAt week i ⌝ }
+fn day_at(week: Week, day: usize) -> Day
+    ensures { λ r. ⌜ r ≡ dayAt week day ⌝ }
 {
-    if i < DAYS {
-        let day = week.days[i];
-        return day;
+    if day == 0 {
+        let monday = week.monday;
+        return monday;
     }
-    Day {
-        opens: 0,
-        closes: 0,
+    if day == 1 {
+        let tuesday = week.tuesday;
+        return tuesday;
     }
+    if day == 2 {
+        let wednesday = week.wednesday;
+        return wednesday;
+    }
+    if day == 3 {
+        let thursday = week.thursday;
+        return thursday;
+    }
+    if day == 4 {
+        let friday = week.friday;
+        return friday;
+    }
+    if day == 5 {
+        let saturday = week.saturday;
+        return saturday;
+    }
+    let sunday = week.sunday;
+    sunday
 }
 
 // Check 22 of a week: every opening and closing minute is a minute of a day.

@@ -130,7 +130,7 @@ full-by-nine settings bytes delays time l words nine =
     not-room passed fits =
         by-le time timeLimit
         (λ soon.
-          by-bool (weekFits (settings .week))
-          (λ week. omega (arith, nine, number-none settings bytes delays time l words passed soon week fits))
-          (λ bad. omega (arith, nine, number-week settings bytes delays time l words passed soon bad)))
+        by-bool (weekFits (settings .week))
+        (λ week. omega (arith, nine, number-none settings bytes delays time l words passed soon week fits))
+        (λ bad. omega (arith, nine, number-week settings bytes delays time l words passed soon bad)))
         (λ late. omega (arith, nine, number-late settings bytes delays time l words passed late))
