@@ -42,7 +42,7 @@ pub record Born (night : Night) : Type 0 where
   pub lived : (i : ℕ) → i < night .settings .count → Lived (night .settings) 0 (seenAt (fresh night) i)
   pub told : (i : ℕ) → i < night .settings .count → slotAt (fresh night .inputs) i .delay ≡ lastDelay i 0 (fresh night .commands)
 
-append-length : (calls : List Call) (call : Call) (later : List Call) → length (calls ++ (call ∷ later)) ≡ length calls + suc (length later)
+pub append-length : (calls : List Call) (call : Call) (later : List Call) → length (calls ++ (call ∷ later)) ≡ length calls + suc (length later)
 append-length [] call later = omega arith
 append-length (one ∷ calls) call later = omega (arith, append-length calls call later)
 
