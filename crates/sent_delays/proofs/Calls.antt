@@ -124,7 +124,7 @@ module _ (s : Inputs) (sized : Sized s) (l : Lists) (commands : List ℕ) where
   module _ (looks : List Look) (lags : List ℕ) (time minute : ℕ) where
     tick-tells : tickNumber s l (length commands) looks lags time minute ≡ 0 → TellsEffect time s (ticked looks lags time minute s l)
     unfolding tickNumber
-    tick-tells e = tells-ticked looks lags time minute s l sized (settings-told s l (Words (length commands)) _ e .0 .allowed .most)
+    tick-tells e = tells-ticked looks lags time (lowersAt s minute) s l sized (settings-told s l (Words (length commands)) _ e .0 .allowed .most)
 
     pub tick-told : Told s (tickReply s l commands looks lags time minute)
     unfolding tickReply

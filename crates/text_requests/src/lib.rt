@@ -1,6 +1,7 @@
 // What a line of the text protocol asks, by value (compare/README.md, "The protocol"); which words give which request is text_read's. Where a request has a list (kinds, looks, loaded delays, rows, peaks), it holds the place of the line where the list begins.
 use delay_hold::DelayHold;
 use delay_hold::Lag;
+use recording::Week;
 use rules_calls::Settings;
 use rules_calls::Wanted;
 use rules_record::ExtraDelay;
@@ -195,12 +196,23 @@ pub enum Call {
     Put(PutAsked),
 }
 
+// ---- what a line sets for the lines after it
+pub enum Setting {
+    // The week of every `new`.
+    Week(Week),
+    // The minute of the week that every tick brings.
+    Minute(u32),
+    // Whether `next` is told that a window is open.
+    Open(bool),
+}
+
 // ---- a line
 pub enum Request {
     Bad,
     Flush,
     // Whole records are shown from now on, or not.
     Full(bool),
+    Set(Setting),
     Alone(Lone),
     On(Call),
 }
