@@ -39,7 +39,7 @@ use Rattle.history.specs.Stretch.{NonEmpty, NoneAbove, bucketEnd}
 use Rattle.third_demand.specs.Calls.{Call, routes, updates, ticks, timeOf, after, run, Accepted, clockAfter, Orderly, toldBy, told, Night, fresh, leftBy, delayOf}
 use Rattle.third_demand.specs.Demand.{policyIn, RunsOn, InStretch, Goes, tickTime, lastTick, Stretch, ending}
 use Rattle.third_demand.proofs.ThirdDemand.{third-demand}
-use Rattle.third_demand.proofs.Opened.{base-opened, window-opened, hold-opened, record-opened, routing-opened, calls-opened, tick-opened}
+use Rattle.third_demand.proofs.Opened.{base-opened, week-opened, window-opened, hold-opened, record-opened, routing-opened, calls-opened, tick-opened}
 
 -- ---- the calls
 -- a recording on Tuesdays from 09:00 to 10:00

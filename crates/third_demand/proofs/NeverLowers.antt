@@ -1,5 +1,5 @@
 -- Inside a recording window no tick lowers a delay. Assumes nothing.
-use Prim.Native.Nat.{ℕ, suc, _+_, _≤_, _<_}
+use Prim.Native.Nat.{ℕ, _≤_, _<_}
 use mathlib.Core.Bool.{Bool, true, false, not}
 use mathlib.Core.Path.{_≡_, refl, sym, ap, subst, _∙_}
 use mathlib.Core.List.{List, [], _∷_, _++_}
@@ -58,7 +58,7 @@ pub never-lowers : NeverLowersInside
 unfolding run
 never-lowers night calls looks lags time minute i is-new few h took inside =
     let call : Call = ticks looks lags time minute in
-    let fewer : length calls + suc (length []) < most = subst (λ (x : ℕ). x < most) (append-length calls call []) few in
+    let fewer : length calls < most = omega (arith, few, append-length calls call []) in
     let r : Reply = leftBy night calls in
     let g : Sure (night .settings) (length calls) r = sure-at night is-new calls (omega (arith, fewer)) in
     let waits : lowersAt (r .inputs) minute ≡ false = ap (λ (w : Week). not (windowOpen w minute)) (given-week (night .settings) (r .inputs) (g .same)) ∙ ap not inside in
