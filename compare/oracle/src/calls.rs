@@ -377,6 +377,9 @@ impl Calls {
             if self.recording && self.r.chance(15) {
                 self.minute();
             }
+            if self.recording && self.r.chance(1) {
+                self.week();
+            }
             if self.r.chance(manner.refusals) {
                 self.refused(now, &mut manner);
             }
