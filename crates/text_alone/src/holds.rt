@@ -43,7 +43,7 @@ fn next(
     asked: NextAsked,
     times: &mut [u64],
     peaks: &mut [u32],
-    open: bool,
+    in_window: bool,
 ) -> HoldAnswered {
     let policy = DelayPolicy {
         read_offset: asked.offset,
@@ -64,7 +64,7 @@ fn next(
         policy,
         asked.width,
         asked.time,
-        open,
+        in_window,
     );
     let hold = r.hold;
     let answer = r.answer;
@@ -79,11 +79,11 @@ pub(crate) fn answer(
     kept: DelayHold,
     times: &mut [u64],
     peaks: &mut [u32],
-    open: bool,
+    in_window: bool,
 ) -> HoldAnswered {
     match request {
         Lone::HoldNew => new(times, peaks, kept),
-        Lone::Next(asked) => next(kept, asked, times, peaks, open),
+        Lone::Next(asked) => next(kept, asked, times, peaks, in_window),
         _ => HoldAnswered {
             hold: kept,
             answer: Answer::BadLine,

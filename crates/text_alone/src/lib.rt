@@ -35,7 +35,7 @@ pub struct Alone {
     pub coalesce: Coalesce,
     pub schedule: Schedule,
     // `next` is told that a window is open.
-    pub open: bool,
+    pub in_window: bool,
 }
 
 pub struct Answered {
@@ -58,7 +58,7 @@ pub fn begin() -> Alone {
         hold,
         coalesce,
         schedule,
-        open: false,
+        in_window: false,
     }
 }
 
@@ -158,7 +158,7 @@ fn on_hold(
         kept,
         &mut times[a0..a1],
         &mut peaks[b0..b1],
-        alone.open,
+        alone.in_window,
     );
     let left = done.hold;
     let answer = done.answer;

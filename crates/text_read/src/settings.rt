@@ -80,7 +80,7 @@ fn minute(s: &[u8], at: usize) -> SettingLine
     }
 }
 
-fn open(s: &[u8], at: usize) -> SettingLine
+fn open_line(s: &[u8], at: usize) -> SettingLine
     ensures { λ r. ⌜ r ≡ openLine (now (s .entry)) at ⌝ }
 {
     let name = word_end(s, at, b"open");
@@ -104,5 +104,5 @@ fn either(first: SettingLine, second: SettingLine) -> SettingLine
 pub(crate) fn setting_at(s: &[u8], at: usize) -> SettingLine
     ensures { λ r. ⌜ r ≡ settingLine (now (s .entry)) at ⌝ }
 {
-    either(either(week(s, at), minute(s, at)), open(s, at))
+    either(either(week(s, at), minute(s, at)), open_line(s, at))
 }
