@@ -36,7 +36,7 @@ use Rattle.rules_calls.specs.RouteChecks.{routeNumber}
 use Rattle.rules_calls.specs.Route.{routed}
 use Rattle.rules_calls.specs.RouteReply.{routeReply}
 use Rattle.rules_calls.specs.UpdateChecks.{updateNumber, confirmNumber}
-use Rattle.rules_calls.specs.Update.{updated}
+use Rattle.rules_calls.specs.Update.{kindOf, updated}
 use Rattle.rules_calls.specs.ConfirmDelay.{confirmed}
 use Rattle.rules_calls.specs.UpdateReply.{updateReply, confirmReply}
 use Rattle.rules_calls.specs.StatusChecks.{statusNumber, channelsNumber, settledNumber}
@@ -74,7 +74,7 @@ unfolding newReply routeReply updateReply confirmReply tickReply tickUnsaved tic
 as-before = record {
   new = λ settings kinds bytes delays time l commands none. ap (λ (x : ℕ). replied x noInputs l commands (started settings kinds bytes delays time l)) (new-as settings none bytes delays time l (length commands));
   route = λ s l commands input wanted time world none. ap (λ (x : ℕ). replied x s l commands (routed input wanted time world s l)) (timed-as s none l (length commands) input time _);
-  update = λ s l commands input kind time none. ap (λ (x : ℕ). replied x s l commands (updated input kind time s l)) (timed-as s none l (length commands) input time _);
+  update = λ s l commands input setting time none. ap (λ (x : ℕ). replied x s l commands (updated input (kindOf setting) time s l)) (timed-as s none l (length commands) input time _);
   confirm = λ s l commands input time none. ap (λ (x : ℕ). replied x s l commands (confirmed input time s l)) (timed-as s none l (length commands) input time _);
   tick = λ s l commands looks lags time minute none fits.
       (λ t. record {

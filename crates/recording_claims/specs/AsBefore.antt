@@ -16,6 +16,7 @@ use Rattle.rules_record.specs.Lent.{Lists}
 use Rattle.rules_routing.specs.declared.World.{World}
 use Rattle.rules_tick.specs.declared.Look.{Look}
 use Rattle.rules_tick.specs.TickLeaves.{tickLeaves}
+use Rattle.rules_calls.specs.declared.DelaySetting.{DelaySetting}
 use Rattle.rules_calls.specs.declared.Settings.{Settings}
 use Rattle.rules_calls.specs.declared.Wanted.{Wanted}
 use Rattle.rules_calls.specs.NewReply.{newReply}
@@ -39,8 +40,8 @@ pub record AsBefore : Type 0 where
       (s : Inputs) (l : Lists) (commands : List ℕ) (input : ℕ) (wanted : Wanted) (time : ℕ) (world : World) → NoWindows (s .week) →
       routeReply s l commands input wanted time world ≡ routeBefore s l commands input wanted time world
   pub update :
-      (s : Inputs) (l : Lists) (commands : List ℕ) (input : ℕ) (kind : ExtraDelay) (time : ℕ) → NoWindows (s .week) →
-      updateReply s l commands input kind time ≡ updateBefore s l commands input kind time
+      (s : Inputs) (l : Lists) (commands : List ℕ) (input : ℕ) (setting : DelaySetting) (time : ℕ) → NoWindows (s .week) →
+      updateReply s l commands input setting time ≡ updateBefore s l commands input setting time
   pub confirm : (s : Inputs) (l : Lists) (commands : List ℕ) (input time : ℕ) → NoWindows (s .week) → confirmReply s l commands input time ≡ confirmBefore s l commands input time
   -- whatever the minute of the week
   pub tick :

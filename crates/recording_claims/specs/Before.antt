@@ -33,8 +33,9 @@ use Rattle.rules_calls.specs.NewChecks.{settingsNumber}
 use Rattle.rules_calls.specs.NewStart.{started}
 use Rattle.rules_calls.specs.RouteChecks.{wantedFits}
 use Rattle.rules_calls.specs.Route.{routed}
-use Rattle.rules_calls.specs.UpdateChecks.{kindFits, pending}
-use Rattle.rules_calls.specs.Update.{updated}
+use Rattle.rules_calls.specs.declared.DelaySetting.{DelaySetting}
+use Rattle.rules_calls.specs.UpdateChecks.{manualNumber, pending}
+use Rattle.rules_calls.specs.Update.{kindOf, updated}
 use Rattle.rules_calls.specs.ConfirmDelay.{confirmed}
 use Rattle.rules_calls.specs.Status.{statusOf, statusBy}
 use Rattle.rules_calls.specs.HasChannels.{answerBy, hasChannels}
@@ -54,9 +55,9 @@ abbrev pub routeBefore : (s : Inputs) (l : Lists) (commands : List ℕ) (input :
 routeBefore s l commands input wanted time world =
     replied (timedBefore s l (length commands) input time (ask 9 (wantedFits s wanted) (ask 10 (readerFits (world .reader)) 0))) s l commands (routed input wanted time world s l)
 
-abbrev pub updateBefore : (s : Inputs) (l : Lists) (commands : List ℕ) (input : ℕ) (kind : ExtraDelay) (time : ℕ) → Reply
-updateBefore s l commands input kind time =
-    replied (timedBefore s l (length commands) input time (ask 12 (kindFits kind (s .policy .«delay_max»)) 0)) s l commands (updated input kind time s l)
+abbrev pub updateBefore : (s : Inputs) (l : Lists) (commands : List ℕ) (input : ℕ) (setting : DelaySetting) (time : ℕ) → Reply
+updateBefore s l commands input setting time =
+    replied (timedBefore s l (length commands) input time (manualNumber setting (s .policy .«delay_max»))) s l commands (updated input (kindOf setting) time s l)
 
 abbrev pub confirmBefore : (s : Inputs) (l : Lists) (commands : List ℕ) (input time : ℕ) → Reply
 confirmBefore s l commands input time =

@@ -2,9 +2,9 @@
 use delay_hold::DelayHold;
 use delay_hold::Lag;
 use recording::Week;
+use rules_calls::DelaySetting;
 use rules_calls::Settings;
 use rules_calls::Wanted;
-use rules_record::ExtraDelay;
 use rules_record::Proposal;
 use rules_routing::World;
 use sources::QueryDown;
@@ -132,7 +132,7 @@ pub struct RouteAsked {
 pub struct UpdateAsked {
     pub time: u64,
     pub input: usize,
-    pub kind: ExtraDelay,
+    pub setting: DelaySetting,
 }
 
 pub struct TimeAsked {

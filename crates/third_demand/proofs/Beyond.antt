@@ -18,8 +18,8 @@ use Rattle.rules_record.specs.Effects.{Effect}
 use Rattle.rules_record.specs.Reply.{Reply, replied}
 use Rattle.rules_record.specs.Checks.{outputFits, recordNumber, ownNumber, inputNumber, timedNumber}
 use Rattle.rules_record.proofs.Checked.{of-checked}
-use Rattle.rules_calls.specs.UpdateChecks.{updateNumber}
-use Rattle.rules_calls.specs.Update.{updated}
+use Rattle.rules_calls.specs.UpdateChecks.{manualNumber, updateNumber}
+use Rattle.rules_calls.specs.Update.{kindOf, updated}
 use Rattle.rules_calls.specs.UpdateReply.{updateReply}
 use Rattle.rules_calls.specs.RouteChecks.{routeNumber}
 use Rattle.rules_calls.specs.Route.{routed}
@@ -88,13 +88,13 @@ module _ (settings : Settings) (n : ℕ) (r : Reply) (g : Sure settings n r) whe
   beyond-input input time rest later = beyond-record _ (beyond-ask 7 _ _ refl (beyond-ask 8 _ _ refl (beyond-ask 22 _ _ refl later)))
 
   pub beyond : (call : Call) → Beyond (after r call .number)
-  unfolding ownNumber after routeReply updateReply tickReply routeNumber updateNumber tickNumber broughtNumber
+  unfolding ownNumber after routeReply updateReply tickReply routeNumber manualNumber updateNumber tickNumber broughtNumber
   beyond (routes input wanted time world) =
       reply-beyond (r .inputs) (r .lists) (r .commands) (routed input wanted time world (r .inputs) (r .lists)) (routeNumber (r .inputs) (r .lists) (length (r .commands)) input wanted time world)
       (beyond-input input time _ (beyond-ask 9 _ _ refl (beyond-ask 10 _ _ refl beyond-zero)))
-  beyond (updates input kind time) =
-      reply-beyond (r .inputs) (r .lists) (r .commands) (updated input kind time (r .inputs) (r .lists)) (updateNumber (r .inputs) (r .lists) (length (r .commands)) input kind time)
-      (beyond-input input time _ (beyond-ask 12 _ _ refl beyond-zero))
+  beyond (updates input setting time) =
+      reply-beyond (r .inputs) (r .lists) (r .commands) (updated input (kindOf setting) time (r .inputs) (r .lists)) (updateNumber (r .inputs) (r .lists) (length (r .commands)) input setting time)
+      (beyond-input input time _ (beyond-ask 12 _ _ refl (beyond-ask 21 _ _ refl beyond-zero)))
   beyond (ticks looks lags time minute) =
       reply-beyond (r .inputs) (r .lists) (r .commands) (ticked looks lags time minute (r .inputs) (r .lists)) (tickNumber (r .inputs) (r .lists) (length (r .commands)) looks lags time minute)
       (beyond-record _ (beyond-ask 8 _ _ refl (beyond-ask 22 _ _ refl (beyond-ask 22 _ _ refl (beyond-ask 10 _ _ refl (beyond-ask 10 _ _ refl (beyond-ask 11 _ _ refl beyond-zero)))))))
@@ -114,13 +114,13 @@ module _ (settings : Settings) (n : ℕ) (r : Reply) (g : Sure settings n r) whe
   apart-input input time rest later = apart-record _ (apart-ask 7 _ _ refl (apart-ask 8 _ _ refl (apart-week later)))
 
   pub beyond-week : (call : Call) → broughtFits call ≡ true → after r call .number ≡ 22 → ⊥
-  unfolding after routeReply updateReply tickReply routeNumber updateNumber tickNumber broughtNumber
+  unfolding after routeReply updateReply tickReply routeNumber manualNumber updateNumber tickNumber broughtNumber
   beyond-week (routes input wanted time world) brought =
       reply-apart (r .inputs) (r .lists) (r .commands) (routed input wanted time world (r .inputs) (r .lists)) (routeNumber (r .inputs) (r .lists) (length (r .commands)) input wanted time world)
       (apart-input input time _ (apart-ask 9 _ _ refl (apart-ask 10 _ _ refl apart-zero)))
-  beyond-week (updates input kind time) brought =
-      reply-apart (r .inputs) (r .lists) (r .commands) (updated input kind time (r .inputs) (r .lists)) (updateNumber (r .inputs) (r .lists) (length (r .commands)) input kind time)
-      (apart-input input time _ (apart-ask 12 _ _ refl apart-zero))
+  beyond-week (updates input setting time) brought =
+      reply-apart (r .inputs) (r .lists) (r .commands) (updated input (kindOf setting) time (r .inputs) (r .lists)) (updateNumber (r .inputs) (r .lists) (length (r .commands)) input setting time)
+      (apart-input input time _ (apart-ask 12 _ _ refl (apart-ask 21 _ _ refl apart-zero)))
   beyond-week (ticks looks lags time minute) brought =
       reply-apart (r .inputs) (r .lists) (r .commands) (ticked looks lags time minute (r .inputs) (r .lists)) (tickNumber (r .inputs) (r .lists) (length (r .commands)) looks lags time minute)
       (apart-record _

@@ -21,6 +21,7 @@ use Rattle.policy.specs.Need.{needOf}
 use Rattle.delay_hold.specs.declared.Lag.the-variants as Lag
 use Rattle.rules_record.specs.declared.AutoTag.the-variants as AutoTag
 use Rattle.rules_record.specs.declared.ExtraDelay.the-variants as ExtraDelay
+use Rattle.rules_calls.specs.declared.DelaySetting.the-variants as DelaySetting
 use Rattle.rules_record.specs.declared.Inode.the-variants as Inode
 use Rattle.rules_record.specs.Lent.{lists}
 use Rattle.rules_record.specs.Reply.{Reply}
@@ -78,7 +79,7 @@ tickAt second lag = ticks looks (lag ∷ []) (second * nanos) 2040
 
 -- refused by 7: there is no input 5
 abbrev refused : Call
-refused = updates 5 (ExtraDelay.Auto AutoTag.Auto) (18 * nanos)
+refused = updates 5 (DelaySetting.Auto AutoTag.Auto) (18 * nanos)
 
 -- the ticks of the stretch after its first, at 5 s
 abbrev later : List Call
@@ -113,7 +114,7 @@ oneUpTo L (lag ∷ (more ∷ lags)) = false
 -- an accepted call that left z is a tick of the stretch
 abbrev goesBy : (i L before : ℕ) → Call → (z : Reply) → Bool
 goesBy i L before (routes input wanted time world) z = false
-goesBy i L before (updates input kind time) z = false
+goesBy i L before (updates input setting time) z = false
 goesBy i L before (ticks seen lags time minute) z =
     both (leb time (before + 5 * nanos)) (both (goesOn (slotAt (z .inputs) i)) (both (oneUpTo L (lagsOf seen lags i)) (not (windowOpen tuesdays minute))))
 
@@ -132,7 +133,7 @@ one-lag L (lag ∷ (more ∷ lags)) h = absurd (not-both h refl)
 
 goes-of : (i L before : ℕ) (r : Reply) (call : Call) → goesBy i L before call (after r call) ≡ true → Goes tuesdays i L before r call
 goes-of i L before r (routes input wanted time world) h = absurd (not-both h refl)
-goes-of i L before r (updates input kind time) h = absurd (not-both h refl)
+goes-of i L before r (updates input setting time) h = absurd (not-both h refl)
 goes-of i L before r (ticks seen lags time minute) h =
     let a = both-true _ _ h in
     let b = both-true _ _ (a .1) in

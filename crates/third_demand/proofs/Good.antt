@@ -7,7 +7,7 @@ use mathlib.Core.List.{List}
 use lib.ListN.{length}
 use Rattle.recording.specs.Recording.{weekFits}
 use Rattle.rules_tick.specs.Tick.{lowersAt}
-use Rattle.rules_record.specs.declared.ExtraDelay.{ExtraDelay}
+use Rattle.rules_calls.specs.declared.DelaySetting.{DelaySetting}
 use Rattle.rules_record.specs.declared.Proposal.the-variants.{Nothing}
 use Rattle.rules_record.specs.declared.Slot.{Slot}
 use Rattle.rules_record.specs.States.{isRunning}
@@ -84,5 +84,5 @@ pub record Laws (settings : Settings) : Type 0 where
       (n : ℕ) (r : Reply) (input : ℕ) (wanted : Wanted) (time : ℕ) (world : World) (i : ℕ) → Sure settings n r → Accepted r (routes input wanted time world) → i < settings .count →
       (input ≡ i → ⊥) → Alone i r (after r (routes input wanted time world))
   pub update-other :
-      (n : ℕ) (r : Reply) (input : ℕ) (kind : ExtraDelay) (time i : ℕ) → Sure settings n r → Accepted r (updates input kind time) → i < settings .count →
-      (input ≡ i → ⊥) → Alone i r (after r (updates input kind time))
+      (n : ℕ) (r : Reply) (input : ℕ) (setting : DelaySetting) (time i : ℕ) → Sure settings n r → Accepted r (updates input setting time) → i < settings .count →
+      (input ≡ i → ⊥) → Alone i r (after r (updates input setting time))

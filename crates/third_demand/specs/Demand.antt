@@ -37,7 +37,7 @@ RunsOn i r = goesOn (slotAt (r .inputs) i) ≡ true
 -- document 02, §7: the minute that a call brings, where it brings one, is in its range
 abbrev pub broughtFits : Call → Bool
 broughtFits (routes input wanted time world) = true
-broughtFits (updates input kind time) = true
+broughtFits (updates input setting time) = true
 broughtFits (ticks looks lags time minute) = minuteFits minute
 
 pub record Whole (night : Night) (calls : List Call) : Type 0 where
@@ -84,13 +84,13 @@ pub record InStretch (week : Week) (i L before : ℕ) (looks : List Look) (lags 
 -- what an accepted call of the stretch is: a tick of it, or a call for another input
 abbrev pub Goes : (week : Week) (i L before : ℕ) → Reply → Call → Type 0
 Goes week i L before r (routes input wanted time world) = input ≡ i → ⊥
-Goes week i L before r (updates input kind time) = input ≡ i → ⊥
+Goes week i L before r (updates input setting time) = input ≡ i → ⊥
 Goes week i L before r (ticks looks lags time minute) = InStretch week i L before looks lags time minute (after r (ticks looks lags time minute))
 
 -- the time of the stretch's last tick, after an accepted call
 abbrev pub tickTime : (before : ℕ) → Call → ℕ
 tickTime before (routes input wanted time world) = before
-tickTime before (updates input kind time) = before
+tickTime before (updates input setting time) = before
 tickTime before (ticks looks lags time minute) = time
 
 unfoldable pub lastTick : (before : ℕ) (r : Reply) (call : Call) → ℕ
