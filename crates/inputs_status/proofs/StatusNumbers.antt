@@ -19,5 +19,5 @@ status-showable s l input applied channels sized is-number passed =
     record {
       checked = checked s l Absent sized (told .0);
       input = told .1;
-      applied-most = leb-true _ _ (asked 9 _ _ (told .2) .0);
+      applied-most = leb-true _ _ (asked 9 _ _ (asked 21 _ _ (told .2) .1) .0);
     }

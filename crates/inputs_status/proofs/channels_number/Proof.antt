@@ -14,22 +14,22 @@ input-number-requires c κs = search needs
 
 returns : tie.Need-returns
 unfolding channelsNumber
-returns c = refused-by _ _ _ _ (@input-number .ensures .0) (@if1 .taken) _
+returns c = refused-by _ _ _ _ (c .before .input-number .ensures .0) (c .if1 .taken) _
 
 week-fits-requires : tie.Need-week-fits-requires
 week-fits-requires c κs = search needs
 
 returns-2 : tie.Need-returns-2
 unfolding channelsNumber
-returns-2 c = passed-by _ _ _ _ (@input-number .ensures .0) (@if1 .left) _ (no-ask 22 _ (told-no _ _ (@week-fits .ensures) (@if2 .taken)))
+returns-2 c = passed-by _ _ _ _ (c .before .before .before .before .input-number .ensures .0) (c .before .before .before .if1 .left) _ (no-ask 22 _ (told-no _ _ (c .before .week-fits .ensures) (c .if2 .taken)))
 
 returns-3 : tie.Need-returns-3
 unfolding channelsNumber
-returns-3 c = passed-by _ _ _ _ (@input-number .ensures .0) (@if1 .left) _ (yes-ask 22 _ (told-yes _ _ (@week-fits .ensures) (@if2 .left)) ∙ no-ask 10 0 (lt-leb _ _ (@if3 .taken)))
+returns-3 c = passed-by _ _ _ _ (c .before .before .before .before .before .input-number .ensures .0) (c .before .before .before .before .if1 .left) _ (yes-ask 22 _ (told-yes _ _ (c .before .before .week-fits .ensures) (c .before .if2 .left)) ∙ no-ask 10 0 (lt-leb _ _ (c .if3 .taken)))
 
 returns-4 : tie.Need-returns-4
 unfolding channelsNumber
-returns-4 c = passed-by _ _ _ _ (@input-number .ensures .0) (@if1 .left) _ (yes-ask 22 _ (told-yes _ _ (@week-fits .ensures) (@if2 .left)) ∙ yes-ask 10 0 (le-leb _ _ (@if3 .left)))
+returns-4 c = passed-by _ _ _ _ (c .before .before .before .before .before .input-number .ensures .0) (c .before .before .before .before .if1 .left) _ (yes-ask 22 _ (told-yes _ _ (c .before .before .week-fits .ensures) (c .before .if2 .left)) ∙ yes-ask 10 0 (le-leb _ _ (c .if3 .left)))
 
 pub channels-number-spec : {M : Type 1} → statement M
 channels-number-spec = tie.close (tie.spec input-number-requires returns week-fits-requires returns-2 returns-3 returns-4)

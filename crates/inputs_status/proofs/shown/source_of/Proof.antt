@@ -1,5 +1,7 @@
 -- `inputs_status::shown::source_of` meets its contract. Assumes nothing.
+use mathlib.Core.Path.{sym, ap}
 use borrow.Author.Needs.{needs}
+use Rattle.rules_calls.specs.Status.{sourceOf}
 use Rattle.rules_calls.proofs.StatusShows.{source-there}
 use Rattle.inputs_status.proofs.shown.source_of.Statement.{statement}
 use Rattle.inputs_status.proofs.shown.source_of.Tie as tie
@@ -11,7 +13,7 @@ enum-told : tie.Need-enum-told
 enum-told c = search needs
 
 returns : tie.Need-returns
-returns c = search needs
+returns c = sym (ap (sourceOf (c .before .before .args .inputs)) (c .enum-told .given .1))
 
 flow-at-requires : tie.Need-flow-at-requires
 flow-at-requires c κs = search needs
