@@ -6,11 +6,11 @@ use lib.Ieee.{Float}
 use Rattle.base.specs.Limits.{nanos}
 use Rattle.base.specs.Lists.{part}
 use Rattle.lag_window.specs.declared.LagWindow.{LagWindow}
-use Rattle.rules_window.specs.declared.Quantile.{Quantile}
-use Rattle.rules_window.specs.declared.Quantile.the-variants as Quantile
+use Rattle.rules_window.specs.declared.Ranked.{Ranked}
 use Rattle.base.specs.Rows.{spanOf}
 use Rattle.rules_window.specs.ColumnSums.{asOneSecond}
 use Rattle.rules_window.specs.Quantile.{quantileUpto, thousandths}
+use Rattle.rules_window.specs.Above.{rankedUpto}
 use Rattle.delay_hold.specs.declared.Lag.the-variants.{None}
 use Rattle.rules_record.specs.declared.Slot.{Slot}
 use Rattle.rules_record.specs.declared.Inputs.{Inputs}
@@ -27,9 +27,9 @@ module _ (s : Inputs) (slot : Slot) (i : ℕ) (starts sums : List ℕ) {w : LagW
   pub short-by : span < nanos → (totals counts times peaks : List ℕ) → OwnSums s (lists starts totals counts sums times peaks) i slot → None ≡ p999Of (s .policy) (windowFor s (lists starts totals counts sums times peaks) i slot)
   short-by h totals counts times peaks own = p999-short (s .policy) (windowFor s (lists starts totals counts sums times peaks) i slot) (subst (λ (x : ℕ). x < nanos) span-is h)
 
-  pub long-by : {x : Float} → x ≡ thousandths 999 → nanos ≤ span → {q : Quantile} → q ≡ quantileUpto x (reachOf (s .policy)) (asOneSecond (w .buckets) (w .width) (part (i * w .buckets) (w .buckets) sums)) → (totals counts times peaks : List ℕ)
-      → OwnSums s (lists starts totals counts sums times peaks) i slot → quantileLag q ≡ p999Of (s .policy) (windowFor s (lists starts totals counts sums times peaks) i slot)
+  pub long-by : {x : Float} → x ≡ thousandths 999 → nanos ≤ span → {r : Ranked} → r ≡ rankedUpto x (reachOf (s .policy)) (asOneSecond (w .buckets) (w .width) (part (i * w .buckets) (w .buckets) sums)) → (totals counts times peaks : List ℕ)
+      → OwnSums s (lists starts totals counts sums times peaks) i slot → quantileLag (r .quantile) ≡ p999Of (s .policy) (windowFor s (lists starts totals counts sums times peaks) i slot)
   unfolding bucketsIn
   long-by is-x h e totals counts times peaks own =
       p999-row (s .policy) (windowFor s (lists starts totals counts sums times peaks) i slot) (subst (λ (x : ℕ). nanos ≤ x) span-is h) own
-      (e ∙ (λ t. quantileUpto (is-x t) (reachOf (s .policy)) (asOneSecond (is-window t .buckets) (is-window t .width) (part (i * is-window t .buckets) (is-window t .buckets) sums))))
+      (ap (λ (x : Ranked). x .quantile) e ∙ (λ t. quantileUpto (is-x t) (reachOf (s .policy)) (asOneSecond (is-window t .buckets) (is-window t .width) (part (i * is-window t .buckets) (is-window t .buckets) sums))))

@@ -94,7 +94,8 @@ fn p999(inputs: Inputs, slot: Slot, i: usize, starts: &[u64], sums: &[u64]) -> L
         return Lag::None;
     }
     let limit = policy.read_offset + policy.delay_max;
-    let quantile = inputs_window::core::quantile_upto(window, i, 0.999, limit, sums);
+    let ranked = inputs_window::core::quantile_upto(window, i, 0.999, limit, sums);
+    let quantile = ranked.quantile;
     let Quantile::End(end) = quantile else {
         return Lag::None;
     };

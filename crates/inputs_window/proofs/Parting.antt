@@ -10,12 +10,13 @@ use Rattle.base.specs.Lists.{part, patched}
 use Rattle.base.proofs.Patch.{part-long}
 use Rattle.base.specs.Limits.{timeLimit, widthLimit, bucketsLimit}
 use Rattle.lag_window.specs.declared.LagWindow.{LagWindow}
-use Rattle.rules_window.specs.declared.Quantile.{Quantile}
+use Rattle.rules_window.specs.declared.Ranked.{Ranked}
 use Rattle.rules_window.specs.Window.{Window}
 use Rattle.lag_window.specs.Lent.{lent}
 use Rattle.rules_window.specs.WholeWindow.{wholeWindow, Shaped, Sound}
 use Rattle.rules_window.specs.Checks.{roomFor}
-use Rattle.rules_window.specs.Quantile.{quantileUpto, Placeable}
+use Rattle.rules_window.specs.Quantile.{Placeable}
+use Rattle.rules_window.specs.Above.{rankedUpto}
 use Rattle.rules_window.specs.ColumnSums.{columnSums, rightSums, asOneSecond}
 use Rattle.rules_window.specs.Parts.{partOf, placed, PartsIn}
 use Rattle.rules_window.proofs.Parting.{held-shaped, held-sound}
@@ -65,5 +66,5 @@ module _ (q : Float) (limit : ℕ) (j : ℕ) (w : LagWindow) (us : List ℕ) (m 
   pub part-quantile-asks : (w .buckets ≤ bucketsLimit) × (1 ≤ w .width) × (w .width ≤ widthLimit) → j * w .buckets + w .buckets ≤ length us → Placeable q limit (asOneSecond (w .buckets) (w .width) (part (j * w .buckets) (w .buckets) us)) → ((w .buckets ≤ bucketsLimit) × (1 ≤ w .width) × (w .width ≤ widthLimit)) × ((length (part (j * w .buckets) m us) ≡ w .buckets) × Placeable q limit (asOneSecond (w .buckets) (w .width) (part (j * w .buckets) m us)))
   part-quantile-asks sizes h p = (sizes, (rw em (part-long (j * w .buckets) (w .buckets) us h), rw em p))
 
-  pub part-quantile : (r : Quantile) → r ≡ quantileUpto q limit (asOneSecond (w .buckets) (w .width) (part (j * w .buckets) m us)) → r ≡ quantileUpto q limit (asOneSecond (w .buckets) (w .width) (part (j * w .buckets) (w .buckets) us))
+  pub part-quantile : (r : Ranked) → r ≡ rankedUpto q limit (asOneSecond (w .buckets) (w .width) (part (j * w .buckets) m us)) → r ≡ rankedUpto q limit (asOneSecond (w .buckets) (w .width) (part (j * w .buckets) (w .buckets) us))
   part-quantile r e = rw em at e

@@ -14,13 +14,14 @@ ghost use Rattle.lag_window.specs.Lent.{lent};
 ghost use Rattle.inputs_window.specs.Windows.{windowIn};
 ghost use Rattle.rules_window.specs.WholeWindow.{wholeWindow};
 ghost use Rattle.rules_window.specs.Checks.{roomFor};
-ghost use Rattle.rules_window.specs.Quantile.{quantileUpto, Placeable};
+ghost use Rattle.rules_window.specs.Quantile.{Placeable};
+ghost use Rattle.rules_window.specs.Above.{rankedUpto};
 ghost use Rattle.rules_window.specs.ColumnSums.{columnSums, rightSums, asOneSecond};
 ghost use Rattle.rules_window.specs.Parts.{partOf, placed, PartsIn};
 use lag_window::LagWindow;
 use policy::DelayPolicy;
 use rules_record::Slot;
-use rules_window::Quantile;
+use rules_window::Ranked;
 
 // The window of the input with this slot. The record itself is not handed on: it would be copied for each input.
 pub fn window_in(policy: DelayPolicy, width: u32, slot: Slot) -> LagWindow
@@ -162,12 +163,12 @@ pub fn span(window: LagWindow, j: usize, starts: &[u64]) -> u64
     base::core::span(window.seconds, &starts[a..e])
 }
 
-// The quantile q of the lags of input j up to limit: it reads the row of sums and nothing else.
-pub fn quantile_upto(window: LagWindow, j: usize, q: f64, limit: u32, sums: &[u64]) -> Quantile
+// The quantile q of the lags of input j up to limit, and how many of these are above it: it reads the row of sums and nothing else.
+pub fn quantile_upto(window: LagWindow, j: usize, q: f64, limit: u32, sums: &[u64]) -> Ranked
     requires { ⌜ (window .buckets ≤ bucketsLimit) × (1 ≤ window .width) × (window .width ≤ widthLimit) ⌝ }
     requires { ⌜ j * window .buckets + window .buckets ≤ length (now sums) ⌝ }
     requires { ⌜ Placeable q limit (asOneSecond (window .buckets) (window .width) (part (j * window .buckets) (window .buckets) (now sums))) ⌝ }
-    ensures { λ r. ⌜ r ≡ quantileUpto q limit (asOneSecond (window .buckets) (window .width) (part (j * window .buckets) (window .buckets) (now (sums .entry)))) ⌝ }
+    ensures { λ r. ⌜ r ≡ rankedUpto q limit (asOneSecond (window .buckets) (window .width) (part (j * window .buckets) (window .buckets) (now (sums .entry)))) ⌝ }
 {
     let buckets = window.buckets;
     let first = j * buckets;

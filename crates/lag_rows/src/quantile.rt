@@ -1,14 +1,17 @@
-// The quantile that a row of sums tells: nothing else is read. These functions ask something of their caller; the crates above use them after their checks.
+// The quantile that a row of sums tells, and how many lags are above it: nothing else is read. These functions ask something of their caller; the crates above use them after their checks.
 ghost use mathlib.Core.Path.{_≡_};
-ghost use Prim.Native.Nat.{_+_, _-_, _*_, _/_, _≤_, _<_, min};
+ghost use Prim.Native.Nat.{ℕ, _+_, _-_, _*_, _/_, _≤_, _<_, min};
 ghost use lib.ListN.{length};
 ghost use Rattle.base.specs.Limits.{widthLimit, bucketsLimit};
 ghost use Rattle.base.specs.Lists.{sumFrom};
-ghost use Rattle.rules_window.specs.Quantile.{running, reach, quantileUpto, Placeable};
+ghost use Rattle.rules_window.specs.declared.Found.the-variants.{At};
+ghost use Rattle.rules_window.specs.Quantile.{running, reach, Placeable};
+ghost use Rattle.rules_window.specs.Above.{rankedUpto};
 ghost use Rattle.rules_window.specs.ColumnSums.{asOneSecond};
 ghost use Rattle.lag_rows.specs.Blocks.{Blocks};
 use rules_window::Found;
 use rules_window::Quantile;
+use rules_window::Ranked;
 
 // The sum of n numbers from a on.
 fn sum_from(s: &[u64], a: usize, n: usize) -> u64
@@ -72,6 +75,12 @@ fn total_upto(buckets: usize, width: u32, limit: u32, sums: &[u64], blocks: &mut
     add_blocks(m, sums, blocks)
 }
 
+// A bucket that was searched for, and the running count up to and with it.
+struct Bucket {
+    found: Found,
+    seen: u64,
+}
+
 // The first bucket, of those from `from` on, where the running count reaches target; `before` is the running count up to there.
 fn reached_from(
     buckets: usize,
@@ -81,12 +90,13 @@ fn reached_from(
     from: usize,
     before: u64,
     sums: &[u64],
-) -> Found
+) -> Bucket
     requires { ⌜ (1 ≤ width) × (length (now sums) ≡ buckets) ⌝ }
     requires { ⌜ running limit width buckets 1 (now sums) buckets ≤ 47244640245 ⌝ }
     requires { ⌜ (from ≤ min buckets (limit / width + 1)) × (1 ≤ from → before < target) ⌝ }
     requires { ⌜ before ≡ running limit width buckets 1 (now sums) from ⌝ }
-    ensures { λ r. ⌜ r ≡ reach target limit width buckets 1 (now (sums .entry)) (buckets - from) from ⌝ }
+    ensures { λ r. ⌜ r .found ≡ reach target limit width buckets 1 (now (sums .entry)) (buckets - from) from ⌝ }
+    ensures { λ r. ⌜ ((b : ℕ) → r .found ≡ At b → r .seen ≡ running limit width buckets 1 (now (sums .entry)) (b + 1)) ⌝ }
 {
     let m = shown(buckets, width, limit);
     let mut seen: u64 = before;
@@ -94,11 +104,17 @@ fn reached_from(
     while b < m {
         seen += sums[b];
         if target <= seen {
-            return Found::At(b);
+            return Bucket {
+                found: Found::At(b),
+                seen,
+            };
         }
         b += 1;
     }
-    Found::Nowhere
+    Bucket {
+        found: Found::Nowhere,
+        seen,
+    }
 }
 
 // The first bucket where the running count reaches target: only the block of 64 buckets that reaches it is walked bucket by bucket.
@@ -109,11 +125,12 @@ fn reached(
     target: u64,
     sums: &[u64],
     blocks: &[u64],
-) -> Found
+) -> Bucket
     requires { ⌜ (1 ≤ width) × (buckets ≤ bucketsLimit) × (length (now sums) ≡ buckets) × (length (now blocks) ≡ 64) ⌝ }
     requires { ⌜ running limit width buckets 1 (now sums) buckets ≤ 47244640245 ⌝ }
     requires { ⌜ Blocks (min buckets (limit / width + 1)) (now sums) (now blocks) ⌝ }
-    ensures { λ r. ⌜ r ≡ reach target limit width buckets 1 (now (sums .entry)) buckets 0 ⌝ }
+    ensures { λ r. ⌜ r .found ≡ reach target limit width buckets 1 (now (sums .entry)) buckets 0 ⌝ }
+    ensures { λ r. ⌜ ((b : ℕ) → r .found ≡ At b → r .seen ≡ running limit width buckets 1 (now (sums .entry)) (b + 1)) ⌝ }
 {
     let m = shown(buckets, width, limit);
     let mut seen: u64 = 0;
@@ -131,21 +148,33 @@ fn reached(
     reached_from(buckets, width, limit, target, b, seen, sums)
 }
 
-// The quantile q of the lags up to limit: one pass sums the row, and the sums of its blocks lead to the bucket.
-pub fn quantile_upto(buckets: usize, width: u32, q: f64, limit: u32, sums: &[u64]) -> Quantile
+// The quantile q of the lags up to limit: one pass sums the row, and the sums of its blocks lead to the bucket. What is above it is the rest of the sum.
+pub fn quantile_upto(buckets: usize, width: u32, q: f64, limit: u32, sums: &[u64]) -> Ranked
     requires { ⌜ (buckets ≤ bucketsLimit) × (1 ≤ width) × (width ≤ widthLimit) ⌝ }
     requires { ⌜ length (now sums) ≡ buckets ⌝ }
     requires { ⌜ Placeable q limit (asOneSecond buckets width (now sums)) ⌝ }
-    ensures { λ r. ⌜ r ≡ quantileUpto q limit (asOneSecond buckets width (now (sums .entry))) ⌝ }
+    ensures { λ r. ⌜ r ≡ rankedUpto q limit (asOneSecond buckets width (now (sums .entry))) ⌝ }
 {
     let mut blocks = [0u64; 64];
     let total = total_upto(buckets, width, limit, sums, &mut blocks);
     if total == 0 {
-        return Quantile::None;
+        return Ranked {
+            quantile: Quantile::None,
+            above: 0,
+        };
     }
     let target = doubles::core::quantile_place(total, q);
-    let Found::At(b) = reached(buckets, width, limit, target, sums, &blocks) else {
-        return Quantile::None;
+    let bucket = reached(buckets, width, limit, target, sums, &blocks);
+    let found = bucket.found;
+    let Found::At(b) = found else {
+        return Ranked {
+            quantile: Quantile::None,
+            above: 0,
+        };
     };
-    Quantile::End(edge(b + 1, width))
+    let end = edge(b + 1, width);
+    Ranked {
+        quantile: Quantile::End(end),
+        above: total - bucket.seen,
+    }
 }

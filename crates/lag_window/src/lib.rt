@@ -4,6 +4,7 @@ ghost use Prim.Native.Nat.{_*_};
 ghost use Rattle.lag_window.specs.Lent.{lent, leftWindow};
 ghost use Rattle.rules_window.specs.Checks.{checked, fromZeroToOne, newNumber, pushNumber, quantileNumber, newReply, pushReply, clearReply, spanReply, quantileUptoReply, quantileReply};
 use rules_window::Quantile;
+use rules_window::Ranked;
 use rules_window::SpanAnswer;
 
 // Functions that ask something of their caller; the crates above use them after their checks.
@@ -250,7 +251,7 @@ impl LagWindow {
         0
     }
 
-    // The end of the bucket that holds quantile q of all lags. Lags beyond the window's range share its top bucket.
+    // The end of the bucket that holds quantile q of all lags, and how many lags are above it. Lags beyond the window's range share its top bucket.
     pub fn quantile(
         self,
         q: f64,
@@ -258,13 +259,13 @@ impl LagWindow {
         totals: &[u64],
         counts: &[u32],
         sums: &[u64],
-    ) -> Quantile
+    ) -> Ranked
         ensures { λ r. ⌜ r ≡ quantileReply q (lent self (now (starts .entry)) (now (totals .entry)) (now (counts .entry))) (now (sums .entry)) ⌝ }
     {
         self.quantile_upto(q, 4_294_967_295, starts, totals, counts, sums)
     }
 
-    // The end of the bucket that holds quantile q of the lags up to limit: a lag beyond it must not move an automatic delay.
+    // The end of the bucket that holds quantile q of the lags up to limit, and how many of these are above it: a lag beyond the limit must not move an automatic delay.
     pub fn quantile_upto(
         self,
         q: f64,
@@ -273,12 +274,15 @@ impl LagWindow {
         totals: &[u64],
         counts: &[u32],
         sums: &[u64],
-    ) -> Quantile
+    ) -> Ranked
         ensures { λ r. ⌜ r ≡ quantileUptoReply q limit (lent self (now (starts .entry)) (now (totals .entry)) (now (counts .entry))) (now (sums .entry)) ⌝ }
     {
         let number = self.quantile_number(q, starts, totals, counts, sums);
         if number != 0 {
-            return Quantile::Refused(number);
+            return Ranked {
+                quantile: Quantile::Refused(number),
+                above: 0,
+            };
         }
         lag_rows::quantile::quantile_upto(self.buckets, self.width, q, limit, sums)
     }

@@ -16,7 +16,8 @@ use Rattle.doubles.specs.Quantile.{targetOf}
 use Rattle.rules_window.specs.declared.Quantile.the-variants.{End, None, Refused}
 use Rattle.rules_window.specs.Window.{Window, windowed, fresh, cleared, inUse, laid, opened, dropped, bucketOf, counted, pushed, pushedAll}
 use Rattle.rules_window.specs.WholeWindow.{summed, wholeWindow}
-use Rattle.rules_window.specs.Quantile.{column, within, running, reach, quantileIn, quantileUpto, quantileOf}
+use Rattle.rules_window.specs.Quantile.{column, within, running, reach, quantileIn, quantileUpto, quantileOf, noLimit, thousandths}
+use Rattle.rules_window.specs.Above.{later, aboveOf, rankedUpto, rankedOf}
 use Rattle.rules_window.specs.ColumnSums.{columnSums, rightSums}
 use Rattle.rules_window.specs.Parts.{placed}
 use Rattle.rules_window.specs.Checks.{checked, fromZeroToOne, newNumber, quantileNumber, newReply, spanReply, answered, quantileReply, numberOf, valueOf}
@@ -66,14 +67,39 @@ unfolding padded sum bucketsOf fresh inUse laid opened dropped counted pushed pu
 quantile-without-limit = refl
 
 -- the call `quantile`, where its checks let it through, answers that one
-pub quantile-call-without-limit : (q : Float) (w : Window) (sums : List ℕ) → quantileNumber q w sums ≡ 0 → quantileReply q w sums ≡ quantileOf q w
+pub quantile-call-without-limit : (q : Float) (w : Window) (sums : List ℕ) → quantileNumber q w sums ≡ 0 → quantileReply q w sums ≡ record { quantile = quantileOf q w; above = aboveOf noLimit w (quantileOf q w) }
 unfolding quantileReply
-quantile-call-without-limit q w sums e = ap (λ (n : ℕ). answered n (quantileOf q w)) e
+quantile-call-without-limit q w sums e = ap (λ (n : ℕ). answered n (rankedOf q w)) e
 
 -- "Total 0: none": no lag at all, or none up to the limit
 pub quantile-of-none : quantileOf one (after []) ∷ quantileUpto one 9599 (after (9600 ∷ [])) ∷ [] ≡ None ∷ None ∷ []
 unfolding padded sum bucketsOf fresh inUse laid opened dropped counted pushed pushedAll column within running reach quantileIn targetOf ceilOf round mul ofInt
 quantile-of-none = refl
+
+-- "how many lags fall in the later of the counted buckets": of lags 0, 100 and 150 two are above the first bucket with limit 144, one with 143 and none with 95;
+-- one is above the bucket of 100, none above that of 150. "Where the quantile is none, the second is 0"
+pub above-in-counted-buckets :
+    rankedUpto (fin false 0 (pos 0)) 144 (after (0 ∷ 100 ∷ 150 ∷ []))
+    ∷ rankedUpto (fin false 0 (pos 0)) 143 (after (0 ∷ 100 ∷ 150 ∷ []))
+    ∷ rankedUpto (fin false 0 (pos 0)) 95 (after (0 ∷ 100 ∷ 150 ∷ []))
+    ∷ rankedUpto (thousandths 500) 144 (after (0 ∷ 100 ∷ 150 ∷ []))
+    ∷ rankedOf one (after (0 ∷ 100 ∷ 150 ∷ []))
+    ∷ rankedUpto one 95 (after (100 ∷ 150 ∷ []))
+    ∷ []
+    ≡ record { quantile = End 48; above = 2 }
+    ∷ record { quantile = End 48; above = 1 }
+    ∷ record { quantile = End 48; above = 0 }
+    ∷ record { quantile = End 144; above = 1 }
+    ∷ record { quantile = End 192; above = 0 }
+    ∷ record { quantile = None; above = 0 }
+    ∷ []
+unfolding padded sum bucketsOf fresh inUse laid opened dropped counted pushed pushedAll column within running reach quantileIn later thousandths targetOf ceilOf round mul ofInt
+above-in-counted-buckets = refl
+
+-- a refusal has nothing above it
+pub refused-with-none-above : quantileReply (fin false 1 (pos 1)) (fresh 3 4800) (columnSums (fresh 3 4800)) ≡ record { quantile = Refused 14; above = 0 }
+unfolding both ask sum all blankFrom sumFrom apart upTo fresh summed wholeWindow listed column columnSums rightSums widthAllowed bucketsFew bucketsAllowed checked fromZeroToOne quantileNumber quantileReply le
+refused-with-none-above = refl
 
 -- 14: "Is q from 0 to 1?": the double after 1, 2 and NaN are not
 pub q-from-0-to-1 :

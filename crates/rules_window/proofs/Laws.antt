@@ -27,7 +27,8 @@ use Rattle.rules_window.specs.Window.{Window, fresh, cleared, opens, cou
 use Rattle.rules_window.specs.WholeWindow.{Shaped, Sound}
 use Rattle.rules_window.specs.InPlace.{droppedInPlace, openedInPlace, pushedInPlace}
 use Rattle.rules_window.specs.Checks.{newest, newestOf, roomFor, quantileNumber, quantileUptoReply, answered, numberOf, valueOf}
-use Rattle.rules_window.specs.Quantile.{column, within, running, reach, endOf, quantileIn, quantileUpto, lagsIn, totalUpto, Placeable}
+use Rattle.rules_window.specs.Quantile.{column, within, running, reach, endOf, quantileIn, quantileUpto, lagsIn, countedTo, totalUpto, Placeable}
+use Rattle.rules_window.specs.Above.{rankedUpto}
 use Rattle.rules_window.proofs.WholeAt.{Whole, whole-of, of-whole, later, span-ends}
 use Rattle.rules_window.proofs.Keeps.{dropped-whole, opened-whole, opened-yes-is, opened-no-is, near}
 use Rattle.rules_window.proofs.InUse.{in-place}
@@ -177,6 +178,12 @@ pub record Holds (limit : ℕ) (w : Window) (b : ℕ) : Type 0 where
   pub shown : b * w .width ≤ limit
   pub some : 0 < lagsIn w b
 
+-- bucket b is the first whose running count reaches the place of q
+pub record First (q : Float) (limit : ℕ) (w : Window) (b : ℕ) : Type 0 where
+  pub inside : b < w .buckets
+  pub before : countedTo limit w b < places.targetOf (totalUpto limit w) q
+  pub reached : places.targetOf (totalUpto limit w) q ≤ countedTo limit w (b + 1)
+
 module _ (limit W B n : ℕ) (cs : List ℕ) where
   running-next : (b : ℕ) → running limit W B n cs (b + 1) ≡ running limit W B n cs b + within limit W B n cs b
   unfolding running sum
@@ -214,10 +221,10 @@ module _ (limit W B n : ℕ) (cs : List ℕ) where
         go false g = g
 
 module _ (q : Float) (limit : ℕ) (w : Window) where
-  -- a quantile is the end of a counted bucket that holds a lag
-  pub quantile-bucket : (e : ℕ) → quantileUpto q limit w ≡ End e → (b : ℕ) × ((Holds limit w b) × (e ≡ (b + 1) * w .width))
+  -- a quantile is the end of the first bucket whose running count reaches its place
+  pub quantile-first : (e : ℕ) → quantileUpto q limit w ≡ End e → (b : ℕ) × ((First q limit w b) × (e ≡ (b + 1) * w .width))
   unfolding quantileIn
-  quantile-bucket e h = go (eqb total 0) (reach target limit (w .width) (w .buckets) (w .seconds) (w .counts) (w .buckets) 0) refl h
+  quantile-first e h = go (eqb total 0) (reach target limit (w .width) (w .buckets) (w .seconds) (w .counts) (w .buckets) 0) refl h
     where
       total : ℕ
       total = totalUpto limit w
@@ -225,20 +232,24 @@ module _ (q : Float) (limit : ℕ) (w : Window) where
       target : ℕ
       target = places.targetOf total q
 
-      at : ℕ → ℕ
-      at b = running limit (w .width) (w .buckets) (w .seconds) (w .counts) b
+      first : (b : ℕ) → reach target limit (w .width) (w .buckets) (w .seconds) (w .counts) (w .buckets) 0 ≡ At b → First q limit w b
+      first b f =
+          let found = found-first limit (w .width) (w .buckets) (w .seconds) (w .counts) target (w .buckets) 0 b (omega (arith, place-at-least total q, running-none limit (w .width) (w .buckets) (w .seconds) (w .counts))) f in
+          record { inside = omega (arith, found-below target limit (w .width) (w .buckets) (w .seconds) (w .counts) (w .buckets) 0 b f); before = found .0; reached = found .1 }
 
-      holds : (b : ℕ) → reach target limit (w .width) (w .buckets) (w .seconds) (w .counts) (w .buckets) 0 ≡ At b → Holds limit w b
-      holds b f =
-          let first = found-first limit (w .width) (w .buckets) (w .seconds) (w .counts) target (w .buckets) 0 b (omega (arith, place-at-least total q, running-none limit (w .width) (w .buckets) (w .seconds) (w .counts))) f in
-          let more = running-next limit (w .width) (w .buckets) (w .seconds) (w .counts) b in
-          let k = within-some limit (w .width) (w .buckets) (w .seconds) (w .counts) b (omega (arith, first .0, first .1, more)) in
-          record { inside = omega (arith, found-below target limit (w .width) (w .buckets) (w .seconds) (w .counts) (w .buckets) 0 b f); shown = k .0; some = k .1 }
-
-      go : (y : Bool) (f : Found) → reach target limit (w .width) (w .buckets) (w .seconds) (w .counts) (w .buckets) 0 ≡ f → pick y None (endOf (w .width) f) ≡ End e → (b : ℕ) × ((Holds limit w b) × (e ≡ (b + 1) * w .width))
+      go : (y : Bool) (f : Found) → reach target limit (w .width) (w .buckets) (w .seconds) (w .counts) (w .buckets) 0 ≡ f → pick y None (endOf (w .width) f) ≡ End e → (b : ℕ) × ((First q limit w b) × (e ≡ (b + 1) * w .width))
       go true f r k = let z : _≡_ {A = ℕ} 0 1 = cc in absurd (omega arith)
-      go false (At b) r k = (b, (holds b r, cc))
+      go false (At b) r k = (b, (first b r, cc))
       go false Nowhere r k = let z : _≡_ {A = ℕ} 0 1 = cc in absurd (omega arith)
+
+  -- that bucket is counted, and holds a lag
+  pub first-holds : (b : ℕ) → First q limit w b → Holds limit w b
+  first-holds b f =
+      let k = within-some limit (w .width) (w .buckets) (w .seconds) (w .counts) b (omega (arith, f .before, f .reached, running-next limit (w .width) (w .buckets) (w .seconds) (w .counts) b)) in
+      record { inside = f .inside; shown = k .0; some = k .1 }
+
+  pub quantile-bucket : (e : ℕ) → quantileUpto q limit w ≡ End e → (b : ℕ) × ((Holds limit w b) × (e ≡ (b + 1) * w .width))
+  quantile-bucket e h = let s = quantile-first e h in (s .0, (first-holds (s .0) (s .1 .0), s .1 .1))
 
   -- so it is never above the end of the last counted bucket that holds a lag
   pub quantile-at-most : (e last : ℕ) → quantileUpto q limit w ≡ End e → ((b : ℕ) → Holds limit w b → b ≤ last) → e ≤ (last + 1) * w .width
@@ -285,18 +296,27 @@ module _ (q : Float) (limit : ℕ) (w : Window) where
       go false Nowhere = inl refl
 
   -- the answer has document 01's number, and its value where that is 0, else the value 0
-  pub reply-number : (sums : List ℕ) → numberOf (quantileUptoReply q limit w sums) ≡ quantileNumber q w sums
+  pub reply-number : (sums : List ℕ) → numberOf (quantileUptoReply q limit w sums .quantile) ≡ quantileNumber q w sums
   unfolding quantileUptoReply
   reply-number sums = by-number (quantileNumber q w sums)
     where
-      by-number : (n : ℕ) → numberOf (answered n (quantileUpto q limit w)) ≡ n
+      by-number : (n : ℕ) → numberOf (answered n (rankedUpto q limit w) .quantile) ≡ n
       by-number zero = ⊎-elim (λ e. ap numberOf e) (λ found. ap numberOf (found .1)) quantile-cases
       by-number (suc n) = refl
 
-  pub reply-value : (sums : List ℕ) → valueOf (quantileUptoReply q limit w sums) ≡ accepted (quantileNumber q w sums) 0 (valueOf (quantileUpto q limit w))
+  pub reply-value : (sums : List ℕ) → valueOf (quantileUptoReply q limit w sums .quantile) ≡ accepted (quantileNumber q w sums) 0 (valueOf (quantileUpto q limit w))
   unfolding quantileUptoReply
   reply-value sums = by-number (quantileNumber q w sums)
     where
-      by-number : (n : ℕ) → valueOf (answered n (quantileUpto q limit w)) ≡ accepted n 0 (valueOf (quantileUpto q limit w))
+      by-number : (n : ℕ) → valueOf (answered n (rankedUpto q limit w) .quantile) ≡ accepted n 0 (valueOf (quantileUpto q limit w))
+      by-number zero = refl
+      by-number (suc n) = refl
+
+  -- what lies above it where the number is 0, else 0
+  pub reply-above : (sums : List ℕ) → quantileUptoReply q limit w sums .above ≡ accepted (quantileNumber q w sums) 0 (rankedUpto q limit w .above)
+  unfolding quantileUptoReply
+  reply-above sums = by-number (quantileNumber q w sums)
+    where
+      by-number : (n : ℕ) → answered n (rankedUpto q limit w) .above ≡ accepted n 0 (rankedUpto q limit w .above)
       by-number zero = refl
       by-number (suc n) = refl

@@ -1,4 +1,5 @@
 -- Laws of a window.
+pub mod Above
 pub mod Answers
 pub mod Checking
 pub mod ColumnSums

@@ -10,7 +10,7 @@ use lib.ListN.{length}
 use Rattle.base.specs.Choice.{ask}
 use Rattle.base.proofs.Choices.{asked, yes-ask, no-ask, refused-old}
 use Rattle.base.proofs.Points.{both-true}
-use Rattle.rules_window.specs.declared.Quantile.{Quantile}
+use Rattle.rules_window.specs.declared.Ranked.{Ranked}
 use Rattle.rules_window.specs.declared.Quantile.the-variants.{Refused}
 use Rattle.base.specs.Rows.{spanOf}
 use Rattle.base.specs.Limits.{samplesLimit, timeLimit, widthLimit, bucketsLimit}
@@ -18,13 +18,14 @@ use Rattle.buckets.specs.Ranges.{bucketsOf}
 use Rattle.buckets.proofs.Told.{width-told, buckets-told, buckets-some, ranges-told}
 use Rattle.rules_window.specs.Window.{Window, windowed, fresh, cleared, pushed}
 use Rattle.rules_window.specs.WholeWindow.{Shaped, Sound}
-use Rattle.rules_window.specs.Quantile.{quantileUpto, Placeable}
+use Rattle.rules_window.specs.Quantile.{Placeable}
+use Rattle.rules_window.specs.Above.{rankedUpto}
 use Rattle.rules_window.specs.ColumnSums.{columnSums, asOneSecond}
 use Rattle.rules_window.specs.Checks.{checked, newest, roomFor, fromZeroToOne, newNumber, pushNumber, quantileNumber, replied, nothing, newReply, pushReply, clearReply, spanReply, answered, quantileUptoReply}
 use Rattle.rules_window.proofs.WholeAt.{whole-of}
 use Rattle.rules_window.proofs.Totals.{total-few}
 use Rattle.rules_window.proofs.ColumnSums.{sums-length, right-are-own}
-use Rattle.rules_window.proofs.OneSecond.{row-placeable, same-quantile}
+use Rattle.rules_window.proofs.OneSecond.{row-placeable, same-ranked}
 use Rattle.doubles.proofs.Values.{is}
 
 -- ---- 17, 18, 5 and 6, and then the rest
@@ -162,23 +163,23 @@ module _ (w : Window) (sums : List ℕ) (n : ℕ) where
   unfolding spanReply
   span-made a e z h = rw (← e, z, h)
 
-  pub quantile-refused : (q : Float) (limit : ℕ) → n ≡ quantileNumber q w sums → (n ≡ 0 → ⊥) → Refused n ≡ quantileUptoReply q limit w sums
+  pub quantile-refused : (q : Float) (limit : ℕ) → n ≡ quantileNumber q w sums → (n ≡ 0 → ⊥) → record { quantile = Refused n; above = 0 } ≡ quantileUptoReply q limit w sums
   unfolding quantileUptoReply
   quantile-refused q limit e h = go n e h
     where
-      go : (k : ℕ) → k ≡ quantileNumber q w sums → (k ≡ 0 → ⊥) → Refused k ≡ answered (quantileNumber q w sums) (quantileUpto q limit w)
+      go : (k : ℕ) → k ≡ quantileNumber q w sums → (k ≡ 0 → ⊥) → record { quantile = Refused k; above = 0 } ≡ answered (quantileNumber q w sums) (rankedUpto q limit w)
       go zero e h = absurd (h refl)
       go (suc k) e h = rw (← e)
 
-  -- the quantile of the row of sums is that of the window
-  pub quantile-made : (q : Float) (limit : ℕ) (r : Quantile) → n ≡ quantileNumber q w sums → n ≡ 0 → r ≡ quantileUpto q limit (asOneSecond (w .buckets) (w .width) sums) → r ≡ quantileUptoReply q limit w sums
+  -- the quantile of the row of sums is that of the window, and so is what lies above it
+  pub quantile-made : (q : Float) (limit : ℕ) (r : Ranked) → n ≡ quantileNumber q w sums → n ≡ 0 → r ≡ rankedUpto q limit (asOneSecond (w .buckets) (w .width) sums) → r ≡ quantileUptoReply q limit w sums
   unfolding quantileUptoReply quantileNumber
   quantile-made q limit r e z h =
       let own : sums ≡ columnSums w = passed w sums _ (sym e ∙ z) .0 .1 in
       h
-      ∙ (ap (λ (us : List ℕ). quantileUpto q limit (asOneSecond (w .buckets) (w .width) us)) own
-      ∙ (same-quantile w limit q
-      ∙ ap (λ (k : ℕ). answered k (quantileUpto q limit w)) (sym (sym e ∙ z))))
+      ∙ (ap (λ (us : List ℕ). rankedUpto q limit (asOneSecond (w .buckets) (w .width) us)) own
+      ∙ (same-ranked w limit q
+      ∙ ap (λ (k : ℕ). answered k (rankedUpto q limit w)) (sym (sym e ∙ z))))
 
 -- ---- the numbers of push and of the quantiles
 module _ (time : ℕ) (w : Window) (sums : List ℕ) (n : ℕ) (e : n ≡ checked w sums 0) where

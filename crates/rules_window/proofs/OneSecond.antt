@@ -1,4 +1,4 @@
--- The quantile of a window is that of its row of sums, read as one second. Assumes nothing.
+-- The quantile of a window, and how many lags are above it, are those of its row of sums, read as one second. Assumes nothing.
 use Prim.Native.Nat.{ℕ, zero, suc, _+_, _*_, _<_, _≤_}
 use mathlib.Core.Path.{_≡_, refl, sym, ap, subst, _∙_}
 use mathlib.Core.List.{List}
@@ -11,11 +11,12 @@ use Rattle.base.specs.Lists.{sum}
 use Rattle.base.proofs.Points.{sum-cong}
 use Rattle.doubles.specs.Quantile as places
 use Rattle.rules_window.specs.declared.Quantile.{Quantile}
-use Rattle.rules_window.specs.declared.Quantile.the-variants.{None}
+use Rattle.rules_window.specs.declared.Quantile.the-variants.{End, None, Refused}
 use Rattle.rules_window.specs.declared.Found.{Found}
 use Rattle.rules_window.specs.declared.Found.the-variants.{At}
 use Rattle.rules_window.specs.Window.{Window}
-use Rattle.rules_window.specs.Quantile.{column, within, running, reach, endOf, quantileIn, quantileUpto, lagsIn, totalUpto, Placeable}
+use Rattle.rules_window.specs.Quantile.{column, within, running, reach, endOf, quantileIn, quantileUpto, lagsIn, countedTo, totalUpto, Placeable}
+use Rattle.rules_window.specs.Above.{later, aboveOf, rankedUpto}
 use Rattle.rules_window.specs.ColumnSums.{columnSums, asOneSecond}
 use Rattle.rules_window.proofs.ColumnSums.{sums-at}
 
@@ -33,10 +34,7 @@ module _ (w : Window) where
   same-lags b l = one-column (w .buckets) b (columnSums w) ∙ sums-at w b l
 
   module _ (limit : ℕ) where
-    abbrev counted : Window → ℕ → ℕ
-    counted v m = running limit (v .width) (v .buckets) (v .seconds) (v .counts) m
-
-    same-running : (m : ℕ) → m ≤ w .buckets → counted summedUp m ≡ counted w m
+    same-running : (m : ℕ) → m ≤ w .buckets → countedTo limit summedUp m ≡ countedTo limit w m
     unfolding running within
     same-running m h = sum-cong _ _ m (λ b l. ap (λ (x : ℕ). pick (leb (b * w .width) limit) x 0) (same-lags b (omega arith)))
 
@@ -64,3 +62,15 @@ module _ (w : Window) where
         let t = same-total in
         let r : (n : ℕ) → reached summedUp (places.targetOf n q) (w .buckets) 0 ≡ reached w (places.targetOf n q) (w .buckets) 0 = λ n. same-reach (places.targetOf n q) (w .buckets) 0 (omega arith) in
         (λ i. pick (eqb (t i) 0) None (endOf (w .width) (r (t i) i)))
+
+    same-above : (found : Quantile) → aboveOf limit summedUp found ≡ aboveOf limit w found
+    unfolding later within
+    same-above (End e) = sum-cong _ _ (w .buckets) (λ b l. ap (λ (x : ℕ). pick (leb e (b * w .width)) (pick (leb (b * w .width) limit) x 0) 0) (same-lags b l))
+    same-above None = refl
+    same-above (Refused number) = refl
+
+    pub same-ranked : (q : Float) → rankedUpto q limit summedUp ≡ rankedUpto q limit w
+    same-ranked q =
+        let e = same-quantile q in
+        let a = ap (aboveOf limit summedUp) e ∙ same-above (quantileUpto q limit w) in
+        (λ i. record { quantile = e i; above = a i })

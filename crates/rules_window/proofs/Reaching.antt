@@ -41,9 +41,13 @@ pub running-none : (limit W B n : ℕ) (cs : List ℕ) → 0 ≡ running limit W
 unfolding running
 running-none limit W B n cs = sum-none _
 
-running-rises : (limit W B n : ℕ) (cs : List ℕ) (b c : ℕ) → b ≤ c → running limit W B n cs b ≤ running limit W B n cs c
+pub running-rises : (limit W B n : ℕ) (cs : List ℕ) (b c : ℕ) → b ≤ c → running limit W B n cs b ≤ running limit W B n cs c
 unfolding running
 running-rises limit W B n cs b c h = sum-rises (within limit W B n cs) b c h
+
+-- none is more than the total
+pub seen-few : (limit W B n : ℕ) (cs : List ℕ) (b seen total : ℕ) → b < B → seen ≡ running limit W B n cs (b + 1) → total ≡ running limit W B n cs B → seen ≤ total
+seen-few limit W B n cs b seen total l es et = omega (arith, running-rises limit W B n cs (b + 1) B (omega arith))
 
 -- ---- the buckets that start at most at the limit are the first min B (limit / W + 1) of a row of sums
 module _ (limit W B : ℕ) (us : List ℕ) (pos : 1 ≤ W) (m : ℕ) (em : m ≡ min B (limit / W + 1)) where
@@ -74,6 +78,10 @@ module _ (limit W B : ℕ) (us : List ℕ) (pos : 1 ≤ W) (m : ℕ) (em : m ≡
   pub running-more : (b s v : ℕ) → s ≡ running limit W B 1 us b → v ≡ getD us b 0 → b < m → s + v ≡ running limit W B 1 us (b + 1)
   unfolding running
   running-more b s v e h l = sum-more (within limit W B 1 us) b s v e (h ∙ sym (within-shown b l))
+
+  -- .. at the bucket that is found
+  pub running-found : (b s v : ℕ) → s ≡ running limit W B 1 us b → v ≡ getD us b 0 → b < m → (c : ℕ) → At b ≡ At c → s + v ≡ running limit W B 1 us (c + 1)
+  running-found b s v e h l c f = let q : b ≡ c = cc in rw (← q) (running-more b s v e h l)
 
   -- no part of the row, and no running count, is more than the total
   module _ (most : ℕ) (few : running limit W B 1 us B ≤ most) where
@@ -129,6 +137,10 @@ module _ (limit W B : ℕ) (us : List ℕ) (pos : 1 ≤ W) (m : ℕ) (em : m ≡
         done g = let q : B - b ≡ 0 = omega arith in sym (inv ∙ rw q)
 
 -- ---- the quantile
+-- nothing is asked where no bucket is found
+pub not-found : {P : Type 0} (b : ℕ) → Nowhere ≡ At b → P
+not-found b e = let z : _≡_ {A = ℕ} 0 1 = cc in absurd (omega arith)
+
 -- a bucket that is found is one of the buckets
 pub found-below : (target limit W B n : ℕ) (cs : List ℕ) (d c b : ℕ) → reach target limit W B n cs d c ≡ At b → b < c + d
 unfolding reach

@@ -8,6 +8,7 @@ use lib.Ieee.{Float, fin, le}
 use lib.ListN.{length, getD}
 use Rattle.base.specs.Choice.{pick, both, ask, accepted}
 use Rattle.rules_window.specs.declared.SpanAnswer.{SpanAnswer}
+use Rattle.rules_window.specs.declared.Ranked.{Ranked}
 use Rattle.rules_window.specs.declared.Quantile.{Quantile}
 use Rattle.rules_window.specs.declared.Quantile.the-variants.{End, None, Refused}
 use Rattle.base.specs.Limits.{timely}
@@ -15,7 +16,7 @@ use Rattle.base.specs.Rows.{spanOf}
 use Rattle.buckets.specs.Ranges.{widthAllowed, bucketsOf, bucketsAllowed, rangesNumber}
 use Rattle.rules_window.specs.Window.{Window, fresh, cleared, opens, pushed}
 use Rattle.rules_window.specs.WholeWindow.{wholeWindow}
-use Rattle.rules_window.specs.Quantile.{quantileUpto, quantileOf}
+use Rattle.rules_window.specs.Above.{rankedUpto, rankedOf}
 use Rattle.rules_window.specs.ColumnSums.{columnSums, rightSums}
 
 -- what every call on a window asks: 17 ("W outside 1 to 4,800"), 18 ("more than 4,096 buckets", or none),
@@ -91,16 +92,16 @@ clearReply w sums = replied (checked w sums 0) w sums (cleared w)
 unfoldable pub spanReply : (w : Window) (sums : List ℕ) → SpanAnswer
 spanReply w sums = record { number = checked w sums 0; span = accepted (checked w sums 0) 0 (spanOf (w .seconds) (w .starts)) }
 
--- the answer of a quantile whose checks gave this number: the quantile where it is 0, else the number
-abbrev pub answered : ℕ → (found : Quantile) → Quantile
+-- the answer of a quantile whose checks gave this number: both its numbers where that is 0, else the number, and nothing above
+abbrev pub answered : ℕ → (found : Ranked) → Ranked
 answered zero found = found
-answered (suc k) found = Refused (suc k)
+answered (suc k) found = record { quantile = Refused (suc k); above = 0 }
 
-unfoldable pub quantileUptoReply : (q : Float) (limit : ℕ) (w : Window) (sums : List ℕ) → Quantile
-quantileUptoReply q limit w sums = answered (quantileNumber q w sums) (quantileUpto q limit w)
+unfoldable pub quantileUptoReply : (q : Float) (limit : ℕ) (w : Window) (sums : List ℕ) → Ranked
+quantileUptoReply q limit w sums = answered (quantileNumber q w sums) (rankedUpto q limit w)
 
-unfoldable pub quantileReply : (q : Float) (w : Window) (sums : List ℕ) → Quantile
-quantileReply q w sums = answered (quantileNumber q w sums) (quantileOf q w)
+unfoldable pub quantileReply : (q : Float) (w : Window) (sums : List ℕ) → Ranked
+quantileReply q w sums = answered (quantileNumber q w sums) (rankedOf q w)
 
 -- document 01's number of each answer, and its value, a bucket's end (0 where there is none)
 abbrev pub numberOf : Quantile → ℕ

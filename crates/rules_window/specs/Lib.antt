@@ -1,6 +1,7 @@
 -- The rules of a lag window (document 01, "LagWindow").
 pub mod Window
 pub mod Quantile
+pub mod Above
 pub mod ColumnSums
 pub mod WholeWindow
 pub mod Checks

@@ -47,20 +47,27 @@ quantileIn q limit width buckets n counts =
 unfoldable pub thousandths : ℕ → Float
 thousandths k = round binary64 false k 1000
 
+-- what stands for no limit: no lag is above it
+abbrev pub noLimit : ℕ
+noLimit = 4294967295
+
 -- `quantile_upto`, and `quantile`, which has no limit
 abbrev pub quantileUpto : (q : Float) (limit : ℕ) (w : Window) → Quantile
 quantileUpto q limit w = quantileIn q limit (w .width) (w .buckets) (w .seconds) (w .counts)
 
 abbrev pub quantileOf : (q : Float) (w : Window) → Quantile
-quantileOf q w = quantileUpto q 4294967295 w
+quantileOf q w = quantileUpto q noLimit w
 
 -- the lags of bucket b in all seconds of a window
 abbrev pub lagsIn : (w : Window) (b : ℕ) → ℕ
 lagsIn w b = column (w .buckets) b (w .seconds) (w .counts)
 
--- all the lags that `quantile_upto` counts
+-- the lags that `quantile_upto` counts in the first m buckets, and all of them
+abbrev pub countedTo : (limit : ℕ) (w : Window) (m : ℕ) → ℕ
+countedTo limit w m = running limit (w .width) (w .buckets) (w .seconds) (w .counts) m
+
 abbrev pub totalUpto : (limit : ℕ) (w : Window) → ℕ
-totalUpto limit w = running limit (w .width) (w .buckets) (w .seconds) (w .counts) (w .buckets)
+totalUpto limit w = countedTo limit w (w .buckets)
 
 -- what the place of q among these lags is asked for: they are few enough, and q is from 0 to 1
 abbrev pub Placeable : Float → ℕ → Window → Type 0

@@ -28,7 +28,7 @@ enum-known-quantile : tie.Need-enum-known-quantile
 enum-known-quantile c = search needs
 
 returns-2 : tie.Need-returns-2
-returns-2 c = λ totals counts times peaks own. none-told (c .before .quantile-upto .result) (c .match .keys2) ∙ long-by (c .before .before .before .before .before .before .before .before .before .args .inputs) (c .before .before .before .before .before .before .before .before .before .args .slot) _ _ _ (c .before .before .before .before .before .window-in .ensures) (c .before .before .before .before .span .ensures) highest-is (c .before .before .before .if1 .left) (c .before .quantile-upto .ensures) totals counts times peaks own
+returns-2 c = λ totals counts times peaks own. none-told (c .before .quantile-upto .result .quantile) (c .match .keys2) ∙ long-by (c .before .before .before .before .before .before .before .before .before .args .inputs) (c .before .before .before .before .before .before .before .before .before .args .slot) _ _ _ (c .before .before .before .before .before .window-in .ensures) (c .before .before .before .before .span .ensures) highest-is (c .before .before .before .if1 .left) (c .before .quantile-upto .ensures) totals counts times peaks own
 
 returns-3 : tie.Need-returns-3
 returns-3 c = λ totals counts times peaks own. sym (ap quantileLag (c .before .quantile .given .1)) ∙ long-by (c .before .before .before .before .before .before .before .before .before .before .before .args .inputs) (c .before .before .before .before .before .before .before .before .before .before .before .args .slot) _ _ _ (c .before .before .before .before .before .before .before .window-in .ensures) (c .before .before .before .before .before .before .span .ensures) highest-is (c .before .before .before .before .before .if1 .left) (c .before .before .before .quantile-upto .ensures) totals counts times peaks own

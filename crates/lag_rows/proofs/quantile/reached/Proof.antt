@@ -29,11 +29,11 @@ reached-spec =
     (λ c. omega arith)  -- shared-slice-read-more
     (λ c. omega (arith, block-few _ _ _ _ (c .before .before .before .before .before .before .pre .0 .0) _ (c .before .before .before .shown .ensures) _ (c .before .before .before .before .before .before .pre .1 .0) _ 64 _ (c .before .before .loop .inv .2) (c .before .loop-test .taken), kept-at _ _ _ _ _ _ (c .before .before .before .before .before .before .pre .1 .1) (c .before .before .before .shown .ensures) (c .before .before .loop .inv .1) (c .before .loop-test .taken)))  -- add-if1
     (λ c κs. (omega arith, (c .before .before .before .before .before .before .before .pre .1 .0, ((omega arith, c .before .before .before .loop .inv .3), c .before .before .before .loop .inv .2))))  -- reached-from-requires
-    (λ c. c .reached-from .ensures ∙ sym (c .before .before .before .before .loop .inv .4))  -- returns
+    (λ c. (c .reached-from .ensures .0 ∙ sym (c .before .before .before .before .loop .inv .4), c .reached-from .ensures .1))  -- returns
     (λ c. omega (arith, block-few _ _ _ _ (c .before .before .before .before .before .before .before .pre .0 .0) _ (c .before .before .before .before .shown .ensures) _ (c .before .before .before .before .before .before .before .pre .1 .0) _ 64 _ (c .before .before .before .loop .inv .2) (c .before .before .loop-test .taken), kept-at _ _ _ _ _ _ (c .before .before .before .before .before .before .before .pre .1 .1) (c .before .before .before .before .shown .ensures) (c .before .before .before .loop .inv .1) (c .before .before .loop-test .taken)))  -- add-seen
     (λ c. omega arith)  -- add-i
     (λ c. omega arith)  -- add-b
     (λ c. omega arith)  -- loop-less
     (λ c. (omega arith, omega arith, running-block _ _ _ _ (c .before .before .before .before .before .before .before .pre .0 .0) _ (c .before .before .before .before .shown .ensures) _ 64 _ _ (c .before .before .before .loop .inv .2) (kept-at _ _ _ _ _ _ (c .before .before .before .before .before .before .before .pre .1 .1) (c .before .before .before .before .shown .ensures) (c .before .before .before .loop .inv .1) (c .before .before .loop-test .taken)) (c .before .before .loop-test .taken), (λ h. omega arith), reach-block _ _ _ _ (c .before .before .before .before .before .before .before .pre .0 .0) _ (c .before .before .before .before .shown .ensures) _ _ _ (c .before .before .before .loop .inv .4) 64 _ _ (c .before .before .before .loop .inv .2) (kept-at _ _ _ _ _ _ (c .before .before .before .before .before .before .before .pre .1 .1) (c .before .before .before .before .shown .ensures) (c .before .before .before .loop .inv .1) (c .before .before .loop-test .taken)) (c .before .before .loop-test .taken) (c .if1 .left)))  -- loop-again
     (λ c κs. (omega arith, (c .before .before .before .before .before .pre .1 .0, ((omega arith, c .before .loop .inv .3), c .before .loop .inv .2))))  -- reached-from-requires-2
-    (λ c. c .reached-from2 .ensures ∙ sym (c .before .before .loop .inv .4)))  -- returns-2
+    (λ c. (c .reached-from2 .ensures .0 ∙ sym (c .before .before .loop .inv .4), c .reached-from2 .ensures .1)))  -- returns-2

@@ -4,7 +4,7 @@ use mathlib.Core.Path.{_≡_, refl}
 use native.Mathlib.Omega.{arith}
 use borrow.Author.Needs.{needs}
 use Rattle.rules_window.specs.Quantile.{running, reach}
-use Rattle.rules_window.proofs.Reaching.{running-more, next-few, reach-more, reach-stop, reach-past}
+use Rattle.rules_window.proofs.Reaching.{running-more, running-found, not-found, next-few, reach-more, reach-stop, reach-past}
 use Rattle.lag_rows.proofs.quantile.reached_from.Statement.{statement}
 use Rattle.lag_rows.proofs.quantile.reached_from.Tie as tie
 
@@ -25,8 +25,8 @@ reached-from-spec =
     (λ c. search needs)  -- mul-seen
     (λ c. omega arith)  -- shared-slice-read-seen
     (λ c. omega (arith, next-few _ _ _ _ (c .before .before .before .before .before .pre .0 .0) _ (c .before .before .before .shown .ensures) _ (c .before .before .before .before .before .pre .1 .0) _ _ _ (c .before .before .loop .inv .1) refl (c .before .loop-test .taken)))  -- add-seen
-    (λ c. reach-stop _ _ _ _ (c .before .before .before .before .before .before .pre .0 .0) _ (c .before .before .before .before .shown .ensures) _ _ _ (c .before .before .before .loop .inv .3) _ _ (c .before .before .before .loop .inv .1) refl (c .before .before .loop-test .taken) (c .if1 .taken))  -- returns
+    (λ c. (reach-stop _ _ _ _ (c .before .before .before .before .before .before .pre .0 .0) _ (c .before .before .before .before .shown .ensures) _ _ _ (c .before .before .before .loop .inv .3) _ _ (c .before .before .before .loop .inv .1) refl (c .before .before .loop-test .taken) (c .if1 .taken), running-found _ _ _ _ (c .before .before .before .before .before .before .pre .0 .0) _ (c .before .before .before .before .shown .ensures) _ _ _ (c .before .before .before .loop .inv .1) refl (c .before .before .loop-test .taken)))  -- returns
     (λ c. omega arith)  -- add-b
     (λ c. omega arith)  -- loop-less
     (λ c. (omega arith, running-more _ _ _ _ (c .before .before .before .before .before .before .pre .0 .0) _ (c .before .before .before .before .shown .ensures) _ _ _ (c .before .before .before .loop .inv .1) refl (c .before .before .loop-test .taken), (λ h. c .if1 .left), reach-more _ _ _ _ (c .before .before .before .before .before .before .pre .0 .0) _ (c .before .before .before .before .shown .ensures) _ _ _ (c .before .before .before .loop .inv .3) _ _ (c .before .before .before .loop .inv .1) refl (c .before .before .loop-test .taken) (c .if1 .left)))  -- loop-again
-    (λ c. reach-past _ _ _ _ (c .before .before .before .before .pre .0 .0) _ (c .before .before .shown .ensures) _ _ _ (c .before .loop .inv .3) _ (c .before .loop .inv .1) (c .before .loop .inv .2) (c .before .loop .inv .0) (c .loop-test .left)))  -- returns-2
+    (λ c. (reach-past _ _ _ _ (c .before .before .before .before .pre .0 .0) _ (c .before .before .shown .ensures) _ _ _ (c .before .loop .inv .3) _ (c .before .loop .inv .1) (c .before .loop .inv .2) (c .before .loop .inv .0) (c .loop-test .left), (λ b e. not-found b e))))  -- returns-2
