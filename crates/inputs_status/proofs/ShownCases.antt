@@ -29,10 +29,11 @@ use Rattle.rules_record.proofs.Shapes.{window-sound, window-sums, sums-within, 
 use Rattle.rules_calls.specs.declared.Sourced.{Sourced}
 use Rattle.rules_calls.specs.declared.Milliseconds.{Milliseconds}
 use Rattle.rules_calls.specs.declared.Arrival.{Arrival}
+use Rattle.rules_calls.specs.declared.LagsAbove.{LagsAbove}
 use Rattle.rules_calls.specs.declared.Arrival.the-variants as Arrival
 use Rattle.rules_calls.specs.declared.InputStatus.{InputStatus}
-use Rattle.rules_calls.specs.Status.{sourceOf, channelsShown, proposedMs, arrivalIn, worstMs, statusFor, statusOf}
-use Rattle.rules_calls.proofs.StatusShows.{arrival-row}
+use Rattle.rules_calls.specs.Status.{sourceOf, channelsShown, proposedMs, arrivalIn, aboveIn, worstMs, statusFor, statusOf}
+use Rattle.rules_calls.proofs.StatusShows.{arrival-row, above-row}
 use Rattle.inputs_status.specs.StatusAsked.{Countable}
 
 pub quantile-asks : {w : LagWindow} {i : ℕ} {sums : List ℕ} → Countable w i sums → {q : Float} (k : ℕ) → q ≡ thousandths k → k ≤ 1000 →
@@ -77,10 +78,11 @@ module _ (s : Inputs) (l : Lists) (c : Checked s l) (i : ℕ) (h : i < s .count)
 
 -- ---- the whole status
 module _ (s : Inputs) (l : Lists) (i applied channels : ℕ) {slot : Slot} (is-slot : slot ≡ slotAt s i) where
-  pub status-by : {code shown k : ℕ} {source : Sourced} {w : LagWindow} {arrival : Arrival} {worst proposed : Milliseconds} {extra effective last : Float}
+  pub status-by : {code shown k : ℕ} {source : Sourced} {w : LagWindow} {arrival : Arrival} {above : LagsAbove} {worst proposed : Milliseconds} {extra effective last : Float}
       → source ≡ sourceOf s (slot .route)
       → w ≡ windowIn (s .policy) (s .width) slot
       → arrival ≡ arrivalIn (asOneSecond (w .buckets) (w .width) (part (i * w .buckets) (w .buckets) (l .sums)))
+      → above ≡ aboveIn (asOneSecond (w .buckets) (w .width) (part (i * w .buckets) (w .buckets) (l .sums)))
       → OwnSums s l i slot
       → k ≡ 600
       → worst ≡ worstMs slot (part (i * 600) k (l .peaks))
@@ -102,14 +104,15 @@ module _ (s : Inputs) (l : Lists) (i applied channels : ℕ) {slot : Slot} (is-s
         «proposed_delay_ms» = proposed;
         «lag_ms» = last;
         «arrival_lag_ms» = arrival;
+        «lags_above» = above;
         «worst_lag_ms» = worst;
         «delay_changes» = slot .«delay_changes»;
         «late_events» = slot .«late_events»;
         reopens = slot .reopens;
       })
       (statusOf s l i applied channels)
-  unfolding statusFor arrivalIn bucketsIn
-  status-by is-source is-window is-arrival own is-k is-worst is-proposed is-code is-shown is-extra is-effective is-last =
+  unfolding statusFor arrivalIn aboveIn bucketsIn
+  status-by is-source is-window is-arrival is-above own is-k is-worst is-proposed is-code is-shown is-extra is-effective is-last =
       (λ t. record {
         number = 0;
         state = is-code t;
@@ -121,6 +124,7 @@ module _ (s : Inputs) (l : Lists) (i applied channels : ℕ) {slot : Slot} (is-s
         «proposed_delay_ms» = is-proposed t;
         «lag_ms» = is-last t;
         «arrival_lag_ms» = (is-arrival ∙ (λ u. arrivalIn (asOneSecond (is-window u .buckets) (is-window u .width) (part (i * is-window u .buckets) (is-window u .buckets) (l .sums)))) ∙ arrival-row (windowFor s l i slot) own) t;
+        «lags_above» = (is-above ∙ (λ u. aboveIn (asOneSecond (is-window u .buckets) (is-window u .width) (part (i * is-window u .buckets) (is-window u .buckets) (l .sums)))) ∙ above-row (windowFor s l i slot) own) t;
         «worst_lag_ms» = (is-worst ∙ (λ u. worstMs slot (part (i * 600) (is-k u) (l .peaks)))) t;
         «delay_changes» = slot .«delay_changes»;
         «late_events» = slot .«late_events»;

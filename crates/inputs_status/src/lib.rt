@@ -11,6 +11,7 @@ ghost use Rattle.rules_calls.specs.Settled.{settledSlot, settledReply};
 use rules_calls::Answer;
 use rules_calls::Arrival;
 use rules_calls::InputStatus;
+use rules_calls::LagsAbove;
 use rules_calls::Milliseconds;
 use rules_calls::Sourced;
 use rules_record::AutoTag;
@@ -149,6 +150,11 @@ fn no_status(number: u32) -> InputStatus
         proposed_delay_ms: Milliseconds::None,
         lag_ms: 0.0,
         arrival_lag_ms: Arrival::None,
+        lags_above: LagsAbove {
+            p50: 0,
+            p99: 0,
+            p999: 0,
+        },
         worst_lag_ms: Milliseconds::None,
         delay_changes: 0,
         late_events: 0,

@@ -5,7 +5,7 @@ ghost use lib.ListN.{length};
 ghost use Rattle.base.specs.Lists.{part};
 ghost use Rattle.rules_window.specs.ColumnSums.{asOneSecond};
 ghost use Rattle.rules_record.specs.Lent.{lists};
-ghost use Rattle.rules_calls.specs.Status.{sourceOf, channelsShown, proposedMs, lagMs, worstMs, arrivalOf, arrivalIn, statusOf};
+ghost use Rattle.rules_calls.specs.Status.{sourceOf, channelsShown, proposedMs, lagMs, worstMs, arrivalOf, arrivalIn, aboveIn, statusOf};
 ghost use Rattle.inputs_status.specs.StatusAsked.{Countable, Showable};
 use delay_hold::DelayHold;
 use delay_hold::Lag;
@@ -14,6 +14,7 @@ use lag_window::LagWindow;
 use rules_calls::Arrival;
 use rules_calls::ArrivalLag;
 use rules_calls::InputStatus;
+use rules_calls::LagsAbove;
 use rules_calls::Milliseconds;
 use rules_calls::Source;
 use rules_calls::Sourced;
@@ -102,15 +103,31 @@ fn arrival_of(half: Quantile, high: Quantile, highest: Quantile) -> Arrival
     Arrival::Of(lag)
 }
 
-// The quantiles of the lags of input i, without a limit, by its row of sums alone.
-fn arrival(window: LagWindow, i: usize, sums: &[u64]) -> Arrival
+// The quantiles of an input's lags, and how many lags are above each.
+struct Arrived {
+    lag_ms: Arrival,
+    above: LagsAbove,
+}
+
+// Those of the lags of input i, without a limit, by its row of sums alone.
+fn arrival(window: LagWindow, i: usize, sums: &[u64]) -> Arrived
     requires { ⌜ Countable window i (now sums) ⌝ }
-    ensures { λ r. ⌜ r ≡ arrivalIn (asOneSecond (window .buckets) (window .width) (part (i * window .buckets) (window .buckets) (now (sums .entry)))) ⌝ }
+    ensures { λ r. ⌜ r .«lag_ms» ≡ arrivalIn (asOneSecond (window .buckets) (window .width) (part (i * window .buckets) (window .buckets) (now (sums .entry)))) ⌝ }
+    ensures { λ r. ⌜ r .above ≡ aboveIn (asOneSecond (window .buckets) (window .width) (part (i * window .buckets) (window .buckets) (now (sums .entry)))) ⌝ }
 {
     let half = inputs_window::core::quantile_upto(window, i, 0.5, NO_LIMIT, sums);
     let high = inputs_window::core::quantile_upto(window, i, 0.99, NO_LIMIT, sums);
     let highest = inputs_window::core::quantile_upto(window, i, 0.999, NO_LIMIT, sums);
-    arrival_of(half, high, highest)
+    let p50 = half.quantile;
+    let p99 = high.quantile;
+    let p999 = highest.quantile;
+    let lag_ms = arrival_of(p50, p99, p999);
+    let above = LagsAbove {
+        p50: half.above,
+        p99: high.above,
+        p999: highest.above,
+    };
+    Arrived { lag_ms, above }
 }
 
 // The status of input i.
@@ -138,7 +155,9 @@ pub(crate) fn status(
     let extra_delay = config.extra_delay;
     let source = source_of(inputs, to);
     let window = inputs_window::core::window_in(policy, inputs.width, slot);
-    let arrival_lag_ms = arrival(window, i, sums);
+    let arrived = arrival(window, i, sums);
+    let arrival_lag_ms = arrived.lag_ms;
+    let lags_above = arrived.above;
     let from = i * DelayHold::PLACES;
     let end = from + DelayHold::PLACES;
     let worst_lag_ms = worst_ms(slot, &peaks[from..end]);
@@ -154,6 +173,7 @@ pub(crate) fn status(
         proposed_delay_ms,
         lag_ms: ms(slot.last_lag),
         arrival_lag_ms,
+        lags_above,
         worst_lag_ms,
         delay_changes: slot.delay_changes,
         late_events: slot.late_events,

@@ -12,10 +12,12 @@ use Rattle.rules_window.specs.declared.Quantile.{Quantile}
 use Rattle.rules_window.specs.declared.Quantile.the-variants as Quantile
 use Rattle.rules_window.specs.Window.{Window}
 use Rattle.rules_window.specs.WholeWindow.{Sound}
-use Rattle.rules_window.specs.Quantile.{quantileIn, quantileOf, totalUpto, thousandths}
+use Rattle.rules_window.specs.Quantile.{quantileIn, quantileOf, noLimit, totalUpto, thousandths, Placeable}
+use Rattle.rules_window.specs.Above.{rankedOf}
 use Rattle.rules_window.proofs.Laws.{Holds, quantile-exists}
 use Rattle.rules_window.proofs.Numbers.{sound-placeable}
-use Rattle.rules_window.proofs.Thousandths.{thousandths-in}
+use Rattle.rules_window.proofs.Thousandths.{thousandths-in, thousandths-rise}
+use Rattle.rules_window.proofs.Above.{above-of-none, above-falls}
 use Rattle.delay_hold.specs.declared.Moment.{Moment}
 use Rattle.delay_hold.specs.declared.Moment.the-variants.{Never, At}
 use Rattle.delay_hold.specs.Steps5To8.{heldSince}
@@ -31,7 +33,7 @@ use Rattle.rules_calls.specs.declared.Arrival.{Arrival}
 use Rattle.rules_calls.specs.declared.Arrival.the-variants as Arrival
 use Rattle.rules_record.specs.Checks.{inputNumber}
 use Rattle.rules_calls.specs.StatusChecks.{statusNumber, channelsNumber, settledNumber}
-use Rattle.rules_calls.specs.Status.{arrivalOf, arrivalIn, noStatus, statusOf, statusReply}
+use Rattle.rules_calls.specs.Status.{arrivalOf, arrivalIn, aboveIn, noneAbove, noStatus, statusOf, statusReply}
 use Rattle.rules_calls.specs.HasChannels.{hasChannels}
 use Rattle.rules_calls.specs.Settled.{settledSlot}
 use Rattle.rules_calls.proofs.StatusShows.{all-there}
@@ -95,9 +97,6 @@ module _ (hold time : ℕ) where
         (eqb-true _ _ (t .0), (rested-of (slot .«last_set») (u .0), rested-of (slot .«last_input») (u .1)))
 
 -- ---- the quantiles: all three as soon as a lag is counted, none before
-abbrev noLimit : ℕ
-noLimit = 4294967295
-
 module _ (w : Window) where
   pub arrival-shown : Sound w → (b : ℕ) → Holds noLimit w b → (lag : ArrivalLag) × (arrivalIn w ≡ Arrival.Of lag)
   unfolding arrivalIn
@@ -113,3 +112,20 @@ module _ (w : Window) where
   pub arrival-none : totalUpto noLimit w ≡ 0 → arrivalIn w ≡ Arrival.None
   unfolding arrivalIn quantileIn
   arrival-none none = ap (λ (x : Quantile). arrivalOf x (quantileOf (thousandths 990) w) (quantileOf (thousandths 999) w)) (yes-pick _ _ (eq-eqb _ _ none))
+
+  -- ---- the lags above them: none before a lag is counted, and the fewer the higher the quantile
+  pub above-none : totalUpto noLimit w ≡ 0 → aboveIn w ≡ noneAbove
+  unfolding aboveIn quantileIn
+  above-none none =
+      let at : (k : ℕ) → rankedOf (thousandths k) w .above ≡ 0 = λ k. above-of-none noLimit w (thousandths k) (yes-pick _ _ (eq-eqb _ _ none)) in
+      (λ t. record { p50 = at 500 t; p99 = at 990 t; p999 = at 999 t })
+
+  pub above-in-order : Sound w → (aboveIn w .p99 ≤ aboveIn w .p50) × (aboveIn w .p999 ≤ aboveIn w .p99)
+  unfolding aboveIn
+  above-in-order sound = (falls 500 990 (omega arith) (omega arith), falls 990 999 (omega arith) (omega arith))
+    where
+      placed : (k : ℕ) → k ≤ 1000 → Placeable (thousandths k) noLimit w
+      placed k few = sound-placeable (thousandths k) noLimit w sound (thousandths-in k few)
+
+      falls : (j k : ℕ) → j ≤ k → k ≤ 1000 → rankedOf (thousandths k) w .above ≤ rankedOf (thousandths j) w .above
+      falls j k l few = above-falls noLimit w (thousandths j) (thousandths k) (placed j (omega arith)) (placed k few) (thousandths-rise j k l)

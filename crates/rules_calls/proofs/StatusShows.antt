@@ -12,9 +12,11 @@ use Rattle.rules_window.specs.declared.Quantile.{Quantile}
 use Rattle.rules_window.specs.declared.Quantile.the-variants as Quantile
 use Rattle.rules_window.proofs.Quantile.{the-type}
 use Rattle.rules_window.specs.Window.{Window}
-use Rattle.rules_window.specs.Quantile.{quantileOf, thousandths}
+use Rattle.rules_window.specs.declared.Ranked.{Ranked}
+use Rattle.rules_window.specs.Quantile.{noLimit, thousandths}
+use Rattle.rules_window.specs.Above.{rankedOf}
 use Rattle.rules_window.specs.ColumnSums.{columnSums, asOneSecond}
-use Rattle.rules_window.proofs.OneSecond.{same-quantile}
+use Rattle.rules_window.proofs.OneSecond.{same-quantile, same-ranked}
 use Rattle.rules_record.specs.declared.Flow.{Flow}
 use Rattle.rules_record.specs.declared.Route.{Route}
 use Rattle.rules_record.specs.declared.Routed.{Routed}
@@ -24,7 +26,7 @@ use Rattle.rules_record.specs.Flows.{flowAt}
 use Rattle.rules_calls.specs.declared.Sourced.the-variants.{From}
 use Rattle.rules_calls.specs.declared.Arrival.{Arrival}
 use Rattle.rules_calls.specs.declared.Arrival.the-variants as Arrival
-use Rattle.rules_calls.specs.Status.{sourceOf, arrivalBy, arrivalWith, arrivalOf, arrivalIn}
+use Rattle.rules_calls.specs.Status.{sourceOf, arrivalBy, arrivalWith, arrivalOf, arrivalIn, aboveIn}
 
 -- ---- the three quantiles, all or none
 -- the other arm of `let .. else`: a quantile whose tag is not that of an end
@@ -63,18 +65,37 @@ module _ (half high highest : Quantile) {p50 : ℕ} (is-half : half ≡ Quantile
         (λ t. Arrival.Of (record { p50 = is-x t; p99 = is-y t; p999 = is-z t }))
         ∙ sym (high-there ∙ ap (λ (q : Quantile). arrivalBy p50 p99 q) is-highest)
 
-pub arrival-by : (w : Window) {a b c : Float} {half high highest : Quantile} → half ≡ quantileOf a w → a ≡ thousandths 500 → high ≡ quantileOf b w → b ≡ thousandths 990 → highest ≡ quantileOf c w → c ≡ thousandths 999 → arrivalOf half high highest ≡ arrivalIn w
-unfolding arrivalIn
-arrival-by w is-half half-at is-high high-at is-highest highest-at =
-    (λ t. arrivalOf (is-half t) (is-high t) (is-highest t))
-    ∙ (λ t. arrivalOf (quantileOf (half-at t) w) (quantileOf (high-at t) w) (quantileOf (highest-at t) w))
+-- the three quantiles and the lags above them, as the code works them out
+module _ (w : Window) {a b c : Float} {half high highest : Ranked} (is-half : half ≡ rankedOf a w) (half-at : a ≡ thousandths 500) (is-high : high ≡ rankedOf b w) (high-at : b ≡ thousandths 990) (is-highest : highest ≡ rankedOf c w) (highest-at : c ≡ thousandths 999) where
+  ranked-half : half ≡ rankedOf (thousandths 500) w
+  ranked-half = is-half ∙ ap (λ (q : Float). rankedOf q w) half-at
+
+  ranked-high : high ≡ rankedOf (thousandths 990) w
+  ranked-high = is-high ∙ ap (λ (q : Float). rankedOf q w) high-at
+
+  ranked-highest : highest ≡ rankedOf (thousandths 999) w
+  ranked-highest = is-highest ∙ ap (λ (q : Float). rankedOf q w) highest-at
+
+  pub arrival-by : arrivalOf (half .quantile) (high .quantile) (highest .quantile) ≡ arrivalIn w
+  unfolding arrivalIn
+  arrival-by = (λ t. arrivalOf (ranked-half t .quantile) (ranked-high t .quantile) (ranked-highest t .quantile))
+
+  pub above-by : record { p50 = half .above; p99 = high .above; p999 = highest .above } ≡ aboveIn w
+  unfolding aboveIn
+  above-by = (λ t. record { p50 = ranked-half t .above; p99 = ranked-high t .above; p999 = ranked-highest t .above })
 
 -- .. of the row of sums alone: "Past the checks, quantiles read only this row"
 pub arrival-row : (w : Window) {sums : List ℕ} → sums ≡ columnSums w → arrivalIn (asOneSecond (w .buckets) (w .width) sums) ≡ arrivalIn w
 unfolding arrivalIn
 arrival-row w own =
     ap (λ (row : List ℕ). arrivalIn (asOneSecond (w .buckets) (w .width) row)) own
-    ∙ (λ t. arrivalOf (same-quantile w 4294967295 (thousandths 500) t) (same-quantile w 4294967295 (thousandths 990) t) (same-quantile w 4294967295 (thousandths 999) t))
+    ∙ (λ t. arrivalOf (same-quantile w noLimit (thousandths 500) t) (same-quantile w noLimit (thousandths 990) t) (same-quantile w noLimit (thousandths 999) t))
+
+pub above-row : (w : Window) {sums : List ℕ} → sums ≡ columnSums w → aboveIn (asOneSecond (w .buckets) (w .width) sums) ≡ aboveIn w
+unfolding aboveIn
+above-row w own =
+    ap (λ (row : List ℕ). aboveIn (asOneSecond (w .buckets) (w .width) row)) own
+    ∙ (λ t. record { p50 = same-ranked w noLimit (thousandths 500) t .above; p99 = same-ranked w noLimit (thousandths 990) t .above; p999 = same-ranked w noLimit (thousandths 999) t .above })
 
 -- ---- the route
 pub source-there : (s : Inputs) {to : Routed} {route : Route} {flow : Flow} → to ≡ To route → flow ≡ flowAt s (route .flow) → From (record { flow = flow; domain = route .domain }) ≡ sourceOf s to

@@ -12,6 +12,7 @@ use Rattle.rules_window.specs.declared.Quantile.{Quantile}
 use Rattle.rules_window.specs.declared.Quantile.the-variants as Quantile
 use Rattle.rules_window.specs.Window.{Window}
 use Rattle.rules_window.specs.Quantile.{quantileOf, thousandths}
+use Rattle.rules_window.specs.Above.{rankedOf}
 use Rattle.delay_hold.specs.declared.Lag.{Lag}
 use Rattle.delay_hold.specs.declared.Lag.the-variants as Lag
 use Rattle.delay_hold.specs.Step4Peaks.{worstOf}
@@ -35,6 +36,7 @@ use Rattle.rules_calls.specs.declared.Milliseconds.{Milliseconds}
 use Rattle.rules_calls.specs.declared.Milliseconds.the-variants as Milliseconds
 use Rattle.rules_calls.specs.declared.Arrival.{Arrival}
 use Rattle.rules_calls.specs.declared.Arrival.the-variants as Arrival
+use Rattle.rules_calls.specs.declared.LagsAbove.{LagsAbove}
 use Rattle.rules_calls.specs.declared.InputStatus.{InputStatus}
 use Rattle.rules_calls.specs.StatusChecks.{statusNumber}
 
@@ -72,6 +74,10 @@ arrivalOf (Quantile.Refused number) high highest = Arrival.None
 unfoldable pub arrivalIn : Window → Arrival
 arrivalIn w = arrivalOf (quantileOf (thousandths 500) w) (quantileOf (thousandths 990) w) (quantileOf (thousandths 999) w)
 
+-- document 02, §8: "Status shows the second one for 0.5, 0.99 and 0.999"
+unfoldable pub aboveIn : Window → LagsAbove
+aboveIn w = record { p50 = rankedOf (thousandths 500) w .above; p99 = rankedOf (thousandths 990) w .above; p999 = rankedOf (thousandths 999) w .above }
+
 -- "of the greatest peak if automatic"; the peaks stand first in the input's 600 lags
 abbrev pub lagMs : Lag → Milliseconds
 lagMs Lag.None = Milliseconds.None
@@ -94,6 +100,7 @@ statusFor s l i applied channels slot =
       «proposed_delay_ms» = proposedMs (slot .proposed);
       «lag_ms» = msOf (slot .«last_lag»);
       «arrival_lag_ms» = arrivalIn (windowFor s l i slot);
+      «lags_above» = aboveIn (windowFor s l i slot);
       «worst_lag_ms» = worstMs slot (part (i * 600) 600 (l .peaks));
       «delay_changes» = slot .«delay_changes»;
       «late_events» = slot .«late_events»;
@@ -106,6 +113,9 @@ statusOf s l i applied channels = statusFor s l i applied channels (slotAt s i)
 -- a refusal: the number, and every value zero or none
 abbrev pub noMs : Float
 noMs = fin false 0 (pos 0)
+
+abbrev pub noneAbove : LagsAbove
+noneAbove = record { p50 = 0; p99 = 0; p999 = 0 }
 
 unfoldable pub noStatus : ℕ → InputStatus
 noStatus number =
@@ -120,6 +130,7 @@ noStatus number =
       «proposed_delay_ms» = Milliseconds.None;
       «lag_ms» = noMs;
       «arrival_lag_ms» = Arrival.None;
+      «lags_above» = noneAbove;
       «worst_lag_ms» = Milliseconds.None;
       «delay_changes» = 0;
       «late_events» = 0;

@@ -33,6 +33,13 @@ pub enum Arrival {
     Of(ArrivalLag),
 }
 
+// How many lags are above each of these quantiles: 0 where there are none (document 02, §8).
+pub struct LagsAbove {
+    pub p50: u64,
+    pub p99: u64,
+    pub p999: u64,
+}
+
 // The status of one input. In every answer an accepted call has number 0; a refused one has the number of its check and a zero value.
 pub struct InputStatus {
     pub number: u32,
@@ -44,9 +51,10 @@ pub struct InputStatus {
     pub extra_delay_ms: f64,
     pub effective_delay_ms: f64,
     pub proposed_delay_ms: Milliseconds,
-    // The last lag, the quantiles, and the greatest peak.
+    // The last lag, the quantiles with the lags above them, and the greatest peak.
     pub lag_ms: f64,
     pub arrival_lag_ms: Arrival,
+    pub lags_above: LagsAbove,
     pub worst_lag_ms: Milliseconds,
     pub delay_changes: u64,
     pub late_events: u64,

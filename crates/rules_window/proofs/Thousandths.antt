@@ -1,10 +1,11 @@
--- Thousandths as doubles: they are from 0 to 1, and the code's literals are three of them. Assumes nothing.
+-- Thousandths as doubles: they are from 0 to 1 and in their order, and the code's literals are three of them. Assumes nothing.
 use Prim.Native.Nat.{ℕ, _≤_}
 use mathlib.Core.Bool.{true, false}
 use mathlib.Core.Path.{_≡_, refl}
 use native.Mathlib.Omega.{arith}
 use denote.Floats.{is-true}
-use lib.Ieee.{binary64, round, ofBits}
+use lib.Dec.{T}
+use lib.Ieee.{binary64, round, ofBits, le}
 use lib.Ieee.Order.{round-mono}
 use Rattle.base.proofs.Points.{true-both}
 use Rattle.doubles.proofs.Values.{zero-is, one-is}
@@ -17,6 +18,10 @@ thousandths-in k h =
     true-both _ _
     (is-true _ (rw zero-is at (round-mono binary64 0 1 k 1000 (omega arith) (omega arith) (omega arith))))
     (is-true _ (rw one-is at (round-mono binary64 k 1000 1 1 (omega arith) (omega arith) (omega arith))))
+
+pub thousandths-rise : (j k : ℕ) → j ≤ k → T (le (thousandths j) (thousandths k))
+unfolding thousandths
+thousandths-rise j k h = round-mono binary64 j 1000 k 1000 (omega arith) (omega arith) (omega arith)
 
 -- the code's literals
 pub half-is : ofBits binary64 4602678819172646912 ≡ thousandths 500

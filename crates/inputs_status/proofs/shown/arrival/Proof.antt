@@ -6,7 +6,7 @@ use borrow.Author.Needs.{needs}
 use Rattle.base.specs.Lists.{part}
 use Rattle.rules_window.specs.ColumnSums.{asOneSecond}
 use Rattle.rules_window.proofs.Thousandths.{half-is, high-is, highest-is}
-use Rattle.rules_calls.proofs.StatusShows.{arrival-by}
+use Rattle.rules_calls.proofs.StatusShows.{arrival-by, above-by}
 use Rattle.inputs_status.proofs.ShownCases.{quantile-asks}
 use Rattle.inputs_status.proofs.shown.arrival.Statement.{statement}
 use Rattle.inputs_status.proofs.shown.arrival.Tie as tie
@@ -24,7 +24,7 @@ arrival-of-requires : tie.Need-arrival-of-requires
 arrival-of-requires c κs = search needs
 
 returns : tie.Need-returns
-returns c = c .arrival-of .ensures ∙ arrival-by (asOneSecond (c .before .before .before .before .before .args .window .buckets) (c .before .before .before .before .before .args .window .width) (part (c .before .before .before .before .before .args .i * c .before .before .before .before .before .args .window .buckets) (c .before .before .before .before .before .args .window .buckets) (c .before .before .before .before .before .args .sums .now))) (c .before .before .before .quantile-upto .ensures) half-is (c .before .before .quantile-upto2 .ensures) high-is (c .before .quantile-upto3 .ensures) highest-is
+returns c = (c .arrival-of .ensures ∙ arrival-by (asOneSecond (c .before .before .before .before .before .args .window .buckets) (c .before .before .before .before .before .args .window .width) (part (c .before .before .before .before .before .args .i * c .before .before .before .before .before .args .window .buckets) (c .before .before .before .before .before .args .window .buckets) (c .before .before .before .before .before .args .sums .now))) (c .before .before .before .quantile-upto .ensures) half-is (c .before .before .quantile-upto2 .ensures) high-is (c .before .quantile-upto3 .ensures) highest-is, above-by (asOneSecond (c .before .before .before .before .before .args .window .buckets) (c .before .before .before .before .before .args .window .width) (part (c .before .before .before .before .before .args .i * c .before .before .before .before .before .args .window .buckets) (c .before .before .before .before .before .args .window .buckets) (c .before .before .before .before .before .args .sums .now))) (c .before .before .before .quantile-upto .ensures) half-is (c .before .before .quantile-upto2 .ensures) high-is (c .before .quantile-upto3 .ensures) highest-is)
 
 pub arrival-spec : {M : Type 1} → statement M
 arrival-spec =

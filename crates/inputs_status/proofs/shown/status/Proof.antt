@@ -62,7 +62,7 @@ ms-requires-3 : tie.Need-ms-requires-3
 ms-requires-3 c κs = search needs
 
 returns : tie.Need-returns
-returns c = status-by (c .before .before .before .before .before .before .before .before .before .before .before .before .before .before .before .before .before .before .before .before .before .args .inputs) (lists (c .before .before .before .before .before .before .before .before .before .before .before .before .before .before .before .before .before .before .before .before .before .args .starts .now) (c .before .before .before .before .before .before .before .before .before .before .before .before .before .before .before .before .before .before .before .before .before .args .totals .now) (c .before .before .before .before .before .before .before .before .before .before .before .before .before .before .before .before .before .before .before .before .before .args .counts .now) (c .before .before .before .before .before .before .before .before .before .before .before .before .before .before .before .before .before .before .before .before .before .args .sums .now) (c .before .before .before .before .before .before .before .before .before .before .before .before .before .before .before .before .before .before .before .before .before .args .times .now) (c .before .before .before .before .before .before .before .before .before .before .before .before .before .before .before .before .before .before .before .before .before .args .peaks .now)) (c .before .before .before .before .before .before .before .before .before .before .before .before .before .before .before .before .before .before .before .before .before .args .i) (c .before .before .before .before .before .before .before .before .before .before .before .before .before .before .before .before .before .before .before .before .before .args .applied) (c .before .before .before .before .before .before .before .before .before .before .before .before .before .before .before .before .before .before .before .before .before .args .channels) (c .before .before .before .before .before .before .before .before .before .before .before .before .before .before .slot-at .ensures) (c .before .before .before .before .before .before .before .before .before .before .before .source-of .ensures) (c .before .before .before .before .before .before .before .before .before .before .window-in .ensures) (c .before .before .before .before .before .before .before .before .before .arrival .ensures) (own-sums _ _ (c .before .before .before .before .before .before .before .before .before .before .before .before .before .before .before .before .before .before .before .before .before .pre .checked) _ (c .before .before .before .before .before .before .before .before .before .before .before .before .before .before .before .before .before .before .before .before .before .pre .input) (c .before .before .before .before .before .before .before .before .before .before .before .before .before .before .slot-at .ensures)) (span-is (c .before .before .before .before .before .before .before .before .before .before .before .before .before .before .before .before .before .before .before .before .before .args .i * 600) 600) (c .before .before .before .before .before .before .before .worst-ms .ensures) (c .before .before .before .before .before .before .proposed-ms .ensures) (c .before .before .before .before .before .code .ensures) (c .before .before .before .before .channels-shown .ensures) (c .before .before .before .ms .ensures) (c .before .ms2 .ensures) (c .ms3 .ensures)
+returns c = status-by (c .before .before .before .before .before .before .before .before .before .before .before .before .before .before .before .before .before .before .before .before .before .args .inputs) (lists (c .before .before .before .before .before .before .before .before .before .before .before .before .before .before .before .before .before .before .before .before .before .args .starts .now) (c .before .before .before .before .before .before .before .before .before .before .before .before .before .before .before .before .before .before .before .before .before .args .totals .now) (c .before .before .before .before .before .before .before .before .before .before .before .before .before .before .before .before .before .before .before .before .before .args .counts .now) (c .before .before .before .before .before .before .before .before .before .before .before .before .before .before .before .before .before .before .before .before .before .args .sums .now) (c .before .before .before .before .before .before .before .before .before .before .before .before .before .before .before .before .before .before .before .before .before .args .times .now) (c .before .before .before .before .before .before .before .before .before .before .before .before .before .before .before .before .before .before .before .before .before .args .peaks .now)) (c .before .before .before .before .before .before .before .before .before .before .before .before .before .before .before .before .before .before .before .before .before .args .i) (c .before .before .before .before .before .before .before .before .before .before .before .before .before .before .before .before .before .before .before .before .before .args .applied) (c .before .before .before .before .before .before .before .before .before .before .before .before .before .before .before .before .before .before .before .before .before .args .channels) (c .before .before .before .before .before .before .before .before .before .before .before .before .before .before .slot-at .ensures) (c .before .before .before .before .before .before .before .before .before .before .before .source-of .ensures) (c .before .before .before .before .before .before .before .before .before .before .window-in .ensures) (c .before .before .before .before .before .before .before .before .before .arrival .ensures .0) (c .before .before .before .before .before .before .before .before .before .arrival .ensures .1) (own-sums _ _ (c .before .before .before .before .before .before .before .before .before .before .before .before .before .before .before .before .before .before .before .before .before .pre .checked) _ (c .before .before .before .before .before .before .before .before .before .before .before .before .before .before .before .before .before .before .before .before .before .pre .input) (c .before .before .before .before .before .before .before .before .before .before .before .before .before .before .slot-at .ensures)) (span-is (c .before .before .before .before .before .before .before .before .before .before .before .before .before .before .before .before .before .before .before .before .before .args .i * 600) 600) (c .before .before .before .before .before .before .before .worst-ms .ensures) (c .before .before .before .before .before .before .proposed-ms .ensures) (c .before .before .before .before .before .code .ensures) (c .before .before .before .before .channels-shown .ensures) (c .before .before .before .ms .ensures) (c .before .ms2 .ensures) (c .ms3 .ensures)
 
 pub status-spec : {M : Type 1} → statement M
 status-spec =
