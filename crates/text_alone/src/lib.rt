@@ -220,9 +220,12 @@ pub fn answer(
     peaks: &mut Peaks,
 ) -> Answered {
     match request {
-        Lone::WindowNew(_) | Lone::Push(_) | Lone::Clear | Lone::Span | Lone::Quantile(_) => {
-            on_window(request, alone, short, starts, totals, counts, sums)
-        }
+        Lone::WindowNew(_)
+        | Lone::Push(_)
+        | Lone::Clear
+        | Lone::Span
+        | Lone::Quantile(_)
+        | Lone::Above(_) => on_window(request, alone, short, starts, totals, counts, sums),
         Lone::HoldNew | Lone::Next(_) => on_hold(request, alone, short, times, peaks),
         _ => listless(request, alone),
     }

@@ -2,6 +2,7 @@
 use delay_hold::Lag;
 use lag_window::LagWindow;
 use rules_window::Quantile;
+use rules_window::Ranked;
 use text_answers::Answer;
 use text_answers::unless;
 use text_requests::Lone;
@@ -44,10 +45,20 @@ fn new(
     }
 }
 
-fn quantile(q: Quantile) -> Answer {
-    match q {
+fn quantile(ranked: Ranked) -> Answer {
+    let found = ranked.quantile;
+    match found {
         Quantile::End(lag) => Answer::Maybe(Lag::Of(lag)),
         Quantile::None => Answer::Maybe(Lag::None),
+        Quantile::Refused(number) => Answer::Refused(number),
+    }
+}
+
+fn above(ranked: Ranked) -> Answer {
+    let found = ranked.quantile;
+    match found {
+        Quantile::End(lag) => Answer::Ranked(Lag::Of(lag), ranked.above),
+        Quantile::None => Answer::Ranked(Lag::None, ranked.above),
         Quantile::Refused(number) => Answer::Refused(number),
     }
 }
@@ -95,6 +106,10 @@ pub(crate) fn answer(
                 counts,
                 sums,
             )),
+        },
+        Lone::Above(asked) => WindowAnswered {
+            window: kept,
+            answer: above(kept.quantile_upto(asked.q, asked.limit, starts, totals, counts, sums)),
         },
         _ => WindowAnswered {
             window: kept,

@@ -4,6 +4,7 @@ ghost use mathlib.Core.Path.{_≡_};
 ghost use Rattle.text_answers.specs.Answers.{unlessRefused};
 use delay_hold::Lag;
 use rules_calls::InputStatus;
+use rules_calls::LagsAbove;
 use sources::QueryDown;
 use state::Due;
 
@@ -16,6 +17,8 @@ pub enum Answer {
     Number(u64),
     // A number, or none.
     Maybe(Lag),
+    // The same of a quantile, and how many lags are above it.
+    Ranked(Lag, u64),
     // A double.
     Double(f64),
     Bit(bool),
@@ -23,6 +26,8 @@ pub enum Answer {
     Taken(bool, Due),
     Failed(u64, QueryDown),
     Status(InputStatus),
+    // How many lags are above each quantile of a status.
+    Above(LagsAbove),
     // How many flows a delay file has, and each of them with its delay.
     Delays(usize),
     // How long the delay file is that was written, and its bytes.

@@ -226,6 +226,22 @@ fn asking(
             );
             unless(status.number, Answer::Status(status))
         }
+        Call::Above(asked) => {
+            let status = inputs_status::status(
+                kept,
+                asked.input,
+                asked.first,
+                asked.second,
+                starts,
+                totals,
+                counts,
+                sums,
+                times,
+                peaks,
+            );
+            let above = status.lags_above;
+            unless(status.number, Answer::Above(above))
+        }
         Call::Has(asked) => {
             let r = inputs_status::has_channels(
                 kept,

@@ -6,7 +6,7 @@ use Rattle.rules_record.specs.declared.Inputs.{Inputs}
 use Rattle.text_lending.specs.declared.Sizes.{Sizes}
 use Rattle.text_lending.specs.Lengths.{bucketsLent, lengthsFor}
 use Rattle.text_requests.specs.declared.Call.{Call}
-use Rattle.text_requests.specs.declared.Call.the-variants.{New, Route, Update, Confirm, Tick, Status, Has, Settled, WriteDelays, Dump, Put}
+use Rattle.text_requests.specs.declared.Call.the-variants.{New, Route, Update, Confirm, Tick, Status, Above, Has, Settled, WriteDelays, Dump, Put}
 
 -- the buckets a second of a record's windows
 unfoldable pub bucketsHeld : (inputs : Inputs) → ℕ
@@ -26,6 +26,7 @@ lentTo (Update asked) inputs short = byRecord inputs short
 lentTo (Confirm asked) inputs short = byRecord inputs short
 lentTo (Tick asked) inputs short = byRecord inputs short
 lentTo (Status asked) inputs short = byRecord inputs short
+lentTo (Above asked) inputs short = byRecord inputs short
 lentTo (Has asked) inputs short = byRecord inputs short
 lentTo (Settled asked) inputs short = byRecord inputs short
 lentTo WriteDelays inputs short = byRecord inputs short

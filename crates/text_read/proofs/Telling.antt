@@ -15,7 +15,7 @@ use Rattle.text_requests.specs.Forms.{space, u64At}
 use Rattle.text_requests.specs.Lists.{Lags, heardAs, looksEnd, lagsAt}
 use Rattle.text_read.specs.declared.supervisor.CallLine.{CallLine}
 use Rattle.text_read.specs.declared.supervisor.TickName.{TickName}
-use Rattle.text_read.specs.Supervisor.{tickName, tickLine, tickSaid, lagsOf, orElse, newLine, routeLine, updateLine, confirmLine, settledLine, statusLine, hasLine, dumpLine, dwrite1Line, putLine, changeLines, askLines, callLine}
+use Rattle.text_read.specs.Supervisor.{tickName, tickLine, tickSaid, lagsOf, orElse, newLine, routeLine, updateLine, confirmLine, settledLine, statusLine, aboveLine, hasLine, dumpLine, dwrite1Line, putLine, changeLines, askLines, callLine}
 
 module _ (s : List ℕ) (at inputs room : ℕ) {name : TickName} (n : name ≡ tickName s at) {time : Word} (t : time ≡ u64At s (name .next) space) {end : ℕ} (e : end ≡ looksEnd s (time .next) inputs) (found : Found) (heard : List ℕ) (l : heardAs found heard ≡ lagsAt s end room) {next : ℕ} (p : next ≡ below inputs 0 (found .next)) where
   pub tick-told : tickSaid (record { call = Tick (record { dry = name .dry; time = time .value; looks = time .next; lags = found .count }); next = next }) heard ≡ tickLine s at inputs room
@@ -40,8 +40,8 @@ unfolding changeLines routeLine updateLine confirmLine
 change-silent s at = or-silent _ _ (or-silent _ _ refl refl) refl
 
 ask-silent : (s : List ℕ) (at : ℕ) → lagsOf (askLines s at .call) ≡ 0
-unfolding askLines statusLine hasLine settledLine dumpLine dwrite1Line
-ask-silent s at = or-silent _ _ (or-silent _ _ (or-silent _ _ (or-silent _ _ refl refl) refl) refl) refl
+unfolding askLines statusLine aboveLine hasLine settledLine dumpLine dwrite1Line
+ask-silent s at = or-silent _ _ (or-silent _ _ (or-silent _ _ (or-silent _ _ (or-silent _ _ refl refl) refl) refl) refl) refl
 
 new-silent : (s : List ℕ) (at : ℕ) → lagsOf (newLine s at .call) ≡ 0
 unfolding newLine

@@ -10,13 +10,14 @@ use Rattle.base.specs.Choice.{pick}
 use Rattle.rules_calls.specs.declared.Wanted.the-variants.{From, Nothing}
 use Rattle.text_words.specs.Words.{lost, below}
 use Rattle.text_requests.specs.declared.Call.{Call}
-use Rattle.text_requests.specs.declared.Call.the-variants.{New, Route, Update, Confirm, Tick, Status, Has, Settled, WriteDelays, Dump, Put}
+use Rattle.text_requests.specs.declared.Call.the-variants.{New, Route, Update, Confirm, Tick, Status, Above, Has, Settled, WriteDelays, Dump, Put}
 use Rattle.text_requests.specs.declared.Known.{Known}
 use Rattle.text_requests.specs.declared.Part.the-variants.{Window, Hold, Counters, Delays, Sum}
 use Rattle.text_requests.specs.Forms.{space, slash, u64At, hexAt, u32At, bitAt, maybeU64At, maybeU32At, flowAt, kindAt, textEnd, wordEnd}
 use Rattle.text_requests.specs.Lists.{kindsEnd, looksEnd, loadsEnd, Lags, lagsAt, rowsAt}
 use Rattle.text_requests.specs.Parts.{inodeOf, readerOf, kindOf, proposalOf}
 use Rattle.text_read_alone.specs.Alone.{holdAt, sumAt}
+use Rattle.text_read.specs.declared.supervisor.AskedWords.{AskedWords}
 use Rattle.text_read.specs.declared.supervisor.CallLine.{CallLine}
 use Rattle.text_read.specs.declared.supervisor.PartLine.{PartLine}
 use Rattle.text_read.specs.declared.supervisor.SettingsWords.{SettingsWords}
@@ -158,6 +159,7 @@ lagsOf (Route asked) = 0
 lagsOf (Update asked) = 0
 lagsOf (Confirm asked) = 0
 lagsOf (Status asked) = 0
+lagsOf (Above asked) = 0
 lagsOf (Has asked) = 0
 lagsOf (Settled asked) = 0
 lagsOf WriteDelays = 0
@@ -167,23 +169,33 @@ lagsOf (Put asked) = 0
 abbrev pub tickSaid : (line : CallLine) (heard : List ℕ) → TickLine
 tickSaid line heard = record { line = line; lags = take (lagsOf (line .call)) heard }
 
--- ---- `status`: input u64, applied u32, channels u32
+-- ---- an input u64, and two numbers u32
+unfoldable pub askedAt : (s : List ℕ) (at : ℕ) → AskedWords
+askedAt s at =
+    let input = u64At s at space in
+    let first = u32At s (input .next) space in
+    let second = u32At s (first .next) space in
+    record { asked = record { input = input .value; first = first .value; second = second .value }; next = second .next }
+
+-- `status`, `above`: input, applied, channels
 unfoldable pub statusLine : (s : List ℕ) (at : ℕ) → CallLine
 statusLine s at =
     let name = wordEnd s at "status" in
-    let input = u64At s name space in
-    let applied = u32At s (input .next) space in
-    let channels = u32At s (applied .next) space in
-    record { call = Status (record { input = input .value; first = applied .value; second = channels .value }); next = channels .next }
+    let words = askedAt s name in
+    record { call = Status (words .asked); next = words .next }
 
--- `has`: input u64, channels u32, wanted u32
+unfoldable pub aboveLine : (s : List ℕ) (at : ℕ) → CallLine
+aboveLine s at =
+    let name = wordEnd s at "above" in
+    let words = askedAt s name in
+    record { call = Above (words .asked); next = words .next }
+
+-- `has`: input, channels, wanted
 unfoldable pub hasLine : (s : List ℕ) (at : ℕ) → CallLine
 hasLine s at =
     let name = wordEnd s at "has" in
-    let input = u64At s name space in
-    let channels = u32At s (input .next) space in
-    let wanted = u32At s (channels .next) space in
-    record { call = Has (record { input = input .value; first = channels .value; second = wanted .value }); next = wanted .next }
+    let words = askedAt s name in
+    record { call = Has (words .asked); next = words .next }
 
 -- `dump`: nothing
 unfoldable pub dumpLine : (s : List ℕ) (at : ℕ) → CallLine
@@ -262,6 +274,7 @@ changeLines s at = routeLine s at
 
 unfoldable pub askLines : (s : List ℕ) (at : ℕ) → CallLine
 askLines s at = statusLine s at
+    or aboveLine s at
     or hasLine s at
     or settledLine s at
     or dumpLine s at

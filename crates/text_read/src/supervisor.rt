@@ -2,7 +2,7 @@
 // or a word is missing or of another form, the place after the words is LOST.
 ghost use mathlib.Core.Path.{_≡_};
 ghost use lib.ListN.{length};
-ghost use Rattle.text_read.specs.Supervisor.{orElse, partOr, settingsAt, newLine, wantedAt, routeLine, updateLine, confirmLine, settledLine, tickName, tickSaid, tickLine, statusLine, hasLine, dumpLine, dwrite1Line, windowPart, holdPart, countersPart, delaysPart, sumPart, putLine, changeLines, askLines, callLine};
+ghost use Rattle.text_read.specs.Supervisor.{orElse, partOr, settingsAt, newLine, wantedAt, routeLine, updateLine, confirmLine, settledLine, tickName, tickSaid, tickLine, askedAt, statusLine, aboveLine, hasLine, dumpLine, dwrite1Line, windowPart, holdPart, countersPart, delaysPart, sumPart, putLine, changeLines, askLines, callLine};
 use rules_calls::Settings;
 use rules_calls::Source;
 use rules_calls::Wanted;
@@ -282,22 +282,52 @@ pub(crate) fn tick(s: &[u8], at: usize, inputs: usize, heard: &mut [u32]) -> Cal
     }
 }
 
-// ---- status, has, dump, dwrite1
+// ---- status, above, has, dump, dwrite1
+// An input and two numbers of a line, and the place after them.
+struct AskedWords {
+    asked: StatusAsked,
+    next: usize,
+}
+
+// An input and two numbers, after their name.
+fn asked_at(s: &[u8], at: usize) -> AskedWords
+    ensures { λ r. ⌜ r ≡ askedAt (now (s .entry)) at ⌝ }
+{
+    let input = u64_word(s, at, b' ');
+    let first = u32_word(s, input.next, b' ');
+    let second = u32_word(s, first.next, b' ');
+    let asked = StatusAsked {
+        input: input.value as usize,
+        first: first.value,
+        second: second.value,
+    };
+    AskedWords {
+        asked,
+        next: second.next,
+    }
+}
+
 fn status(s: &[u8], at: usize) -> CallLine
     ensures { λ r. ⌜ r ≡ statusLine (now (s .entry)) at ⌝ }
 {
     let name = word_end(s, at, b"status");
-    let input = u64_word(s, name, b' ');
-    let applied = u32_word(s, input.next, b' ');
-    let channels = u32_word(s, applied.next, b' ');
-    let asked = StatusAsked {
-        input: input.value as usize,
-        first: applied.value,
-        second: channels.value,
-    };
+    let words = asked_at(s, name);
+    let asked = words.asked;
     CallLine {
         call: Call::Status(asked),
-        next: channels.next,
+        next: words.next,
+    }
+}
+
+fn above(s: &[u8], at: usize) -> CallLine
+    ensures { λ r. ⌜ r ≡ aboveLine (now (s .entry)) at ⌝ }
+{
+    let name = word_end(s, at, b"above");
+    let words = asked_at(s, name);
+    let asked = words.asked;
+    CallLine {
+        call: Call::Above(asked),
+        next: words.next,
     }
 }
 
@@ -305,17 +335,11 @@ fn has(s: &[u8], at: usize) -> CallLine
     ensures { λ r. ⌜ r ≡ hasLine (now (s .entry)) at ⌝ }
 {
     let name = word_end(s, at, b"has");
-    let input = u64_word(s, name, b' ');
-    let channels = u32_word(s, input.next, b' ');
-    let wanted = u32_word(s, channels.next, b' ');
-    let asked = StatusAsked {
-        input: input.value as usize,
-        first: channels.value,
-        second: wanted.value,
-    };
+    let words = asked_at(s, name);
+    let asked = words.asked;
     CallLine {
         call: Call::Has(asked),
-        next: wanted.next,
+        next: words.next,
     }
 }
 
@@ -460,10 +484,11 @@ fn ask_lines(s: &[u8], at: usize) -> CallLine
     ensures { λ r. ⌜ r ≡ askLines (now (s .entry)) at ⌝ }
 {
     let first = status(s, at);
-    let a = either(first, has(s, at));
-    let b = either(a, settled(s, at));
-    let c = either(b, dump(s, at));
-    either(c, dwrite1(s, at))
+    let a = either(first, above(s, at));
+    let b = either(a, has(s, at));
+    let c = either(b, settled(s, at));
+    let d = either(c, dump(s, at));
+    either(d, dwrite1(s, at))
 }
 
 // The line that stands at this place, of the calls on a supervisor; before the first `new` there is no other.

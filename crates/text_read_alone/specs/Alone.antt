@@ -7,13 +7,14 @@ use lib.Ieee.{binary64, ofBits}
 use Rattle.base.specs.Choice.{pick}
 use Rattle.text_words.specs.Words.{lost, below}
 use Rattle.text_files.specs.Files.{fileAt}
-use Rattle.text_requests.specs.declared.Lone.the-variants.{Ms, Samples, Need, IndexAt, TimeOf, WindowNew, WindowSet, WindowSum, Push, Clear, Span, Quantile, HoldNew, HoldSet, Next, CoalesceSet, Changed, Pending, Take, TakeDue, QuerySet, QueryUp, QueryFailed, ReadDelays}
+use Rattle.text_requests.specs.declared.Lone.the-variants.{Ms, Samples, Need, IndexAt, TimeOf, WindowNew, WindowSet, WindowSum, Push, Clear, Span, Quantile, Above, HoldNew, HoldSet, Next, CoalesceSet, Changed, Pending, Take, TakeDue, QuerySet, QueryUp, QueryFailed, ReadDelays}
 use Rattle.text_requests.specs.Forms.{space, u64At, hexAt, u32At, u8At, bitAt, maybeU64At, maybeU32At, pairAt, wordEnd}
 use Rattle.text_requests.specs.Lists.{peaksEnd, rowsAt}
 use Rattle.text_requests.specs.Parts.{lagOf, dueOf, downOf, momentOf, timerOf, seedOf}
 use Rattle.text_read_alone.specs.declared.HoldWords.{HoldWords}
 use Rattle.text_read_alone.specs.declared.LoneLine.{LoneLine}
 use Rattle.text_read_alone.specs.declared.SumWords.{SumWords}
+use Rattle.text_read_alone.specs.declared.QuantileWords.{QuantileWords}
 
 -- ---- numbers
 
@@ -108,13 +109,25 @@ wspanLine s at =
     let name = wordEnd s at "wspan" in
     record { lone = Span; next = name }
 
--- `wquant`: q hex64, limit u32
+-- a quantile: q hex64, limit u32
+unfoldable pub quantileAt : (s : List ℕ) (at : ℕ) → QuantileWords
+quantileAt s at =
+    let q = hexAt s at space in
+    let limit = u32At s (q .next) space in
+    record { asked = record { q = ofBits binary64 (q .value); limit = limit .value }; next = limit .next }
+
+-- `wquant`, `wabove`: a quantile
 unfoldable pub wquantLine : (s : List ℕ) (at : ℕ) → LoneLine
 wquantLine s at =
     let name = wordEnd s at "wquant" in
-    let q = hexAt s name space in
-    let limit = u32At s (q .next) space in
-    record { lone = Quantile (record { q = ofBits binary64 (q .value); limit = limit .value }); next = limit .next }
+    let words = quantileAt s name in
+    record { lone = Quantile (words .asked); next = words .next }
+
+unfoldable pub waboveLine : (s : List ℕ) (at : ℕ) → LoneLine
+waboveLine s at =
+    let name = wordEnd s at "wabove" in
+    let words = quantileAt s name in
+    record { lone = Above (words .asked); next = words .next }
 
 -- ---- the hold
 
@@ -266,6 +279,7 @@ windowLines s at buckets = wnewLine s at
     or wclearLine s at
     or wspanLine s at
     or wquantLine s at
+    or waboveLine s at
 
 unfoldable pub holdLines : (s : List ℕ) (at : ℕ) → LoneLine
 holdLines s at = hnewLine s at

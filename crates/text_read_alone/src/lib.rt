@@ -1,7 +1,7 @@
 // The lines of the calls that need no supervisor (compare/README.md): each is its name and its words, read from place `at`. Where the name is
 // another, or a word is missing or of another form, the place after the words is LOST.
 ghost use mathlib.Core.Path.{_≡_};
-ghost use Rattle.text_read_alone.specs.Alone.{orElse, holdAt, msLine, samplesLine, needLine, indexAtLine, timeOfLine, wnewLine, wsetLine, sumAt, wsumLine, wpushLine, wclearLine, wspanLine, wquantLine, hnewLine, hsetLine, nextLine, coSetLine, coChangedLine, coPendingLine, coTakeLine, coTakeDueLine, qSetLine, qUpLine, qFailedLine, dread1Line, numberLines, windowLines, holdLines, clockLines, loneLine};
+ghost use Rattle.text_read_alone.specs.Alone.{orElse, holdAt, msLine, samplesLine, needLine, indexAtLine, timeOfLine, wnewLine, wsetLine, sumAt, wsumLine, wpushLine, wclearLine, wspanLine, quantileAt, wquantLine, waboveLine, hnewLine, hsetLine, nextLine, coSetLine, coChangedLine, coPendingLine, coTakeLine, coTakeDueLine, qSetLine, qUpLine, qFailedLine, dread1Line, numberLines, windowLines, holdLines, clockLines, loneLine};
 use delay_hold::DelayHold;
 use text_files::file_word;
 use text_print::bits::double;
@@ -226,19 +226,49 @@ fn wspan(s: &[u8], at: usize) -> LoneLine
     }
 }
 
-fn wquant(s: &[u8], at: usize) -> LoneLine
-    ensures { λ r. ⌜ r ≡ wquantLine (now (s .entry)) at ⌝ }
+// A quantile of a line, and the place after it.
+struct QuantileWords {
+    asked: QuantileAsked,
+    next: usize,
+}
+
+// q and a limit, after their name.
+fn quantile_at(s: &[u8], at: usize) -> QuantileWords
+    ensures { λ r. ⌜ r ≡ quantileAt (now (s .entry)) at ⌝ }
 {
-    let name = word_end(s, at, b"wquant");
-    let q = hex_word(s, name, b' ');
+    let q = hex_word(s, at, b' ');
     let limit = u32_word(s, q.next, b' ');
     let asked = QuantileAsked {
         q: double(q.value),
         limit: limit.value,
     };
+    QuantileWords {
+        asked,
+        next: limit.next,
+    }
+}
+
+fn wquant(s: &[u8], at: usize) -> LoneLine
+    ensures { λ r. ⌜ r ≡ wquantLine (now (s .entry)) at ⌝ }
+{
+    let name = word_end(s, at, b"wquant");
+    let words = quantile_at(s, name);
+    let asked = words.asked;
     LoneLine {
         lone: Lone::Quantile(asked),
-        next: limit.next,
+        next: words.next,
+    }
+}
+
+fn wabove(s: &[u8], at: usize) -> LoneLine
+    ensures { λ r. ⌜ r ≡ waboveLine (now (s .entry)) at ⌝ }
+{
+    let name = word_end(s, at, b"wabove");
+    let words = quantile_at(s, name);
+    let asked = words.asked;
+    LoneLine {
+        lone: Lone::Above(asked),
+        next: words.next,
     }
 }
 
@@ -461,7 +491,8 @@ fn window_lines(s: &[u8], at: usize, buckets: usize) -> LoneLine
     let d = either(c, wpush(s, at));
     let e = either(d, wclear(s, at));
     let f = either(e, wspan(s, at));
-    either(f, wquant(s, at))
+    let g = either(f, wquant(s, at));
+    either(g, wabove(s, at))
 }
 
 fn hold_lines(s: &[u8], at: usize) -> LoneLine

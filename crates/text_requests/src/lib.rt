@@ -96,6 +96,8 @@ pub enum Lone {
     Clear,
     Span,
     Quantile(QuantileAsked),
+    // The same, with how many lags are above it.
+    Above(QuantileAsked),
     HoldNew,
     HoldSet(HoldAsked),
     Next(NextAsked),
@@ -187,6 +189,8 @@ pub enum Call {
     Confirm(TimeAsked),
     Tick(TickAsked),
     Status(StatusAsked),
+    // How many lags are above each quantile of a status.
+    Above(StatusAsked),
     Has(StatusAsked),
     Settled(TimeAsked),
     // The remembered delays as a file.

@@ -38,7 +38,7 @@ fn first_of(answer: Answer) -> Word {
         Answer::Refused(number) => Word::Number(number as u64),
         Answer::Number(value) | Answer::Failed(value, _) => Word::Number(value),
         Answer::Delays(n) | Answer::File(n) => Word::Number(n as u64),
-        Answer::Maybe(lag) | Answer::Next(lag) => words::lag(lag),
+        Answer::Maybe(lag) | Answer::Ranked(lag, _) | Answer::Next(lag) => words::lag(lag),
         Answer::Double(x) => words::double(x),
         Answer::Bit(bit) | Answer::Taken(bit, _) | Answer::Ticked(bit) => Word::Number(bit as u64),
         Answer::Dry => Word::Number(0),
@@ -49,6 +49,7 @@ fn first_of(answer: Answer) -> Word {
 
 fn second_of(answer: Answer) -> Word {
     match answer {
+        Answer::Ranked(_, above) => Word::Number(above),
         Answer::Taken(_, due) => words::due(due),
         Answer::Failed(_, down) => words::down(down),
         _ => Word::End,
@@ -129,6 +130,7 @@ pub fn show(
     let a = show_words(out, place, answer);
     let b = match answer {
         Answer::Status(status) => put_words(out, a, status::words_of(status)),
+        Answer::Above(above) => put_words(out, a, status::above_of(above)),
         Answer::Delays(n) => files::show_delays(out, a, n, bytes, heard),
         Answer::File(n) => files::show_file(out, a, n, bytes),
         Answer::Window => windows::show(

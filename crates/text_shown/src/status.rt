@@ -1,9 +1,10 @@
-// The status of one input.
+// The status of one input, and the lags above its quantiles.
 use crate::words;
 use crate::words::Line;
 use crate::words::Word;
 use rules_calls::Arrival;
 use rules_calls::InputStatus;
+use rules_calls::LagsAbove;
 
 // The three quantiles: all of them, or none.
 struct Quantiles {
@@ -55,4 +56,12 @@ pub(crate) fn words_of(status: InputStatus) -> Line {
         Word::Number(status.reopens),
         Word::End,
     ]
+}
+
+pub(crate) fn above_of(above: LagsAbove) -> Line {
+    let mut line = [Word::End; 16];
+    line[0] = Word::Number(above.p50);
+    line[1] = Word::Number(above.p99);
+    line[2] = Word::Number(above.p999);
+    line
 }

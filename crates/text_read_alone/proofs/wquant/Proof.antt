@@ -7,7 +7,7 @@ use Rattle.text_read_alone.proofs.wquant.Tie as tie
 
 returns : tie.Need-returns
 unfolding wquantLine
-returns c = rw (c .double .ensures, c .before .u32-word .ensures, c .before .before .hex-word .ensures, c .before .before .before .word-end .ensures)
+returns c = rw (c .before .quantile-at .ensures, c .before .before .word-end .ensures)
 
 pub wquant-spec : {M : Type 1} → statement M
 wquant-spec =
@@ -15,7 +15,5 @@ wquant-spec =
     (tie.spec
     (λ c. search needs)  -- slice-aggregate-word-end
     (λ c κs. search needs)  -- word-end-requires
-    (λ c κs. search needs)  -- hex-word-requires
-    (λ c κs. search needs)  -- u32-word-requires
-    (λ c κs. search needs)  -- double-requires
+    (λ c κs. search needs)  -- quantile-at-requires
     returns)

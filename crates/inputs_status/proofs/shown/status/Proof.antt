@@ -20,13 +20,13 @@ arrival-requires : tie.Need-arrival-requires
 arrival-requires c κs = countable _ _ (c .before .before .before .before .before .before .before .before .before .before .before .pre .checked) _ (c .before .before .before .before .before .before .before .before .before .before .before .pre .input) (c .before .before .before .before .slot-at .ensures) (c .window-in .ensures)
 
 mul-from : tie.Need-mul-from
-mul-from c = omega (arith, c .before .before .before .before .before .before .before .before .before .before .before .before .pre .input, c .before .before .before .before .before .before .before .before .before .before .before .before .pre .checked .fitting .allowed .most)
+mul-from c = omega (arith, c .before .before .before .before .before .before .before .before .before .before .before .before .before .pre .input, c .before .before .before .before .before .before .before .before .before .before .before .before .before .pre .checked .fitting .allowed .most)
 
 add-end : tie.Need-add-end
-add-end c = omega (arith, c .before .before .before .before .before .before .before .before .before .before .before .before .pre .input, c .before .before .before .before .before .before .before .before .before .before .before .before .pre .checked .fitting .allowed .most)
+add-end c = omega (arith, c .before .before .before .before .before .before .before .before .before .before .before .before .before .pre .input, c .before .before .before .before .before .before .before .before .before .before .before .before .before .pre .checked .fitting .allowed .most)
 
 mul-worst-ms : tie.Need-mul-worst-ms
-mul-worst-ms c = omega (arith, c .before .before .before .before .before .before .before .before .before .before .before .before .pre .input, c .before .before .before .before .before .before .before .before .before .before .before .before .pre .checked .fitting .allowed .most)
+mul-worst-ms c = omega (arith, c .before .before .before .before .before .before .before .before .before .before .before .before .before .pre .input, c .before .before .before .before .before .before .before .before .before .before .before .before .before .pre .checked .fitting .allowed .most)
 
 sub-worst-ms : tie.Need-sub-worst-ms
 sub-worst-ms c = search needs
@@ -35,10 +35,10 @@ part-worst-ms-start : tie.Need-part-worst-ms-start
 part-worst-ms-start c = search needs
 
 part-worst-ms-end : tie.Need-part-worst-ms-end
-part-worst-ms-end c = lags-within _ _ (c .before .before .before .before .before .before .before .before .before .before .before .before .pre .checked) _ (c .before .before .before .before .before .before .before .before .before .before .before .before .pre .input) (c .before .before .before .before .before .slot-at .ensures)
+part-worst-ms-end c = lags-within _ _ (c .before .before .before .before .before .before .before .before .before .before .before .before .before .pre .checked) _ (c .before .before .before .before .before .before .before .before .before .before .before .before .before .pre .input) (c .before .before .before .before .before .before .slot-at .ensures)
 
 worst-ms-requires : tie.Need-worst-ms-requires
-worst-ms-requires c κs = peaks-in _ _ (c .before .before .before .before .before .before .before .before .before .before .before .before .before .pre .checked) _ (c .before .before .before .before .before .before .before .before .before .before .before .before .before .pre .input) (c .before .before .before .before .before .before .slot-at .ensures) (span-is (c .before .before .before .before .before .before .before .before .before .before .before .before .before .args .i * 600) 600)
+worst-ms-requires c κs = peaks-in _ _ (c .before .before .before .before .before .before .before .before .before .before .before .before .before .before .pre .checked) _ (c .before .before .before .before .before .before .before .before .before .before .before .before .before .before .pre .input) (c .before .before .before .before .before .before .before .slot-at .ensures) (span-is (c .before .before .before .before .before .before .before .before .before .before .before .before .before .before .args .i * 600) 600)
 
 proposed-ms-requires : tie.Need-proposed-ms-requires
 proposed-ms-requires c κs = search needs
@@ -53,7 +53,7 @@ ms-requires : tie.Need-ms-requires
 ms-requires c κs = search needs
 
 add-ms : tie.Need-add-ms
-add-ms c = omega (arith, c .before .before .before .before .before .before .before .before .before .before .before .before .before .before .before .before .before .before .before .pre .applied-most, c .before .before .before .before .before .before .before .before .before .before .before .before .before .before .before .before .before .before .before .pre .checked .fitting .allowed .sound .offset, c .before .before .before .before .before .before .before .before .before .before .before .before .before .before .before .before .before .before .before .pre .checked .fitting .allowed .sound .maximum)
+add-ms c = omega (arith, c .before .before .before .before .before .before .before .before .before .before .before .before .before .before .before .before .before .before .before .before .pre .applied-most, c .before .before .before .before .before .before .before .before .before .before .before .before .before .before .before .before .before .before .before .before .pre .checked .fitting .allowed .sound .offset, c .before .before .before .before .before .before .before .before .before .before .before .before .before .before .before .before .before .before .before .before .pre .checked .fitting .allowed .sound .maximum)
 
 ms-requires-2 : tie.Need-ms-requires-2
 ms-requires-2 c κs = search needs
@@ -62,7 +62,7 @@ ms-requires-3 : tie.Need-ms-requires-3
 ms-requires-3 c κs = search needs
 
 returns : tie.Need-returns
-returns c = status-by (c .before .before .before .before .before .before .before .before .before .before .before .before .before .before .before .before .before .before .before .before .before .args .inputs) (lists (c .before .before .before .before .before .before .before .before .before .before .before .before .before .before .before .before .before .before .before .before .before .args .starts .now) (c .before .before .before .before .before .before .before .before .before .before .before .before .before .before .before .before .before .before .before .before .before .args .totals .now) (c .before .before .before .before .before .before .before .before .before .before .before .before .before .before .before .before .before .before .before .before .before .args .counts .now) (c .before .before .before .before .before .before .before .before .before .before .before .before .before .before .before .before .before .before .before .before .before .args .sums .now) (c .before .before .before .before .before .before .before .before .before .before .before .before .before .before .before .before .before .before .before .before .before .args .times .now) (c .before .before .before .before .before .before .before .before .before .before .before .before .before .before .before .before .before .before .before .before .before .args .peaks .now)) (c .before .before .before .before .before .before .before .before .before .before .before .before .before .before .before .before .before .before .before .before .before .args .i) (c .before .before .before .before .before .before .before .before .before .before .before .before .before .before .before .before .before .before .before .before .before .args .applied) (c .before .before .before .before .before .before .before .before .before .before .before .before .before .before .before .before .before .before .before .before .before .args .channels) (c .before .before .before .before .before .before .before .before .before .before .before .before .before .before .slot-at .ensures) (c .before .before .before .before .before .before .before .before .before .before .before .source-of .ensures) (c .before .before .before .before .before .before .before .before .before .before .window-in .ensures) (c .before .before .before .before .before .before .before .before .before .arrival .ensures .0) (c .before .before .before .before .before .before .before .before .before .arrival .ensures .1) (own-sums _ _ (c .before .before .before .before .before .before .before .before .before .before .before .before .before .before .before .before .before .before .before .before .before .pre .checked) _ (c .before .before .before .before .before .before .before .before .before .before .before .before .before .before .before .before .before .before .before .before .before .pre .input) (c .before .before .before .before .before .before .before .before .before .before .before .before .before .before .slot-at .ensures)) (span-is (c .before .before .before .before .before .before .before .before .before .before .before .before .before .before .before .before .before .before .before .before .before .args .i * 600) 600) (c .before .before .before .before .before .before .before .worst-ms .ensures) (c .before .before .before .before .before .before .proposed-ms .ensures) (c .before .before .before .before .before .code .ensures) (c .before .before .before .before .channels-shown .ensures) (c .before .before .before .ms .ensures) (c .before .ms2 .ensures) (c .ms3 .ensures)
+returns c = status-by (c .before .before .before .before .before .before .before .before .before .before .before .before .before .before .before .before .before .before .before .before .before .before .args .inputs) (lists (c .before .before .before .before .before .before .before .before .before .before .before .before .before .before .before .before .before .before .before .before .before .before .args .starts .now) (c .before .before .before .before .before .before .before .before .before .before .before .before .before .before .before .before .before .before .before .before .before .before .args .totals .now) (c .before .before .before .before .before .before .before .before .before .before .before .before .before .before .before .before .before .before .before .before .before .before .args .counts .now) (c .before .before .before .before .before .before .before .before .before .before .before .before .before .before .before .before .before .before .before .before .before .before .args .sums .now) (c .before .before .before .before .before .before .before .before .before .before .before .before .before .before .before .before .before .before .before .before .before .before .args .times .now) (c .before .before .before .before .before .before .before .before .before .before .before .before .before .before .before .before .before .before .before .before .before .before .args .peaks .now)) (c .before .before .before .before .before .before .before .before .before .before .before .before .before .before .before .before .before .before .before .before .before .before .args .i) (c .before .before .before .before .before .before .before .before .before .before .before .before .before .before .before .before .before .before .before .before .before .before .args .applied) (c .before .before .before .before .before .before .before .before .before .before .before .before .before .before .before .before .before .before .before .before .before .before .args .channels) (c .before .before .before .before .before .before .before .before .before .before .before .before .before .before .before .slot-at .ensures) (c .before .before .before .before .before .before .before .before .before .before .before .before .source-of .ensures) (c .before .before .before .before .before .before .before .before .before .before .before .window-in .ensures) (c .before .before .before .before .before .before .before .before .before .before .arrival .ensures .0) (c .before .before .before .before .before .before .before .before .before .before .arrival .ensures .1) (own-sums _ _ (c .before .before .before .before .before .before .before .before .before .before .before .before .before .before .before .before .before .before .before .before .before .before .pre .checked) _ (c .before .before .before .before .before .before .before .before .before .before .before .before .before .before .before .before .before .before .before .before .before .before .pre .input) (c .before .before .before .before .before .before .before .before .before .before .before .before .before .before .before .slot-at .ensures)) (span-is (c .before .before .before .before .before .before .before .before .before .before .before .before .before .before .before .before .before .before .before .before .before .before .args .i * 600) 600) (c .before .before .before .before .before .before .before .worst-ms .ensures) (c .before .before .before .before .before .before .proposed-ms .ensures) (c .before .before .before .before .before .code .ensures) (c .before .before .before .before .channels-shown .ensures) (c .before .before .before .ms .ensures) (c .before .ms2 .ensures) (c .ms3 .ensures)
 
 pub status-spec : {M : Type 1} → statement M
 status-spec =

@@ -7,7 +7,7 @@ use Rattle.text_read.proofs.supervisor.status.Tie as tie
 
 returns : tie.Need-returns
 unfolding statusLine
-returns c = rw (c .u32-word2 .ensures, c .before .u32-word .ensures, c .before .before .u64-word .ensures, c .before .before .before .word-end .ensures)
+returns c = rw (c .before .asked-at .ensures, c .before .before .word-end .ensures)
 
 pub status-spec : {M : Type 1} → statement M
 status-spec =
@@ -15,7 +15,5 @@ status-spec =
     (tie.spec
     (λ c. search needs)  -- slice-aggregate-word-end
     (λ c κs. search needs)  -- word-end-requires
-    (λ c κs. search needs)  -- u64-word-requires
-    (λ c κs. search needs)  -- u32-word-requires
-    (λ c κs. search needs)  -- u32-word-requires-2
+    (λ c κs. search needs)  -- asked-at-requires
     returns)
