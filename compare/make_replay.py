@@ -15,7 +15,7 @@ import subprocess
 import sys
 
 sys.dont_write_bytecode = True
-from replay import alone, files, settled, sums, supervisor
+from replay import above, alone, files, settled, sums, supervisor
 from replay.words import LINES, SECTIONS
 
 HERE = pathlib.Path(__file__).resolve().parent
@@ -27,10 +27,12 @@ def main():
     alone.calls()
     files.reading()
     sums.alone()
+    above.alone()
     supervisor.calls()
     files.writing()
     settled.calls()
     sums.supervised()
+    above.supervised()
     if sys.argv[1:] == ["--print"]:
         print("\n".join(LINES))
         return

@@ -137,6 +137,7 @@ class Night:
     def look(self):
         for i in range(INPUTS):
             self.say(f"status {i} {{{i}}} 2")
+            self.say(f"above {i} {{{i}}} 2")
         self.say(f"settled {self.at()} 0")
         self.say("has 1 2 2")
 

@@ -563,7 +563,8 @@ impl Calls {
         let (delay, any) = (self.slot(i).delay, self.r.upto(max));
         let applied = self.r.pick(&[delay, delay, 0, max, any]);
         let channels = self.channels();
-        self.call(format!("status {i} {applied} {channels}"));
+        let name = self.r.pick(&["status", "status", "above"]);
+        self.call(format!("{name} {i} {applied} {channels}"));
     }
 
     fn lag(&mut self, v: &View, manner: &Manner) -> u32 {
@@ -624,7 +625,7 @@ impl Calls {
         let reasons = self.r.pick(&[1, 1, 1, 2, 2, 3]);
         let (mut short, mut now) = (false, now);
         let mut i = self.r.below(n as u64);
-        let name = self.r.pick(&["new", "route", "route", "update", "update", "confirm", "tick", "tick", "tick", "status", "has", "settled"]);
+        let name = self.r.pick(&["new", "route", "route", "update", "update", "confirm", "tick", "tick", "tick", "status", "above", "has", "settled"]);
         if name == "new" {
             let line = self.refused_new();
             self.call(line);
@@ -683,7 +684,7 @@ impl Calls {
             "update" if self.r.chance(20) => format!("update {now} {i} A"),
             "update" => format!("update {now} {i} M{}", bits(manual)),
             "tick" => tick_line(now, &looks, &lags),
-            "status" => format!("status {i} {applied} {channels}"),
+            "status" | "above" => format!("{name} {i} {applied} {channels}"),
             "has" => format!("has {i} {channels} 1"),
             name => format!("{name} {now} {i}"),
         };
@@ -694,7 +695,7 @@ impl Calls {
     fn bad_line(&mut self) {
         let line = self.r.pick(&[
             "", "tick", "tock 1", "route", "new 0", "confirm 1", "confirm 1 x", "settled -1 0", "has 0 1", "update 0 0 B",
-            "status 0 0", "ms", "ms 4294967296", "ms 1 2", "samples xyz", "index_at 18446744073709551616", "dump 1",
+            "status 0 0", "above 0 0", "ms", "ms 4294967296", "ms 1 2", "samples xyz", "index_at 18446744073709551616", "dump 1",
             "wpush 1", "co_set", "q_set 1", "put 0 nothing", "  dump", "confirm  1 0", "put 0 sum 0", "put 0 sum 4096 0",
             "put 0 sum 0 18446744073709551616", "wsum 0", "wsum 4096 0", "wsum 0 -1",
         ]);
@@ -964,7 +965,8 @@ impl Calls {
                 4..=9 => {
                     let q = self.quantile();
                     let limit = self.r.pick(&[0, offset + max, bucket, bucket.saturating_sub(1), any, u32::MAX]);
-                    format!("{short}wquant {} {limit}", bits(q))
+                    let name = self.r.pick(&["wquant", "wabove"]);
+                    format!("{short}{name} {} {limit}", bits(q))
                 }
                 10 if self.r.chance(30) => {
                     let mut reach = [offset, max, w];

@@ -336,7 +336,7 @@ impl Checked {
             }
             "tick" => self.tick(w, short),
             "dry" if w.word()? == "tick" => self.tick(w, short),
-            "status" => {
+            "status" | "above" => {
                 let (input, applied, channels) = (w.u64()?, w.u32()?, w.u32()?);
                 w.end()?;
                 self.record(short)?;
@@ -589,7 +589,7 @@ impl Checked {
                 w.end()?;
                 self.lone_window(short).map(|_| ())
             }
-            "wquant" => {
+            "wquant" | "wabove" => {
                 let (q, _limit) = (w.double()?, w.u32()?);
                 w.end()?;
                 self.lone_window(short)?;

@@ -1,4 +1,5 @@
 //! The text protocol: one call a line, one answer a line (see ../README.md).
+use crate::above::above;
 use crate::config::Config;
 use crate::coalesce::Coalesce;
 use crate::engine::Engine;
@@ -120,6 +121,7 @@ impl Driver {
             "confirm" => self.confirm(w),
             "tick" => self.tick(w, dry),
             "status" => self.status(w),
+            "above" => self.above(w),
             "has" => self.has(w),
             "settled" => self.settled(w),
             "put" => self.put(w),
@@ -346,6 +348,18 @@ impl Driver {
         probe::show_status(&inputs.status()[index], &mut self.out);
     }
 
+    /// The lags above each quantile that `status` shows; its other words change nothing here.
+    fn above(&mut self, w: &mut Words) {
+        let index: usize = num(w);
+        let (inputs, _, _) = self.sup.as_ref().expect("new first");
+        let columns = probe::columns_of(inputs, index);
+        self.out.push_str("ok");
+        for q in [0.5, 0.99, 0.999] {
+            let quantile = probe::quantile_of(inputs, index, q);
+            opt(&mut self.out, Some(above(&columns, shim::w(), quantile, u32::MAX)));
+        }
+    }
+
     fn has(&mut self, w: &mut Words) {
         let yes = self.call_has(w);
         write!(self.out, "ok {}", u8::from(yes)).unwrap();
@@ -423,6 +437,12 @@ impl Driver {
             "wquant" => {
                 let q = double(w.next().unwrap());
                 opt(out, self.window.quantile(q, num(w)));
+            }
+            "wabove" => {
+                let (q, limit) = (double(w.next().unwrap()), num(w));
+                let quantile = self.window.quantile(q, limit);
+                opt(out, quantile);
+                opt(out, Some(above(&self.window.columns(), shim::w(), quantile, limit)));
             }
             "hnew" => self.hold = Hold::default(),
             "hset" => self.hold = Hold::from_fields(hold_fields(w)),

@@ -4,6 +4,7 @@
 //! `roundtrip`, `speed`.
 #![allow(dead_code, unused_variables, unused_imports)]
 
+mod above;
 mod calls;
 mod checks;
 mod claims;

@@ -183,6 +183,9 @@ pub fn seconds_of(inputs: &Inputs, i: usize) -> Vec<Second> {
 pub fn columns_of(inputs: &Inputs, i: usize) -> Vec<u64> {
     columns(&inputs.slots[i].lag)
 }
+pub fn quantile_of(inputs: &Inputs, i: usize, q: f64) -> Option<u32> {
+    inputs.slots[i].lag.quantile(q)
+}
 
 /// The remembered delays, by their flows' bytes.
 pub fn remembered(inputs: &Inputs) -> Vec<([u8; 16], u32)> {
