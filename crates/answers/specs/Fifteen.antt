@@ -36,12 +36,12 @@ unfoldable pub after : List ℕ → (left : window.Reply) → window.Reply
 after [] left = left
 after (lag ∷ lags) left = after lags (window.pushReply lag 5 (left .window) (left .sums))
 
--- `quantile_upto` and `quantile` of what the call before left
+-- `quantile_upto` and `quantile` of what the call before left: the first number, a bucket's end
 abbrev pub quantileUptoLeft : (q : Float) (limit : ℕ) (left : window.Reply) → Quantile
-quantileUptoLeft q limit left = window.quantileUptoReply q limit (left .window) (left .sums)
+quantileUptoLeft q limit left = window.quantileUptoReply q limit (left .window) (left .sums) .quantile
 
 abbrev pub quantileLeft : (q : Float) (left : window.Reply) → Quantile
-quantileLeft q left = window.quantileReply q (left .window) (left .sums)
+quantileLeft q left = window.quantileReply q (left .window) (left .sums) .quantile
 
 -- q 1
 abbrev pub one : Float
