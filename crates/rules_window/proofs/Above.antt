@@ -4,8 +4,8 @@ use mathlib.Core.Path.{_≡_, refl, sym, ap, _∙_}
 use mathlib.Core.Logic.{⊎-elim}
 use native.Mathlib.Nat.{mul-le-mul-right, mul-lt-mul-of-pos-right}
 use native.Mathlib.Omega.{arith}
-use borrow.Author.Tests.{le-leb, lt-leb}
-use lib.Dec.{T, leb}
+use borrow.Author.Tests.{lt-ltb, le-ltb}
+use lib.Dec.{T}
 use lib.Ieee.{Float, le}
 use Rattle.base.specs.Choice.{pick}
 use Rattle.base.specs.Lists.{sum}
@@ -31,11 +31,11 @@ module _ (limit : ℕ) (w : Window) where
   module _ (wide : 1 ≤ w .width) (b : ℕ) (inside : b < w .buckets) where
     not-later : (i : ℕ) → i < b + 1 → later limit ((b + 1) * w .width) w i ≡ 0
     unfolding later
-    not-later i l = no-pick (brings i) 0 (lt-leb ((b + 1) * w .width) (i * w .width) (mul-lt-mul-of-pos-right l wide))
+    not-later i l = no-pick _ 0 (le-ltb ((b + 1) * w .width) ((i + 1) * w .width) (mul-le-mul-right (w .width) (omega arith)))
 
     is-later : (i : ℕ) → later limit ((b + 1) * w .width) w (b + 1 + i) ≡ brings (b + 1 + i)
     unfolding later
-    is-later i = yes-pick (brings (b + 1 + i)) 0 (le-leb ((b + 1) * w .width) ((b + 1 + i) * w .width) (mul-le-mul-right (w .width) (omega arith)))
+    is-later i = yes-pick (brings (b + 1 + i)) 0 (lt-ltb ((b + 1) * w .width) ((b + 1 + i + 1) * w .width) (mul-lt-mul-of-pos-right (let more : b + 1 < b + 1 + i + 1 = omega arith in more) wide))
 
     pub later-adds-up : countedTo limit w (b + 1) + aboveOf limit w (End ((b + 1) * w .width)) ≡ totalUpto limit w
     unfolding running
@@ -95,9 +95,9 @@ module _ (limit : ℕ) (w : Window) where
     later-falls : (d e : ℕ) → d ≤ e → (b : ℕ) → later limit e w b ≤ later limit d w b
     unfolding later
     later-falls d e l b =
-        by-le e (b * w .width)
-        (λ h. rw (le-leb e (b * w .width) h, le-leb d (b * w .width) (omega arith)) (omega arith))
-        (λ h. rw (lt-leb e (b * w .width) h) (omega arith))
+        by-le ((b + 1) * w .width) e
+        (λ h. rw (le-ltb e ((b + 1) * w .width) h) (omega arith))
+        (λ h. rw (lt-ltb e ((b + 1) * w .width) h, lt-ltb d ((b + 1) * w .width) (omega arith)) (omega arith))
 
     -- and no more lags are above it
     pub above-falls : rankedUpto r limit w .above ≤ rankedUpto q limit w .above

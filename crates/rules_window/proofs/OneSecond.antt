@@ -33,10 +33,15 @@ module _ (w : Window) where
   pub same-lags : (b : ℕ) → b < w .buckets → lagsIn summedUp b ≡ lagsIn w b
   same-lags b l = one-column (w .buckets) b (columnSums w) ∙ sums-at w b l
 
+  -- .. and so is what it brings up to a limit
+  same-within : (limit b : ℕ) → b < w .buckets → within limit (w .width) (w .buckets) 1 (columnSums w) b ≡ within limit (w .width) (w .buckets) (w .seconds) (w .counts) b
+  unfolding within
+  same-within limit b l = ap (λ (x : ℕ). pick (leb (b * w .width) limit) x 0) (same-lags b l)
+
   module _ (limit : ℕ) where
     same-running : (m : ℕ) → m ≤ w .buckets → countedTo limit summedUp m ≡ countedTo limit w m
-    unfolding running within
-    same-running m h = sum-cong _ _ m (λ b l. ap (λ (x : ℕ). pick (leb (b * w .width) limit) x 0) (same-lags b (omega arith)))
+    unfolding running
+    same-running m h = sum-cong _ _ m (λ b l. same-within limit b (omega arith))
 
     pub same-total : totalUpto limit summedUp ≡ totalUpto limit w
     same-total = same-running (w .buckets) (omega arith)
@@ -64,8 +69,8 @@ module _ (w : Window) where
         (λ i. pick (eqb (t i) 0) None (endOf (w .width) (r (t i) i)))
 
     same-above : (found : Quantile) → aboveOf limit summedUp found ≡ aboveOf limit w found
-    unfolding later within
-    same-above (End e) = sum-cong _ _ (w .buckets) (λ b l. ap (λ (x : ℕ). pick (leb e (b * w .width)) (pick (leb (b * w .width) limit) x 0) 0) (same-lags b l))
+    unfolding later
+    same-above (End e) = sum-cong _ _ (w .buckets) (λ b l. rw same-within)
     same-above None = refl
     same-above (Refused number) = refl
 
