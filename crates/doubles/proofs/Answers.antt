@@ -1,10 +1,13 @@
--- Rounding with halves away from zero, and what document 02's §3 says of it, each at its edge, computed on the definitions. Assumes nothing.
+-- Rounding with halves away from zero, and what document 02's §3 says of it, each at its edge; milliseconds and samples at both rates and refused at others: computed on the definitions. Assumes nothing.
 use mathlib.Core.Path.{_≡_, refl}
 use mathlib.Core.Bool.{true, false}
 use mathlib.Core.List.{[], _∷_}
 use lib.IntN.{pos, negsuc}
-use lib.Ieee.{fin, le}
-use Rattle.doubles.specs.Doubles.{halfAway}
+use lib.Ieee.{fin, le, ofInt, mul, div, round}
+use Rattle.base.specs.Choice.{ask}
+use Rattle.rates.specs.Rates.{rateAllowed}
+use Rattle.doubles.specs.Doubles.{msOf, samplesOf, halfAway}
+use Rattle.doubles.specs.Answers.{rateNumber, msBy, msAnswer, samplesBy, samplesAnswer}
 use Rattle.doubles.specs.Nearest.{distance, InRange}
 
 -- 0.5, 1.5 and 2.5 go to the larger neighbour, the double before 0.5 goes to 0
@@ -28,3 +31,25 @@ ends-in-range = (
   record { low = unfold le in tt; high = unfold le in tt },
   record { low = unfold le in tt; high = unfold le in tt },
 )
+
+-- "`ms`, `samples` .. take the rate": a millisecond is 48 samples at 48,000 and 96 at 96,000
+pub milliseconds-at-both :
+    msAnswer 48_000 48 ∷ msAnswer 96_000 96 ∷ msAnswer 96_000 48 ∷ [] ≡ msBy 0 (fin false 1 (pos 0)) ∷ msBy 0 (fin false 1 (pos 0)) ∷ msBy 0 (fin false 1 (negsuc 0)) ∷ []
+unfolding msAnswer rateNumber rateAllowed ask msOf round div mul ofInt
+milliseconds-at-both = refl
+
+pub samples-at-both :
+    samplesAnswer 48_000 (fin false 1 (pos 0)) ∷ samplesAnswer 96_000 (fin false 1 (pos 0)) ∷ samplesAnswer 96_000 (fin false 1 (negsuc 5)) ∷ [] ≡ samplesBy 0 48 ∷ samplesBy 0 96 ∷ samplesBy 0 2 ∷ []
+unfolding samplesAnswer rateNumber rateAllowed ask samplesOf halfAway round div mul ofInt
+samples-at-both = refl
+
+-- "Number 23 is for another rate": a refusal has a zero value
+pub another-rate-refused :
+    msAnswer 0 48 ∷ msAnswer 44_100 48 ∷ msAnswer 4_294_967_295 48 ∷ [] ≡ record { number = 23; value = fin false 0 (pos 0) } ∷ record { number = 23; value = fin false 0 (pos 0) } ∷ record { number = 23; value = fin false 0 (pos 0) } ∷ []
+unfolding msAnswer rateNumber rateAllowed ask
+another-rate-refused = refl
+
+pub another-rate-no-samples :
+    samplesAnswer 0 (fin false 1 (pos 0)) ∷ samplesAnswer 44_100 (fin false 1 (pos 0)) ∷ samplesAnswer 4_294_967_295 (fin false 1 (pos 0)) ∷ [] ≡ record { number = 23; value = 0 } ∷ record { number = 23; value = 0 } ∷ record { number = 23; value = 0 } ∷ []
+unfolding samplesAnswer rateNumber rateAllowed ask
+another-rate-no-samples = refl

@@ -1,12 +1,12 @@
--- A double that is not negative and at most p / r, and how such a bound goes through a product or a quotient by a literal, each rounded once:
--- a bound that is itself a double is kept by rounding. Assumes nothing.
-use mathlib.Core.Path.{_≡_, sym, ap, _∙_, subst}
+-- A double that is not negative and at most p / r, and how such a bound goes through a product or a quotient by a whole number, each rounded once:
+-- what rounding makes of the bound bounds the result. Assumes nothing.
+use mathlib.Core.Path.{_≡_, refl, sym, ap, _∙_, subst}
 use mathlib.Core.Logic.{inl, inr}
 use mathlib.Core.Bool.{Bool, true, false, cond, _&&_, _||_, true≢false}
 use Prim.Native.Nat.{ℕ, suc, _+_, _*_, _/_, _^_, _≤_, _<_, zero-le, min}
-use native.Mathlib.Nat.{eq-or-lt-of-le, le-trans, le-of-eq, le-of-mul-le-mul-right, mul-one, zero-mul, mul-comm, mul-assoc, mul-left-comm, mul-right-comm, mul-pos, mul-le-mul-right, zero-lt-suc}
+use native.Mathlib.Nat.{eq-or-lt-of-le, le-trans, le-of-eq, le-of-mul-le-mul-right, mul-one, zero-mul, mul-right-comm, mul-pos, mul-le-mul-right, zero-lt-suc}
 use native.Mathlib.Omega.{arith}
-use lib.Dec.{T, leb→le, ltb, lt→ltb, eqb, eqb·suc-zero}
+use lib.Dec.{T, leb→le, ltb, lt→ltb, eqb}
 use lib.Pow.{pow-pos}
 use lib.IntN.{pos}
 use lib.Ieee.{Float, nan, inf, fin, binary64, up, down, round, mul, div, le}
@@ -14,9 +14,10 @@ use lib.Ieee.Fits.{down-pos, and-i, eq→eqb}
 use lib.Ieee.Exact.{HasValue}
 use lib.Ieee.Nearest.{div-mono}
 use lib.Ieee.Order.{round-mono}
+use lib.Ieee.Positive.{first-pos}
 use Rattle.doubles.specs.Doubles.{halfAway, toU32}
 use Rattle.doubles.proofs.Halves.{twice-pos}
-use Rattle.doubles.proofs.Products.{round-zero, halves-cross}
+use Rattle.doubles.proofs.Products.{not-none, round-zero, halves-cross, mul-of-values, div-of-values}
 use Rattle.doubles.proofs.Values.{zero-is, or-l, exact, le-says, le-negative, minus-zero, no-factor}
 
 abbrev pub Upto : Float → ℕ → ℕ → Type 0
@@ -59,72 +60,65 @@ upto-trans (fin false m e) (fin false n d) p r z h u =
     (le-trans (mul-le-mul-right (down e) u) (le-of-eq (mul-right-comm p (down d) (down e)))))))
     (down-pos d)
 
--- ---- q / 2 ^ j is a double, so rounding keeps it as a bound
-pub round-upto : (a b q j : ℕ) → 0 < b → q < 2 ^ 53 → j ≤ 1074 → a * 2 ^ j ≤ q * b → Upto (round binary64 false a b) q (2 ^ j)
-round-upto a b q j B h l k =
-    upto-trans (round binary64 false a b) (round binary64 false q (2 ^ j)) q (2 ^ j)
+-- ---- a bound goes through rounding
+-- what is at most p / r rounds to at most what p / r rounds to
+round-kept : (a b p r P R : ℕ) → 0 < b → 0 < r → a * r ≤ p * b → Upto (round binary64 false p r) P R → Upto (round binary64 false a b) P R
+round-kept a b p r P R B C h u =
+    upto-trans (round binary64 false a b) (round binary64 false p r) P R
     (subst (λ (z : Float). T (le z (round binary64 false a b))) zero-is (round-mono binary64 0 1 a b (leb→le 1 1 tt) B (le-trans (le-of-eq (zero-mul b)) zero-le)))
-    (round-mono binary64 a b q (2 ^ j) B (pow-pos j) k)
-    (upto-of-value (round binary64 false q (2 ^ j)) q (2 ^ j) (exact q j h l))
+    (round-mono binary64 a b p r B C h)
+    u
 
--- ---- times a literal n * 2 ^ k
-mul-cross : (A D p r c w q : ℕ) → 0 < r → A * r ≤ p * D → p * c * w ≤ q * r → A * c * w ≤ q * D
-mul-cross A D p r c w q R u h =
-    le-of-mul-le-mul-right
-    (le-trans (le-of-eq (regroup A c w r))
-    (le-trans (mul-le-mul-right (c * w) u)
-    (le-trans (le-of-eq (regroup' p D c w))
-    (le-trans (mul-le-mul-right D h) (le-of-eq (mul-right-comm q r D))))))
-    R
-  where
-    regroup : (A c w r : ℕ) → A * c * w * r ≡ A * r * (c * w)
-    regroup A c w r = simp (mul-assoc, mul-comm, mul-left-comm)
+-- q / 2 ^ j is a double, so rounding keeps it as a bound
+pub round-upto : (a b q j : ℕ) → 0 < b → q < 2 ^ 53 → j ≤ 1074 → a * 2 ^ j ≤ q * b → Upto (round binary64 false a b) q (2 ^ j)
+round-upto a b q j B h l k = round-kept a b q (2 ^ j) q (2 ^ j) B (pow-pos j) k (upto-of-value (round binary64 false q (2 ^ j)) q (2 ^ j) (exact q j h l))
 
-    regroup' : (p D c w : ℕ) → p * D * (c * w) ≡ p * c * w * D
-    regroup' p D c w = simp (mul-assoc, mul-comm, mul-left-comm)
+-- ---- a bound goes through a product with a whole number k, and through a quotient by it: what rounding makes of p k / r, or of p / (k r), is the bound of the result
+mul-cross : (A D p r k : ℕ) → A * r ≤ p * D → A * k * (r * 1) ≤ p * k * (D * 1)
+mul-cross A D p r k u = omega (arith, mul-le-mul-right k u)
 
-pub mul-upto : (x : Float) (p r n k q j : ℕ) → 0 < r → Upto x p r → q < 2 ^ 53 → j ≤ 1074 → p * (n * 2 ^ k) * 2 ^ j ≤ q * r → Upto (mul binary64 x (fin false n (pos k))) q (2 ^ j)
+pub mul-kept : (x d : Float) (p r k P R : ℕ) → 0 < r → Upto x p r → HasValue d false k 1 → Upto (round binary64 false (p * k) (r * 1)) P R → Upto (mul binary64 x d) P R
 unfolding mul
-mul-upto nan p r n k q j R u h l b = absurd u
-mul-upto (inf s) p r n k q j R u h l b = absurd u
-mul-upto (fin true m e) p r n k q j R u h l b =
-    let z : m * up e * (n * 2 ^ k) ≡ 0 = ap (λ (z : ℕ). z * (n * 2 ^ k)) u ∙ zero-mul (n * 2 ^ k) in
-    let D : 0 < down e * 1 = mul-pos (down-pos e) (zero-lt-suc 0) in
-    upto-of-neg (round binary64 true (m * up e * (n * 2 ^ k)) (down e * 1)) (m * up e * (n * 2 ^ k)) (down e * 1) q (2 ^ j) (round-zero true (m * up e * (n * 2 ^ k)) (down e * 1) z D) z D
-mul-upto (fin false m e) p r n k q j R u h l b =
-    round-upto (m * up e * (n * 2 ^ k)) (down e * 1) q j (mul-pos (down-pos e) (zero-lt-suc 0)) h l
-    (le-trans (mul-cross (m * up e) (down e) p r (n * 2 ^ k) (2 ^ j) q R u b) (le-of-eq (ap (λ (z : ℕ). q * z) (sym (mul-one (down e))))))
+mul-kept nan d p r k P R C u v b = absurd u
+mul-kept (inf s) d p r k P R C u v b = absurd u
+mul-kept (fin true m e) nan p r k P R C u v b = absurd v
+mul-kept (fin true m e) (inf s) p r k P R C u v b = absurd v
+mul-kept (fin true m e) (fin true n g) p r k P R C u v b = absurd (true≢false (v .0))
+mul-kept (fin true m e) (fin false n g) p r k P R C u v b =
+    let z : m * up e * (n * up g) ≡ 0 = ap (λ (z : ℕ). z * (n * up g)) u ∙ zero-mul (n * up g) in
+    let D : 0 < down e * down g = mul-pos (down-pos e) (down-pos g) in
+    upto-of-neg (round binary64 true (m * up e * (n * up g)) (down e * down g)) (m * up e * (n * up g)) (down e * down g) P R (round-zero true (m * up e * (n * up g)) (down e * down g) z D) z D
+mul-kept (fin false m e) d p r k P R C u v b =
+    subst (λ (z : Float). Upto z P R) (sym (mul-of-values (fin false m e) d (m * up e) (down e) k 1 (down-pos e) (zero-lt-suc 0) (refl, refl) v))
+    (round-kept (m * up e * k) (down e * 1) (p * k) (r * 1) P R (mul-pos (down-pos e) (zero-lt-suc 0)) (mul-pos C (zero-lt-suc 0)) (mul-cross (m * up e) (down e) p r k u) b)
 
--- ---- by a literal suc n * 2 ^ k
-div-cross : (A D p r c w q : ℕ) → 0 < r → A * r ≤ p * D → p * w ≤ q * (c * r) → A * 1 * w ≤ q * (c * D)
-div-cross A D p r c w q R u h =
-    le-of-mul-le-mul-right
-    (le-trans (le-of-eq (ap (λ (z : ℕ). z * w * r) (mul-one A) ∙ mul-right-comm A w r))
-    (le-trans (mul-le-mul-right w u)
-    (le-trans (le-of-eq (mul-right-comm p D w))
-    (le-trans (mul-le-mul-right D h) (le-of-eq (regroup q c r D))))))
-    R
-  where
-    regroup : (q c r D : ℕ) → q * (c * r) * D ≡ q * (c * D) * r
-    regroup q c r D = simp (mul-assoc, mul-comm, mul-left-comm)
+div-cross : (A D p r k : ℕ) → A * r ≤ p * D → A * 1 * (k * r) ≤ p * 1 * (k * D)
+div-cross A D p r k u = omega (arith, mul-le-mul-right k u)
 
-pub div-upto : (x : Float) (p r n k q j : ℕ) → 0 < r → Upto x p r → q < 2 ^ 53 → j ≤ 1074 → p * 2 ^ j ≤ q * (suc n * 2 ^ k * r) → Upto (div binary64 x (fin false (suc n) (pos k))) q (2 ^ j)
+pub div-kept : (x d : Float) (p r k P R : ℕ) → 0 < r → 0 < k → Upto x p r → HasValue d false k 1 → Upto (round binary64 false (p * 1) (k * r)) P R → Upto (div binary64 x d) P R
 unfolding div
-div-upto nan p r n k q j R u h l b = absurd u
-div-upto (inf s) p r n k q j R u h l b = absurd u
-div-upto (fin true m e) p r n k q j R u h l b =
-    let A = m * up e * 1 in
-    let B = suc n * 2 ^ k * down e in
-    let z : A ≡ 0 = ap (λ (z : ℕ). z * 1) u in
-    let P : 0 < B = mul-pos (mul-pos (zero-lt-suc n) (pow-pos k)) (down-pos e) in
-    subst (λ (t : Bool). Upto (cond t (cond (eqb m 0) nan (inf true)) (round binary64 true A B)) q (2 ^ j)) (sym (eqb·suc-zero n))
-    (upto-of-neg (round binary64 true A B) A B q (2 ^ j) (round-zero true A B z P) z P)
-div-upto (fin false m e) p r n k q j R u h l b =
-    let A = m * up e * 1 in
-    let B = suc n * 2 ^ k * down e in
-    let P : 0 < B = mul-pos (mul-pos (zero-lt-suc n) (pow-pos k)) (down-pos e) in
-    subst (λ (t : Bool). Upto (cond t (cond (eqb m 0) nan (inf false)) (round binary64 false A B)) q (2 ^ j)) (sym (eqb·suc-zero n))
-    (round-upto A B q j P h l (div-cross (m * up e) (down e) p r (suc n * 2 ^ k) (2 ^ j) q R u b))
+div-kept nan d p r k P R C K u v b = absurd u
+div-kept (inf s) d p r k P R C K u v b = absurd u
+div-kept (fin true m e) nan p r k P R C K u v b = absurd v
+div-kept (fin true m e) (inf s) p r k P R C K u v b = absurd v
+div-kept (fin true m e) (fin true n g) p r k P R C K u v b = absurd (true≢false (v .0))
+div-kept (fin true m e) (fin false n g) p r k P R C K u v b =
+    let N : 0 < n * up g = first-pos (n * up g) 1 (subst (λ (z : ℕ). 0 < z) (sym (v .1)) (mul-pos K (down-pos g))) in
+    let A = m * up e * down g in
+    let B = n * up g * down e in
+    let z : A ≡ 0 = ap (λ (z : ℕ). z * down g) u ∙ zero-mul (down g) in
+    let Q : 0 < B = mul-pos N (down-pos e) in
+    subst (λ (t : Bool). Upto (cond t (cond (eqb m 0) nan (inf true)) (round binary64 true A B)) P R) (sym (not-none n (first-pos n (up g) N)))
+    (upto-of-neg (round binary64 true A B) A B P R (round-zero true A B z Q) z Q)
+div-kept (fin false m e) d p r k P R C K u v b =
+    subst (λ (z : Float). Upto z P R) (sym (div-of-values (fin false m e) d (m * up e) (down e) k 1 (down-pos e) (zero-lt-suc 0) K (refl, refl) v))
+    (round-kept (m * up e * 1) (k * down e) (p * 1) (k * r) P R (mul-pos K (down-pos e)) (mul-pos K C) (div-cross (m * up e) (down e) p r k u) b)
+
+-- by a literal suc n * 2 ^ k, to a bound q / 2 ^ j that is a double
+pub div-upto : (x : Float) (p r n k q j : ℕ) → 0 < r → Upto x p r → q < 2 ^ 53 → j ≤ 1074 → p * 2 ^ j ≤ q * (suc n * 2 ^ k * r) → Upto (div binary64 x (fin false (suc n) (pos k))) q (2 ^ j)
+div-upto x p r n k q j R u h l b =
+    let K : 0 < suc n * 2 ^ k = mul-pos (zero-lt-suc n) (pow-pos k) in
+    div-kept x (fin false (suc n) (pos k)) p r (suc n * 2 ^ k) q (2 ^ j) R K u (refl, refl) (round-upto (p * 1) (suc n * 2 ^ k * r) q j (mul-pos K R) h l (subst (λ (z : ℕ). z * 2 ^ j ≤ q * (suc n * 2 ^ k * r)) (sym (mul-one p)) b))
 
 -- ---- the whole numbers
 pub halfAway-upto : (y : Float) (p r : ℕ) → 0 < r → Upto y p r → halfAway y ≤ (2 * p + r) / (2 * r)

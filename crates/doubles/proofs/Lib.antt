@@ -4,7 +4,9 @@ pub mod Halves
 pub mod Products
 pub mod Ceilings
 pub mod Bounds
+pub mod Rounding
 pub mod Delays
+pub mod Rates
 pub mod Places
 pub mod Bracket
 pub mod Nearest

@@ -1,38 +1,86 @@
--- A whole number times a double that is not negative, rounded once: as a fraction, its bounds, and its order. Assumes nothing.
+-- A product and a quotient of doubles that are not negative, rounded once: as a fraction; and of a whole number times a share its bounds and its order. Assumes nothing.
 use mathlib.Core.Path.{_≡_, refl, sym, ap, _∙_, subst}
-use mathlib.Core.Bool.{Bool, true, false, _&&_, true≢false}
-use Prim.Native.Nat.{ℕ, _+_, _*_, _/_, _^_, _≤_, _<_, zero-le}
-use native.Mathlib.Nat.{le-trans, le-of-eq, mul-one, zero-mul, mul-comm, mul-assoc, mul-left-comm, mul-pos, mul-le-mul-right, mul-le-mul, add-mul}
+use mathlib.Core.Bool.{Bool, true, false, cond, _&&_, true≢false}
+use Prim.Native.Nat.{ℕ, zero, suc, _+_, _*_, _/_, _^_, _≤_, _<_, zero-le, min}
+use native.Mathlib.Nat.{le-trans, le-of-eq, lt-irrefl, mul-one, one-mul, zero-mul, mul-comm, mul-assoc, mul-left-comm, mul-pos, mul-le-mul-right, mul-le-mul, add-mul, mul-mul-mul-comm, zero-lt-suc}
 use native.Mathlib.Omega.{arith}
-use lib.Dec.{T, ltb, eqb, lt→ltb, leb→le}
+use lib.Dec.{T, ltb, eqb, lt→ltb, leb→le, eqb·suc-zero}
 use lib.IntN.{ℤ, pos}
-use lib.Ieee.{Float, nan, inf, fin, binary64, up, down, round, mul, lt, le, ofInt}
+use lib.Ieee.{Float, nan, inf, fin, binary64, up, down, round, mul, div, lt, le, ofInt}
 use lib.Ieee.Fits.{down-pos}
 use lib.Ieee.Exact.{HasValue, round-exact}
 use lib.Ieee.Back.{round-whole}
 use lib.Ieee.Nearest.{div-mono}
 use lib.Ieee.Order.{round-mono}
 use lib.Ieee.Scale.{round-same}
-use Rattle.doubles.specs.Doubles.{double, halfAway}
+use lib.Ieee.Positive.{num, den, first-pos}
+use Rattle.doubles.specs.Doubles.{double, halfAway, toU32}
 use Rattle.doubles.proofs.Halves.{twice-pos, no-halves}
 use Rattle.doubles.proofs.Values.{or-l, le-says, le-negative, minus-zero}
 
--- ---- the product, as one fraction rounded
+-- ---- product and quotient, as one fraction rounded
 pub double-value : (n : ℕ) → n ≤ 2 ^ 53 → HasValue (double n) false n 1
 unfolding ofInt
 double-value n h = round-whole binary64 false n h
 
-pub mul-value : (d : Float) (n m : ℕ) (e : ℤ) → HasValue d false n 1 → mul binary64 d (fin false m e) ≡ round binary64 false (n * (m * up e)) (down e)
+-- a finite double with the sign + is its own fraction, and is rounded by it
+pub value-own : (y : Float) (a c : ℕ) → HasValue y false a c → HasValue y false (num y) (den y)
+value-own nan a c v = absurd v
+value-own (inf s) a c v = absurd v
+value-own (fin true m e) a c v = absurd (true≢false (v .0))
+value-own (fin false m e) a c v = (refl, refl)
+
+pub halves-of-value : (y : Float) → HasValue y false (num y) (den y) → halfAway y ≡ (2 * num y + den y) / (2 * den y)
+unfolding halfAway
+halves-of-value nan v = absurd v
+halves-of-value (inf s) v = absurd v
+halves-of-value (fin true m e) v = absurd (true≢false (v .0))
+halves-of-value (fin false m e) v = refl
+
+pub toU32-of-value : (y : Float) → HasValue y false (num y) (den y) → toU32 y ≡ min 4294967295 (halfAway y)
+unfolding toU32
+toU32-of-value nan v = absurd v
+toU32-of-value (inf s) v = absurd v
+toU32-of-value (fin s m e) v = refl
+
+-- the values may be written as any fractions
+pub mul-of-values : (x y : Float) (a c b d : ℕ) → 0 < c → 0 < d → HasValue x false a c → HasValue y false b d → mul binary64 x y ≡ round binary64 false (a * b) (c * d)
 unfolding mul
-mul-value nan n m e v = absurd v
-mul-value (inf s) n m e v = absurd v
-mul-value (fin true a g) n m e v = absurd (true≢false (v .0))
-mul-value (fin false a g) n m e v =
-    round-same binary64 false (a * up g * (m * up e)) (down g * down e) (n * (m * up e)) (down e) (mul-pos (down-pos g) (down-pos e)) (down-pos e)
-    (crossed (a * up g) (m * up e) (down e) n (down g) (sym (mul-one (a * up g)) ∙ v .1))
+mul-of-values nan y a c b d C D v w = absurd v
+mul-of-values (inf s) y a c b d C D v w = absurd v
+mul-of-values (fin true m e) y a c b d C D v w = absurd (true≢false (v .0))
+mul-of-values (fin false m e) nan a c b d C D v w = absurd w
+mul-of-values (fin false m e) (inf s) a c b d C D v w = absurd w
+mul-of-values (fin false m e) (fin true n g) a c b d C D v w = absurd (true≢false (w .0))
+mul-of-values (fin false m e) (fin false n g) a c b d C D v w =
+    round-same binary64 false (m * up e * (n * up g)) (down e * down g) (a * b) (c * d) (mul-pos (down-pos e) (down-pos g)) (mul-pos C D)
+    (mul-mul-mul-comm (m * up e) (n * up g) c d ∙ ap (λ (z : ℕ). z * (n * up g * d)) (v .1) ∙ ap (λ (z : ℕ). a * down e * z) (w .1) ∙ mul-mul-mul-comm a (down e) b (down g))
+
+pub not-none : (m : ℕ) → 0 < m → eqb m 0 ≡ false
+not-none zero h = absurd (lt-irrefl 0 h)
+not-none (suc m) h = eqb·suc-zero m
+
+pub div-of-values : (x y : Float) (a c b d : ℕ) → 0 < c → 0 < d → 0 < b → HasValue x false a c → HasValue y false b d → div binary64 x y ≡ round binary64 false (a * d) (b * c)
+unfolding div
+div-of-values nan y a c b d C D B v w = absurd v
+div-of-values (inf s) y a c b d C D B v w = absurd v
+div-of-values (fin true m e) y a c b d C D B v w = absurd (true≢false (v .0))
+div-of-values (fin false m e) nan a c b d C D B v w = absurd w
+div-of-values (fin false m e) (inf s) a c b d C D B v w = absurd w
+div-of-values (fin false m e) (fin true n g) a c b d C D B v w = absurd (true≢false (w .0))
+div-of-values (fin false m e) (fin false n g) a c b d C D B v w =
+    let P : 0 < n * up g = first-pos (n * up g) d (subst (λ (z : ℕ). 0 < z) (sym (w .1)) (mul-pos B (down-pos g))) in
+    ap (λ (t : Bool). cond t (cond (eqb m 0) nan (inf false)) (round binary64 false (m * up e * down g) (n * up g * down e))) (not-none n (first-pos n (up g) P))
+    ∙ round-same binary64 false (m * up e * down g) (n * up g * down e) (a * d) (b * c) (mul-pos P (down-pos e)) (mul-pos B C)
+    (crossed (m * up e) (down g) (n * up g) (down e) a d b c (v .1) (w .1))
   where
-    crossed : (A B D n G : ℕ) → A ≡ n * G → A * B * D ≡ n * B * (G * D)
-    crossed A B D n G h = ap (λ (z : ℕ). z * B * D) h ∙ simp (mul-assoc, mul-comm, mul-left-comm)
+    crossed : (N g M e a d b c : ℕ) → N * c ≡ a * e → M * d ≡ b * g → N * g * (b * c) ≡ a * d * (M * e)
+    crossed N g M e a d b c p q = omega (arith, ap (λ (z : ℕ). z * (b * g)) p, ap (λ (z : ℕ). a * e * z) q)
+
+pub mul-value : (d : Float) (n m : ℕ) (e : ℤ) → HasValue d false n 1 → mul binary64 d (fin false m e) ≡ round binary64 false (n * (m * up e)) (down e)
+mul-value d n m e v =
+    mul-of-values d (fin false m e) n 1 (m * up e) (down e) (zero-lt-suc 0) (down-pos e) v (refl, refl)
+    ∙ ap (λ (z : ℕ). round binary64 false (n * (m * up e)) z) (one-mul (down e))
 
 pub mul-value-neg : (d : Float) (n m : ℕ) (e : ℤ) → HasValue d false n 1 → mul binary64 d (fin true m e) ≡ round binary64 true (n * (m * up e)) (down e)
 unfolding mul

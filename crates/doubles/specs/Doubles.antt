@@ -1,4 +1,5 @@
--- Document 01, "Doubles": samples and milliseconds over the toolchain's IEEE 754. A literal is its number m * 2 ^ e with m odd. Assumes nothing.
+-- Document 01, "Doubles": samples and milliseconds over the toolchain's IEEE 754, at a rate of samples a second (document 02, §9: "`ms`, `samples` .. take the rate").
+-- A literal is its number m * 2 ^ e with m odd. Assumes nothing.
 use Prim.Native.Nat.{ℕ, _+_, _-_, _*_, _/_, min}
 use mathlib.Core.Bool.{true, false}
 use lib.IntN.{pos}
@@ -8,17 +9,13 @@ use lib.Ieee.{Float, nan, inf, fin, binary64, up, down, ofInt, mul, div}
 abbrev pub thousand : Float
 thousand = fin false 125 (pos 3)
 
--- 48000 is 375 * 2 ^ 7: the samples of a second
-abbrev pub rate : Float
-rate = fin false 375 (pos 7)
-
 -- a whole number as a double
 abbrev pub double : ℕ → Float
 double n = ofInt binary64 (pos n)
 
--- "`ms(n)` = n times 1000 / 48000 in doubles, each operation rounded once"
-unfoldable pub msOf : ℕ → Float
-msOf n = div binary64 (mul binary64 (double n) thousand) rate
+-- "`ms(n)` = n times 1000 / 48000 in doubles, each operation rounded once", with the rate in the place of 48000
+unfoldable pub msOf : (rate n : ℕ) → Float
+msOf rate n = div binary64 (mul binary64 (double n) thousand) (double rate)
 
 -- "rounded to a whole number with halves away from zero": floor (v + 1 / 2) of the exact value v; 0 where it is below zero or not finite
 unfoldable pub halfAway : Float → ℕ
@@ -42,7 +39,7 @@ toU32 (inf true) = 0
 toU32 (inf false) = 4294967295
 toU32 (fin s m e) = min 4294967295 (halfAway (fin s m e))
 
--- "`samples(m)` = m times 48000 / 1000", rounded so
-unfoldable pub samplesOf : Float → ℕ
+-- "`samples(m)` = m times 48000 / 1000", rounded so, with the rate in the place of 48000
+unfoldable pub samplesOf : (rate : ℕ) (m : Float) → ℕ
 unfolding toU32
-samplesOf m = toU32 (div binary64 (mul binary64 m rate) thousand)
+samplesOf rate m = toU32 (div binary64 (mul binary64 m (double rate)) thousand)

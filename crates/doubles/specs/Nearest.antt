@@ -43,5 +43,5 @@ pub record Rounding : Type 0 where
   pub nearest : (x : Float) → InRange x → Nearest x (pos (halfAway x))
   -- no other whole number meets both
   pub only : (x : Float) → InRange x → (k : ℤ) → Nearest x k → k ≡ pos (halfAway x)
-  -- `samples` gives toU32 x for the double x = m times 48000 / 1000: nothing is cut off there
+  -- `samples` gives toU32 x for the double x = m times rate / 1000: nothing is cut off there
   pub uncut : (x : Float) → InRange x → toU32 x ≡ halfAway x

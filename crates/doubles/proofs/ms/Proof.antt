@@ -1,17 +1,27 @@
--- `doubles::ms` meets its contract: the code's two literals are the definition's once `ofBits` is unfolded. Assumes nothing.
+-- `doubles::ms` meets its contract. Assumes nothing.
+use mathlib.Core.Path.{sym, ap, _∙_}
 use borrow.Author.Needs.{needs}
-use mathlib.Core.Path.{refl}
-use lib.Ieee.{ofBits}
-use Rattle.doubles.specs.Doubles.{msOf}
+use lib.Ieee.{Float, ofBits}
+use Rattle.base.proofs.All.{told-yes, told-no}
+use Rattle.doubles.specs.Answers.{msBy}
+use Rattle.doubles.proofs.Rates.{ms-refused, ms-answered}
 use Rattle.doubles.proofs.ms.Statement.{statement}
 use Rattle.doubles.proofs.ms.Tie as tie
 
-int-to-float-result : tie.Need-int-to-float-result
-int-to-float-result c = search needs
+rate-allowed-requires : tie.Need-rate-allowed-requires
+rate-allowed-requires c κs = search needs
 
 returns : tie.Need-returns
-unfolding msOf ofBits
-returns c = refl
+unfolding ofBits
+returns c = sym (ms-refused _ _ (told-no _ _ (c .before .rate-allowed .ensures) (c .if1 .taken)))
+
+ms-requires : tie.Need-ms-requires
+ms-requires c κs = search needs
+
+returns-2 : tie.Need-returns-2
+returns-2 c =
+    ap (λ (x : Float). msBy 0 x) (c .ms .ensures)
+    ∙ sym (ms-answered _ _ (told-yes _ _ (c .before .before .rate-allowed .ensures) (c .before .if1 .left)))
 
 pub ms-spec : {M : Type 1} → statement M
-ms-spec = tie.close (tie.spec int-to-float-result returns)
+ms-spec = tie.close (tie.spec rate-allowed-requires returns ms-requires returns-2)
