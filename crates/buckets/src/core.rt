@@ -4,13 +4,11 @@ ghost use Prim.Native.Nat.{_≤_};
 ghost use Rattle.base.specs.Limits.{samplesLimit};
 ghost use Rattle.buckets.specs.Ranges.{bucketsOf};
 
-// The samples of a tenth of a second: how far the buckets reach beyond offset and maximum.
-const TENTH: u32 = 4_800;
-
-// The buckets of a second for these settings.
-pub fn buckets_of(offset: u32, maximum: u32, width: u32) -> usize
+// The buckets of a second for these settings: they reach a tenth of a second beyond offset and maximum.
+pub fn buckets_of(rate: u32, offset: u32, maximum: u32, width: u32) -> usize
     requires { ⌜ (offset ≤ samplesLimit) × (maximum ≤ samplesLimit) × (1 ≤ width) ⌝ }
-    ensures { λ r. ⌜ r ≡ bucketsOf offset maximum width ⌝ }
+    ensures { λ r. ⌜ r ≡ bucketsOf rate offset maximum width ⌝ }
 {
-    ((offset + maximum + TENTH) / width) as usize + 2
+    let tenth = rates::tenth(rate);
+    ((offset + maximum + tenth) / width) as usize + 2
 }

@@ -1,4 +1,4 @@
-// Offset, maximum and W, from which the buckets of a second follow: their ranges (checks 2, 17 and 18).
+// The rate, offset, maximum and W, from which the buckets of a second follow: their ranges (checks 23, 2, 17 and 18).
 ghost use mathlib.Core.Path.{_≡_};
 ghost use Rattle.buckets.specs.Ranges.{reachesAllowed, widthAllowed, bucketsAllowed, rangesNumber};
 
@@ -35,17 +35,20 @@ pub fn buckets_allowed(buckets: usize) -> bool
     buckets <= base::BUCKETS_LIMIT
 }
 
-// The number of the first of checks 2, 17 and 18 that says no, or 0.
-pub fn ranges_number(offset: u32, maximum: u32, width: u32) -> u32
-    ensures { λ r. ⌜ r ≡ rangesNumber offset maximum width 0 ⌝ }
+// The number of the first of checks 23, 2, 17 and 18 that says no, or 0.
+pub fn ranges_number(rate: u32, offset: u32, maximum: u32, width: u32) -> u32
+    ensures { λ r. ⌜ r ≡ rangesNumber rate offset maximum width 0 ⌝ }
 {
+    if !rates::rate_allowed(rate) {
+        return 23;
+    }
     if !reaches_allowed(offset, maximum) {
         return 2;
     }
     if !width_allowed(width) {
         return 17;
     }
-    if base::BUCKETS_LIMIT < core::buckets_of(offset, maximum, width) {
+    if base::BUCKETS_LIMIT < core::buckets_of(rate, offset, maximum, width) {
         return 18;
     }
     0
