@@ -1,5 +1,5 @@
 -- Document 01's five answers of `next` as far as current 48, computed on the definition of the call. Assumes nothing.
--- a fresh hold, W 48, one hour after the clock's start
+-- a fresh hold, W 48, 48,000 samples a second, one hour after the clock's start
 use Prim.Native.Nat.{ℕ}
 use mathlib.Core.Path.{_≡_, refl}
 use mathlib.Core.List.{[], _∷_}
@@ -20,6 +20,7 @@ use Rattle.delay_hold.specs.Step4Peaks.{joinTimes, joinLags, oldCount, t
 use Rattle.delay_hold.specs.Steps5To8.{lowering, weighed, decideAt, decide}
 use Rattle.delay_hold.specs.Next.{Held, held, freshHold, nextOf}
 use Rattle.base.specs.Rows.{apart, upTo}
+use Rattle.rates.specs.Rates.{rateAllowed}
 use Rattle.buckets.specs.Ranges.{reachesAllowed, widthAllowed, bucketsOf, bucketsFew, rangesNumber}
 use Rattle.delay_hold.specs.Whole.{timerFits, wholePeaks, wholeTimes, wholeHold}
 use Rattle.delay_hold.specs.Checks.{listsFit, settingsNumber, heldNumber, nextNumber, nextReply}
@@ -32,5 +33,5 @@ first p999 largest current = nextReply examplePolicy 48 fresh p999 largest curre
 
 -- "Current 0: lag 485 gives 104, lag 480 none, lag 5281 none. p999 480, no lag: current 47 raises to 96, 48 does not"
 pub answers : first None (Of 485) 0 ∷ first None (Of 480) 0 ∷ first None (Of 5281) 0 ∷ first (Of 480) None 47 ∷ first (Of 480) None 48 ∷ [] ≡ Changed 104 ∷ Kept ∷ Kept ∷ Changed 96 ∷ Kept ∷ []
-unfolding nextReply nextNumber settingsNumber heldNumber listsFit wholeHold wholePeaks wholeTimes timerFits apart upTo all blankFrom ask both reachesAllowed widthAllowed bucketsOf bucketsFew rangesNumber timesAllowed marginsAllowed nextOf noted joinTimes joinLags oldCount timesAfter lagsAfter padded decide decideAt weighed lowering needOf halfAway round mul ofInt le
+unfolding nextReply nextNumber settingsNumber heldNumber listsFit wholeHold wholePeaks wholeTimes timerFits apart upTo all blankFrom ask both rateAllowed reachesAllowed widthAllowed bucketsOf bucketsFew rangesNumber timesAllowed marginsAllowed nextOf noted joinTimes joinLags oldCount timesAfter lagsAfter padded decide decideAt weighed lowering needOf halfAway round mul ofInt le
 answers = refl

@@ -10,6 +10,7 @@ use Rattle.base.specs.Limits.{nanos, spanLimit, timeLimit, widthLimit}
 use Rattle.base.specs.Choice.{accepted}
 use Rattle.base.proofs.Choices.{yes-ask, no-ask, asked, refused-old, accepted-new}
 use Rattle.base.proofs.Points.{both-true}
+use Rattle.rates.specs.Rates.{Rated}
 use Rattle.buckets.proofs.Told.{reaches-yes, ranges-told}
 use Rattle.policy.specs.declared.DelayPolicy.{DelayPolicy}
 use Rattle.policy.specs.Settings.{Sound}
@@ -49,8 +50,9 @@ module _ (times lags : List ℕ) where
   unfolding newNumber
   new-made h ts ls e a = ap (leaves 0) e ∙ new-by {n = 0} (yes-ask 5 _ a)
 
--- ---- checks 2, 17, 18, 3 and 4 of next
+-- ---- checks 23, 2, 17, 18, 3 and 4 of next
 pub record Settled (policy : DelayPolicy) (width : ℕ) : Type 0 where
+  pub rated : Rated (policy .rate)
   pub sound : Sound policy
   pub window-least : nanos ≤ policy .window
   pub window-most : policy .window ≤ spanLimit
@@ -60,12 +62,12 @@ module _ (policy : DelayPolicy) (width : ℕ) where
   pub settled : settingsNumber policy width ≡ 0 → Settled policy width
   unfolding settingsNumber
   settled h =
-      let told = ranges-told (policy .«read_offset») (policy .«delay_max») width _ h in
+      let told = ranges-told (policy .rate) (policy .«read_offset») (policy .«delay_max») width _ h in
       let r = told .0 in
       let d = asked 2 _ _ (told .1) in
       let e = asked 3 _ _ (d .1) in
       let t = allowed-times policy (d .0) in
-      record { sound = allowed-sound policy (reaches-yes _ _ (r .offset-most) (r .maximum-most)) (e .0); window-least = t .1; window-most = t .2; width-most = r .width-most }
+      record { rated = r .rated; sound = allowed-sound policy (reaches-yes _ _ (r .offset-most) (r .maximum-most)) (e .0); window-least = t .1; window-most = t .2; width-most = r .width-most }
 
   pub settings-most : settingsNumber policy width ≡ 0 → peakMost policy width < 2 ^ 32
   settings-most h = let s = settled h in omega (arith, s .sound .offset, s .sound .maximum, s .width-most)
@@ -98,6 +100,7 @@ module _ (policy : DelayPolicy) (width : ℕ) (s : Held) (p999 : Lag) (current t
       let e = asked 14 _ _ (d .1) in
       let l = lists-long s (a .0) in (
         record {
+          rated = t .rated;
           sound = t .sound;
           window-least = t .window-least;
           window-most = t .window-most;
@@ -121,7 +124,7 @@ module _ (policy : DelayPolicy) (width : ℕ) (s : Held) (p999 : Lag) (current t
   -- ---- what next leaves
   module _ (largest : Lag) where
     abbrev decision-of : Decided
-    decision-of = nextOf oneMillisecond alwaysLower policy s p999 largest current time
+    decision-of = nextOf (oneMillisecond policy) alwaysLower policy s p999 largest current time
 
     next-by : {n : ℕ} → nextNumber policy width s p999 current time ≡ n → replyOf n s decision-of ≡ nextReply policy width s p999 largest current time
     unfolding nextReply

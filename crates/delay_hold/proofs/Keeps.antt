@@ -284,4 +284,4 @@ pub accepted-keeps-whole :
 unfolding nextReply
 accepted-keeps-whole policy width s p999 largest current time z =
     let f = accepted-facts policy width s p999 current time z in
-    rw z (next-keeps-whole oneMillisecond alwaysLower width policy s p999 largest current time (f .0) (f .1))
+    rw z (next-keeps-whole (oneMillisecond policy) alwaysLower width policy s p999 largest current time (f .0) (f .1))

@@ -1,4 +1,4 @@
--- The checks of `new` and of `next` alone (document 01's, with document 02's 17 and 18), the answers, and what each call leaves. Assumes nothing.
+-- The checks of `new` and of `next` alone (document 01's, with document 02's 23, 17 and 18), the answers, and what each call leaves. Assumes nothing.
 use Prim.Native.Nat.{ℕ, zero, suc, _≤_}
 use mathlib.Core.Path.{_≡_}
 use mathlib.Core.Bool.{Bool, true}
@@ -7,6 +7,7 @@ use lib.Dec.{leb, eqb}
 use lib.ListN.{length}
 use Rattle.base.specs.Choice.{ask, both, accepted}
 use Rattle.base.specs.Limits.{nanos, spanLimit, timely, widthLimit}
+use Rattle.rates.specs.Rates.{Rated}
 use Rattle.buckets.specs.Ranges.{rangesNumber}
 use Rattle.policy.specs.declared.DelayPolicy.{DelayPolicy}
 use Rattle.policy.specs.Settings.{timesAllowed, marginsAllowed, Sound}
@@ -49,10 +50,10 @@ abbrev pub lagUpTo : Lag → (limit : ℕ) → Bool
 lagUpTo None limit = true
 lagUpTo (Of lag) limit = leb lag limit
 
--- 2 17 18 of offset, maximum and W, from which the buckets follow. 3. 4.
+-- 23 of the rate, 2 17 18 of offset, maximum and W, from which the buckets follow. 3. 4.
 unfoldable pub settingsNumber : (policy : DelayPolicy) (width : ℕ) → ℕ
 settingsNumber policy width =
-    rangesNumber (policy .«read_offset») (policy .«delay_max») width
+    rangesNumber (policy .rate) (policy .«read_offset») (policy .«delay_max») width
     (ask 3 (timesAllowed policy)
     (ask 4 (marginsAllowed policy) 0))
 
@@ -101,10 +102,11 @@ replyOf number s d = record { answer = nextAnswer number (d .change); held = acc
 
 unfoldable pub nextReply : (policy : DelayPolicy) (width : ℕ) (s : Held) (p999 largest : Lag) (current time : ℕ) → Reply
 nextReply policy width s p999 largest current time =
-    replyOf (nextNumber policy width s p999 current time) s (nextOf oneMillisecond alwaysLower policy s p999 largest current time)
+    replyOf (nextNumber policy width s p999 current time) s (nextOf (oneMillisecond policy) alwaysLower policy s p999 largest current time)
 
 -- ---- what `core::next` asks: what the checks say, but for the time
 pub record AskedFor (width : ℕ) (policy : DelayPolicy) (s : Held) (p999 : Lag) (current : ℕ) : Type 0 where
+  pub rated : Rated (policy .rate)
   pub sound : Sound policy
   pub window-least : nanos ≤ policy .window
   pub window-most : policy .window ≤ spanLimit

@@ -5,6 +5,7 @@ use mathlib.Core.Bool.{Bool, true, false}
 use mathlib.Core.List.{List}
 use lib.ListN.{length, take, replicate}
 use Rattle.base.specs.Lists.{padded}
+use Rattle.rates.specs.Rates.{millisecond}
 use Rattle.policy.specs.declared.DelayPolicy.{DelayPolicy}
 use Rattle.delay_hold.specs.declared.Moment.the-variants.{Never}
 use Rattle.delay_hold.specs.declared.Seed.the-variants.{Nothing, From}
@@ -17,9 +18,9 @@ use Rattle.delay_hold.specs.Steps1To3.{inStartup, capped, lagOf, lateOf,
 use Rattle.delay_hold.specs.Step4Peaks.{mostPeaks, largerLag, timesAfter, lagsAfter, worstOf}
 use Rattle.delay_hold.specs.Steps5To8.{decide, timerOff}
 
--- document 01's 48: one millisecond of samples
-abbrev pub oneMillisecond : ℕ
-oneMillisecond = 48
+-- document 02, §9: "One millisecond of samples replaces the 48 of the timer rule and of the seed rule"
+abbrev pub oneMillisecond : (policy : DelayPolicy) → ℕ
+oneMillisecond policy = millisecond (policy .rate)
 
 -- a due lowering never waits
 abbrev pub alwaysLower : Bool

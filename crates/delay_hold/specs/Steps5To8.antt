@@ -1,5 +1,5 @@
 -- Document 01, "DelayHold", steps 5 to 8: whether the delay changes, and to what. Assumes nothing.
--- `millisecond` is document 01's 48 samples; `mayLower` says whether a due lowering happens at this call or waits.
+-- `millisecond` is document 01's 48 samples, at another rate as many as it has in a millisecond; `mayLower` says whether a due lowering happens at this call or waits.
 use Prim.Native.Nat.{ℕ, _+_, _-_, _/_, max}
 use mathlib.Core.Bool.{Bool, true, false, not, _&&_, _||_}
 use lib.Dec.{ltb, leb}

@@ -2,10 +2,9 @@
 ghost use mathlib.Core.Path.{_≡_};
 ghost use Prim.Native.Nat.{_≤_, _<_, _^_};
 ghost use lib.ListN.{length, take};
-ghost use Rattle.base.specs.Limits.{samplesLimit};
 ghost use Rattle.delay_hold.specs.Step4Peaks.{worstOf, mostPeaks};
 ghost use Rattle.delay_hold.specs.Steps5To8.{timerOff, withLower};
-ghost use Rattle.delay_hold.specs.Next.{held, decided, nextOf, freshHold, clearedHold, seededHold, withPeaks};
+ghost use Rattle.delay_hold.specs.Next.{oneMillisecond, held, decided, nextOf, freshHold, clearedHold, seededHold, withPeaks};
 ghost use Rattle.delay_hold.specs.Whole.{peakMost, wholeHold};
 ghost use Rattle.delay_hold.specs.Checks.{Asked};
 use super::DelayHold;
@@ -19,9 +18,6 @@ use super::steps_1_to_3::cap;
 use super::steps_1_to_3::in_startup;
 use base::most;
 use policy::DelayPolicy;
-
-// One millisecond of samples: the delay goes down only where the need is at least so much lower.
-pub const DELAY_LOWER_SAMPLES: u32 = 48;
 
 // A lowering that is due happens at once.
 pub const ALWAYS_LOWER: bool = true;
@@ -108,7 +104,7 @@ impl DelayHold {
     }
 }
 
-// Steps 1 to 8, with so many samples in a millisecond; a lowering that is due waits where it may not happen now.
+// Steps 1 to 8, with one millisecond of samples by the policy's rate; a lowering that is due waits where it may not happen now.
 pub fn next(
     hold: DelayHold,
     times: &mut [u64],
@@ -118,13 +114,12 @@ pub fn next(
     current: u32,
     policy: DelayPolicy,
     time: u64,
-    millisecond: u32,
     may_lower: bool,
 ) -> Next
     requires { ⌜ Asked policy (held hold (now times) (now lags)) p999 current ⌝ }
-    requires { ⌜ millisecond ≤ samplesLimit ⌝ }
-    ensures { λ r. ⌜ decided r (now (times .exit)) (now (lags .exit)) ≡ nextOf millisecond «may_lower» policy (held hold (now (times .entry)) (now (lags .entry))) p999 «max_lag» current time ⌝ }
+    ensures { λ r. ⌜ decided r (now (times .exit)) (now (lags .exit)) ≡ nextOf (oneMillisecond policy) «may_lower» policy (held hold (now (times .entry)) (now (lags .entry))) p999 «max_lag» current time ⌝ }
 {
+    let millisecond = rates::millisecond(policy.rate);
     let begun = hold.started;
     let startup = in_startup(begun.started(time), hold.startup_late, time);
     let hold_now = cap(startup, policy.hold);

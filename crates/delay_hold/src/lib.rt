@@ -108,11 +108,11 @@ fn lists_fit(times: &[u64], lags: &[u32]) -> bool
     lags.len() == DelayHold::PLACES
 }
 
-// Checks 2, 17, 18, 3 and 4: the first that says no, or 0.
+// Checks 23, 2, 17, 18, 3 and 4: the first that says no, or 0.
 fn settings_number(policy: DelayPolicy, width: u32) -> u32
     ensures { λ r. ⌜ r ≡ settingsNumber policy width ⌝ }
 {
-    let ranges = buckets::ranges_number(policy.read_offset, policy.delay_max, width);
+    let ranges = buckets::ranges_number(policy.rate, policy.read_offset, policy.delay_max, width);
     if ranges != 0 {
         return ranges;
     }
@@ -229,7 +229,6 @@ impl DelayHold {
             current,
             policy,
             time,
-            core::DELAY_LOWER_SAMPLES,
             core::ALWAYS_LOWER,
         );
         let hold = next.hold;

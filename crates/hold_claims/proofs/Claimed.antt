@@ -4,6 +4,7 @@ use lib.Ieee.{round, mul, ofInt, le}
 use Rattle.base.specs.Choice.{ask, both}
 use Rattle.base.specs.Lists.{all, blankFrom}
 use Rattle.base.specs.Rows.{apart, upTo}
+use Rattle.rates.specs.Rates.{rateAllowed}
 use Rattle.buckets.specs.Ranges.{reachesAllowed, widthAllowed, bucketsOf, bucketsFew, rangesNumber}
 use Rattle.doubles.specs.Doubles.{halfAway}
 use Rattle.policy.specs.Settings.{timesAllowed, marginsAllowed}
@@ -14,7 +15,7 @@ use Rattle.delay_hold.specs.Steps5To8.{lowering, weighed, decideAt, decide}
 use Rattle.delay_hold.specs.Next.{nextOf}
 use Rattle.delay_hold.specs.Whole.{timerFits, wholePeaks, wholeTimes, wholeHold}
 use Rattle.delay_hold.specs.Checks.{listsFit, newNumber, newReply, settingsNumber, heldNumber, nextNumber, nextReply}
-use Rattle.hold_claims.specs.Claims.{StartupUnder60Seconds, StartupUnderTwoLates, LateCountedInStartup, SeedEndsStartup, PeakJoinedUnder1Second, NothingToGoBy, TimerStartsOrKeeps, ChangeStored, StartupOf5Seconds, SeedByThePolicysHold, FarLagDropped, LateCountedOnce, HalfRoundedDown, TimerOffNearTheNeed, LoweredToTheHighest, LoweringLooksAtTheLastChange, ReachesWidthBucketsChecked, CurrentAndP999Checked, PeaksSpanLessThanWindow, RefusalLeavesTheLists, NewZeroesBothLists, NewOf599Refused}
+use Rattle.hold_claims.specs.Claims.{StartupUnder60Seconds, StartupUnderTwoLates, LateCountedInStartup, SeedEndsStartup, SeedEndsStartupAt96000, PeakJoinedUnder1Second, NothingToGoBy, TimerStartsOrKeeps, ChangeStored, StartupOf5Seconds, SeedByThePolicysHold, FarLagDropped, LateCountedOnce, HalfRoundedDown, TimerOffNearTheNeed, TimerOffNearTheNeedAt96000, LoweredToTheHighest, LoweringLooksAtTheLastChange, ReachesWidthBucketsChecked, RateChecked, CurrentAndP999Checked, PeaksSpanLessThanWindow, RefusalLeavesTheLists, NewZeroesBothLists, NewOf599Refused}
 
 pub startup-of-5-seconds : StartupOf5Seconds
 unfolding nextOf noted joinTimes joinLags oldCount timesAfter lagsAfter decide decideAt weighed lowering needOf halfAway round mul ofInt
@@ -40,6 +41,10 @@ pub timer-off-near-the-need : TimerOffNearTheNeed
 unfolding nextOf noted joinTimes joinLags oldCount timesAfter lagsAfter decide decideAt weighed lowering needOf halfAway round mul ofInt
 timer-off-near-the-need = refl
 
+pub timer-off-near-the-need-at-96000 : TimerOffNearTheNeedAt96000
+unfolding nextOf noted joinTimes joinLags oldCount timesAfter lagsAfter decide decideAt weighed lowering needOf halfAway round mul ofInt
+timer-off-near-the-need-at-96000 = refl
+
 pub lowered-to-the-highest : LoweredToTheHighest
 unfolding nextOf noted joinTimes joinLags oldCount timesAfter lagsAfter decide decideAt weighed lowering needOf halfAway round mul ofInt
 lowered-to-the-highest = refl
@@ -49,19 +54,23 @@ unfolding nextOf noted joinTimes joinLags oldCount timesAfter lagsAfter decide d
 lowering-looks-at-the-last-change = refl
 
 pub reaches-width-buckets-checked : ReachesWidthBucketsChecked
-unfolding nextNumber settingsNumber heldNumber listsFit wholeHold wholePeaks wholeTimes timerFits apart upTo all blankFrom ask both reachesAllowed widthAllowed bucketsOf bucketsFew rangesNumber timesAllowed marginsAllowed le
+unfolding nextNumber settingsNumber heldNumber listsFit wholeHold wholePeaks wholeTimes timerFits apart upTo all blankFrom ask both rateAllowed reachesAllowed widthAllowed bucketsOf bucketsFew rangesNumber timesAllowed marginsAllowed le
 reaches-width-buckets-checked = refl
 
+pub rate-checked : RateChecked
+unfolding nextNumber settingsNumber heldNumber listsFit wholeHold wholePeaks wholeTimes timerFits apart upTo all blankFrom ask both rateAllowed reachesAllowed widthAllowed bucketsOf bucketsFew rangesNumber timesAllowed marginsAllowed le
+rate-checked = refl
+
 pub current-and-p999-checked : CurrentAndP999Checked
-unfolding nextNumber settingsNumber heldNumber listsFit wholeHold wholePeaks wholeTimes timerFits apart upTo all blankFrom ask both reachesAllowed widthAllowed bucketsOf bucketsFew rangesNumber timesAllowed marginsAllowed le
+unfolding nextNumber settingsNumber heldNumber listsFit wholeHold wholePeaks wholeTimes timerFits apart upTo all blankFrom ask both rateAllowed reachesAllowed widthAllowed bucketsOf bucketsFew rangesNumber timesAllowed marginsAllowed le
 current-and-p999-checked = refl
 
 pub peaks-span-less-than-window : PeaksSpanLessThanWindow
-unfolding nextNumber settingsNumber heldNumber listsFit wholeHold wholePeaks wholeTimes timerFits apart upTo all blankFrom ask both reachesAllowed widthAllowed bucketsOf bucketsFew rangesNumber timesAllowed marginsAllowed le
+unfolding nextNumber settingsNumber heldNumber listsFit wholeHold wholePeaks wholeTimes timerFits apart upTo all blankFrom ask both rateAllowed reachesAllowed widthAllowed bucketsOf bucketsFew rangesNumber timesAllowed marginsAllowed le
 peaks-span-less-than-window = refl
 
 pub refusal-leaves-the-lists : RefusalLeavesTheLists
-unfolding nextReply nextNumber settingsNumber heldNumber listsFit wholeHold wholePeaks wholeTimes timerFits apart upTo all blankFrom ask both reachesAllowed widthAllowed bucketsOf bucketsFew rangesNumber timesAllowed marginsAllowed le
+unfolding nextReply nextNumber settingsNumber heldNumber listsFit wholeHold wholePeaks wholeTimes timerFits apart upTo all blankFrom ask both rateAllowed reachesAllowed widthAllowed bucketsOf bucketsFew rangesNumber timesAllowed marginsAllowed le
 refusal-leaves-the-lists = refl
 
 pub new-zeroes-both-lists : NewZeroesBothLists
@@ -87,6 +96,10 @@ late-counted-in-startup = refl
 pub seed-ends-startup : SeedEndsStartup
 unfolding nextOf noted joinTimes joinLags oldCount timesAfter lagsAfter decide decideAt weighed lowering needOf halfAway round mul ofInt
 seed-ends-startup = refl
+
+pub seed-ends-startup-at-96000 : SeedEndsStartupAt96000
+unfolding nextOf noted joinTimes joinLags oldCount timesAfter lagsAfter decide decideAt weighed lowering needOf halfAway round mul ofInt
+seed-ends-startup-at-96000 = refl
 
 pub peak-joined-under-1-second : PeakJoinedUnder1Second
 unfolding nextOf noted joinTimes joinLags oldCount timesAfter lagsAfter decide decideAt weighed lowering needOf halfAway round mul ofInt

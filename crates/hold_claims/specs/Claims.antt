@@ -1,5 +1,5 @@
 -- Document 01, "DelayHold", step by step: what `next` answers at the edges of its rules, as numbers. Assumes nothing.
--- Settings: offset 480, maximum 4,800, margin 96, share 0.5, hold 30 s, window 10 s; W 48.
+-- Settings: offset 480, maximum 4,800, margin 96, share 0.5, hold 30 s, window 10 s, rate 48,000 (where it is not said to be 96,000); W 48.
 use Prim.Native.Nat.{ℕ}
 use mathlib.Core.Bool.{Bool, true, false}
 use mathlib.Core.Path.{_≡_}
@@ -22,8 +22,11 @@ use Rattle.delay_hold.specs.Steps5To8.{timerOff}
 use Rattle.delay_hold.specs.Next.{Held, held, Decided, nextOf, freshHold, oneMillisecond, alwaysLower}
 use Rattle.delay_hold.specs.Checks.{newReply, nextNumber, nextReply}
 
+abbrev pub settingsAt : (rate : ℕ) → DelayPolicy
+settingsAt rate = record { «read_offset» = 480; «delay_max» = 4800; hold = 30_000_000_000; window = 10_000_000_000; margin = 96; «margin_share» = fin false 1 (negsuc 0); rate = rate }
+
 abbrev pub settings : DelayPolicy
-settings = record { «read_offset» = 480; «delay_max» = 4800; hold = 30_000_000_000; window = 10_000_000_000; margin = 96; «margin_share» = fin false 1 (negsuc 0) }
+settings = settingsAt 48_000
 
 -- a hold that was started at 0, with so many startup lates, this last change, timer, late before and seed, and so many peaks
 abbrev pub holdingAfter : (lates peaks : ℕ) (change : Moment) (timer : LowerTimer) (lateBefore : Bool) (seed : Seed) → DelayHold
@@ -39,10 +42,14 @@ timing since highest = record { on = true; since = since; highest = highest }
 
 -- steps 1 to 8 on a hold without peaks, or with these
 abbrev pub nextWith : (h : DelayHold) (times lags : List ℕ) (p999 largest : Lag) (current time : ℕ) → Decided
-nextWith h times lags p999 largest current time = nextOf oneMillisecond alwaysLower settings (held h times lags) p999 largest current time
+nextWith h times lags p999 largest current time = nextOf (oneMillisecond settings) alwaysLower settings (held h times lags) p999 largest current time
 
 abbrev pub next : (h : DelayHold) (p999 largest : Lag) (current time : ℕ) → Decided
 next h p999 largest current time = nextWith h [] [] p999 largest current time
+
+-- the same without peaks at 96,000
+abbrev pub nextAt96000 : (h : DelayHold) (p999 largest : Lag) (current time : ℕ) → Decided
+nextAt96000 h p999 largest current time = nextOf (oneMillisecond (settingsAt 96_000)) alwaysLower (settingsAt 96_000) (held h [] []) p999 largest current time
 
 -- 600 places with these numbers first
 abbrev pub places : (first : List ℕ) (rest : ℕ) → List ℕ
@@ -121,6 +128,14 @@ SeedEndsStartup =
     ∷ []
     ≡ 2 ∷ 0 ∷ 0 ∷ []
 
+-- document 02, §9: "One millisecond of samples replaces the 48 .. of the seed rule": at 96,000 these are 96
+abbrev pub SeedEndsStartupAt96000 : Type 0
+SeedEndsStartupAt96000 =
+    nextAt96000 (holding 0 Never timerOff false (From 0 200)) None (Of 485) 4800 1_000_000_000 .held .hold .«startup_late»
+    ∷ nextAt96000 (holding 0 Never timerOff false (From 0 201)) None (Of 485) 4800 1_000_000_000 .held .hold .«startup_late»
+    ∷ []
+    ≡ 2 ∷ 0 ∷ []
+
 -- 4. "The larger of lag and p999 joins the newest peak if that is under 1 s old, else is a new peak"
 abbrev pub PeakJoinedUnder1Second : Type 0
 PeakJoinedUnder1Second =
@@ -146,6 +161,15 @@ TimerOffNearTheNeed =
     ∷ next (holding 0 Never (timing 0 120) false Nothing) (Of 480) None 144 1_000_000_000 .held .hold .lower
     ∷ []
     ≡ timerOff ∷ timing 0 120 ∷ []
+
+-- document 02, §9: "One millisecond of samples replaces the 48 of the timer rule": at 96,000 and need 96 a current of 191 turns it off, 192 does not
+abbrev pub TimerOffNearTheNeedAt96000 : Type 0
+TimerOffNearTheNeedAt96000 =
+    nextAt96000 (holding 0 Never (timing 0 120) false Nothing) (Of 480) None 191 1_000_000_000 .held .hold .lower
+    ∷ nextAt96000 (holding 0 Never (timing 0 120) false Nothing) (Of 480) None 192 1_000_000_000 .held .hold .lower
+    ∷ nextAt96000 (holding 0 Never (timing 0 120) false Nothing) (Of 480) None 144 1_000_000_000 .held .hold .lower
+    ∷ []
+    ≡ timerOff ∷ timing 0 120 ∷ timerOff ∷ []
 
 -- 8. "The timer starts, or keeps the highest need met": at need 96
 abbrev pub TimerStartsOrKeeps : Type 0
@@ -177,16 +201,20 @@ LoweringLooksAtTheLastChange =
     ∷ []
     ≡ Keep ∷ To 96 ∷ []
 
--- "Number 17 is for W, asked straight after 2; 18 for buckets, asked straight after 17": of `next` alone too, before 3
-abbrev pub reaching : (offset maximum : ℕ) → DelayPolicy
-reaching offset maximum = record { «read_offset» = offset; «delay_max» = maximum; hold = 0; window = 0; margin = 96; «margin_share» = fin false 1 (negsuc 0) }
+-- "Number 23 is for another rate", of `next` alone the first; "Number 17 is for W, asked straight after 2; 18 for buckets, asked straight after 17": of it too, before 3
+abbrev pub reaching : (rate offset maximum : ℕ) → DelayPolicy
+reaching rate offset maximum = record { «read_offset» = offset; «delay_max» = maximum; hold = 0; window = 0; margin = 96; «margin_share» = fin false 1 (negsuc 0); rate = rate }
 
-abbrev pub numberFor : (offset maximum width : ℕ) → ℕ
-numberFor offset maximum width = nextNumber (reaching offset maximum) width fresh None 0 1_000_000_000
+abbrev pub numberFor : (rate offset maximum width : ℕ) → ℕ
+numberFor rate offset maximum width = nextNumber (reaching rate offset maximum) width fresh None 0 1_000_000_000
 
 abbrev pub ReachesWidthBucketsChecked : Type 0
 ReachesWidthBucketsChecked =
-    numberFor 96001 96000 0 ∷ numberFor 96000 96001 1 ∷ numberFor 96000 96000 0 ∷ numberFor 0 0 4801 ∷ numberFor 96000 95760 48 ∷ numberFor 96000 95759 48 ∷ [] ≡ 2 ∷ 2 ∷ 17 ∷ 17 ∷ 18 ∷ 3 ∷ []
+    numberFor 48_000 96001 96000 0 ∷ numberFor 48_000 96000 96001 1 ∷ numberFor 48_000 96000 96000 0 ∷ numberFor 48_000 0 0 4801 ∷ numberFor 48_000 96000 95760 48 ∷ numberFor 48_000 96000 95759 48 ∷ [] ≡ 2 ∷ 2 ∷ 17 ∷ 17 ∷ 18 ∷ 3 ∷ []
+
+abbrev pub RateChecked : Type 0
+RateChecked =
+    numberFor 0 96001 96000 0 ∷ numberFor 44_100 0 0 48 ∷ numberFor 4_294_967_295 0 0 48 ∷ numberFor 96_000 96000 90960 48 ∷ numberFor 96_000 96000 90959 48 ∷ [] ≡ 23 ∷ 23 ∷ 23 ∷ 18 ∷ 3 ∷ []
 
 -- 15: "current at most maximum, p999 at most offset + maximum + W"
 abbrev pub CurrentAndP999Checked : Type 0

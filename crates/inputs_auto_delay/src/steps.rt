@@ -141,7 +141,6 @@ pub(crate) fn next_for(
         current(slot),
         policy,
         time,
-        delay_hold::core::DELAY_LOWER_SAMPLES,
         delay_hold::core::ALWAYS_LOWER,
     )
 }

@@ -38,8 +38,9 @@ impl LagWindow {
     // The most lags that one second counts (check 11).
     pub(crate) const MOST: u64 = lag_rows::core::MOST;
 
-    // The checks of `new`, 2, 17, 18 and 5: the number of the first that says no, or 0.
+    // The checks of `new`, 23, 2, 17, 18 and 5: the number of the first that says no, or 0.
     fn new_number(
+        rate: u32,
         offset: u32,
         maximum: u32,
         width: u32,
@@ -48,9 +49,9 @@ impl LagWindow {
         counts: usize,
         sums: usize,
     ) -> u32
-        ensures { λ r. ⌜ r ≡ newNumber offset maximum width starts totals counts sums ⌝ }
+        ensures { λ r. ⌜ r ≡ newNumber rate offset maximum width starts totals counts sums ⌝ }
     {
-        let number = buckets::ranges_number(offset, maximum, width);
+        let number = buckets::ranges_number(rate, offset, maximum, width);
         if number != 0 {
             return number;
         }
@@ -60,7 +61,7 @@ impl LagWindow {
         if totals != LagWindow::SECONDS {
             return 5;
         }
-        let buckets = buckets::core::buckets_of(offset, maximum, width);
+        let buckets = buckets::core::buckets_of(rate, offset, maximum, width);
         if counts != LagWindow::SECONDS * buckets {
             return 5;
         }
@@ -72,6 +73,7 @@ impl LagWindow {
 
     // A fresh window for these settings; every lent place is written.
     pub fn new(
+        rate: u32,
         offset: u32,
         maximum: u32,
         width: u32,
@@ -80,9 +82,10 @@ impl LagWindow {
         counts: &mut [u32],
         sums: &mut [u64],
     ) -> WindowAnswer
-        ensures { λ r. ⌜ leftWindow r (now (starts .exit)) (now (totals .exit)) (now (counts .exit)) (now (sums .exit)) ≡ newReply offset maximum width (now (starts .entry)) (now (totals .entry)) (now (counts .entry)) (now (sums .entry)) ⌝ }
+        ensures { λ r. ⌜ leftWindow r (now (starts .exit)) (now (totals .exit)) (now (counts .exit)) (now (sums .exit)) ≡ newReply rate offset maximum width (now (starts .entry)) (now (totals .entry)) (now (counts .entry)) (now (sums .entry)) ⌝ }
     {
         let number = LagWindow::new_number(
+            rate,
             offset,
             maximum,
             width,
@@ -101,7 +104,7 @@ impl LagWindow {
                 },
             };
         }
-        let buckets = buckets::core::buckets_of(offset, maximum, width);
+        let buckets = buckets::core::buckets_of(rate, offset, maximum, width);
         let made = LagWindow {
             seconds: 0,
             buckets,

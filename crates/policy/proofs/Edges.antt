@@ -31,10 +31,10 @@ pub share-is-a-hundredth :
 unfolding both ask percentAllowed shareOfPercent shareNumber shareReply round div le
 share-is-a-hundredth = refl
 
--- a policy with this offset, maximum, hold, window, margin and share
+-- a policy with this offset, maximum, hold, window, margin and share; `need_of` does not ask its rate
 abbrev with : (offset maximum hold window margin : ℕ) → Float → DelayPolicy
 with offset maximum hold window margin share =
-    record { «read_offset» = offset; «delay_max» = maximum; hold = hold; window = window; margin = margin; «margin_share» = share }
+    record { «read_offset» = offset; «delay_max» = maximum; hold = hold; window = window; margin = margin; «margin_share» = share; rate = 0 }
 
 -- 2: "Are offset and maximum at most 96,000", before 4: "Is margin at most 96,000, percent 0 to 1,000 and no NaN"
 pub reaches-asked-before-margins :

@@ -1,4 +1,4 @@
-// The settings of the automatic delay, in samples and nanoseconds, and the delay that covers a lag (document 01, "Need").
+// The settings of the automatic delay, in samples and nanoseconds, with the rate that tells how long a sample is, and the delay that covers a lag (document 01, "Need").
 ghost use mathlib.Core.Path.{_≡_};
 ghost use Rattle.policy.specs.Need.{needReply};
 ghost use Rattle.policy.specs.Settings.{timesAllowed, marginsAllowed, shareReply};
@@ -18,6 +18,8 @@ pub struct DelayPolicy {
     pub margin: u32,
     // ... and this share of the worst lag above the read offset: percent / 100.
     pub margin_share: f64,
+    // The samples of a second: 48,000 or 96,000 (check 23).
+    pub rate: u32,
 }
 
 // A need, or the number of the check that refuses.

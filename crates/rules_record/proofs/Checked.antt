@@ -21,7 +21,7 @@ use Rattle.rules_record.proofs.Facts.{whole-of, of-whole}
 
 -- ---- 1 to 4
 module _ (n : ℕ) (policy : DelayPolicy) (width stall : ℕ) where
-  pub allowed-of : inputsAllowed n ≡ true → Ranged (policy .«read_offset») (policy .«delay_max») width → pausesAllowed policy stall ≡ true → marginsAllowed policy ≡ true → Allowed n policy width stall
+  pub allowed-of : inputsAllowed n ≡ true → Ranged (policy .rate) (policy .«read_offset») (policy .«delay_max») width → pausesAllowed policy stall ≡ true → marginsAllowed policy ≡ true → Allowed n policy width stall
   unfolding inputsAllowed pausesAllowed
   allowed-of one ranged three four =
       let a = both-true _ _ one in
@@ -30,6 +30,7 @@ module _ (n : ℕ) (policy : DelayPolicy) (width stall : ℕ) where
       record {
         least = leb-true _ _ (a .0);
         most = leb-true _ _ (a .1);
+        rated = ranged .rated;
         sound = allowed-sound policy (reaches-yes _ _ (ranged .offset-most) (ranged .maximum-most)) four;
         width-least = ranged .width-least;
         width-most = ranged .width-most;
@@ -45,9 +46,10 @@ module _ (n : ℕ) (policy : DelayPolicy) (width stall : ℕ) where
     unfolding inputsAllowed
     one-yes = true-both _ _ (le-leb _ _ (f .least)) (le-leb _ _ (f .most))
 
-    ranged-of : Ranged (policy .«read_offset») (policy .«delay_max») width
+    ranged-of : Ranged (policy .rate) (policy .«read_offset») (policy .«delay_max») width
     ranged-of =
         record {
+          rated = f .rated;
           offset-most = f .sound .offset;
           maximum-most = f .sound .maximum;
           width-least = f .width-least;
@@ -107,7 +109,7 @@ module _ (s : Inputs) (l : Lists) (output : Output) where
   unfolding recordNumber
   settings-told rest h =
       let one = asked 0 _ _ h in
-      let ranges = ranges-told _ _ _ _ (one .1) in
+      let ranges = ranges-told _ _ _ _ _ (one .1) in
       let three = asked 2 _ _ (ranges .1) in
       let four = asked 3 _ _ (three .1) in
       let five = asked 4 _ _ (four .1) in
@@ -121,7 +123,7 @@ module _ (s : Inputs) (l : Lists) (output : Output) where
   unfolding recordNumber
   passed-number p rest =
       yes-ask 1 _ (one-yes _ _ _ _ (p .allowed))
-      ∙ ranges-passed _ _ _ (ranged-of _ _ _ _ (p .allowed)) _
+      ∙ ranges-passed _ _ _ _ (ranged-of _ _ _ _ (p .allowed)) _
       ∙ yes-ask 3 _ (three-yes _ _ _ _ (p .allowed))
       ∙ yes-ask 4 _ (four-yes _ _ _ _ (p .allowed))
       ∙ yes-ask 5 _ (five-yes _ _ _ (p .long))
@@ -146,4 +148,4 @@ module _ (s : Inputs) (l : Lists) (output : Output) where
 
   pub number-refused : (recordNumber s l output 0 ≡ 0 → ⊥) → (rest : ℕ) → recordNumber s l output rest ≡ recordNumber s l output 0
   unfolding recordNumber
-  number-refused h rest = same-refusal 1 _ (same-ranges _ _ _ (same-refusal 3 _ (same-refusal 4 _ (same-refusal 5 _ (same-refusal 5 _ (same-refusal 6 _ (λ none. absurd (none refl)))))))) h
+  number-refused h rest = same-refusal 1 _ (same-ranges _ _ _ _ (same-refusal 3 _ (same-refusal 4 _ (same-refusal 5 _ (same-refusal 5 _ (same-refusal 6 _ (λ none. absurd (none refl)))))))) h

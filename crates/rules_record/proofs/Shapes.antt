@@ -35,7 +35,7 @@ zeros-blank k m = blank-intro k (replicate m 0) (λ i h. zeros-at m i)
 module _ (s : Inputs) (l : Lists) (f : Fitting s l) where
   pub buckets-least : 1 ≤ bucketsIn s
   unfolding bucketsIn
-  buckets-least = omega (arith, buckets-some (s .policy .«read_offset») (s .policy .«delay_max») (s .width))
+  buckets-least = omega (arith, buckets-some (s .policy .rate) (s .policy .«read_offset») (s .policy .«delay_max») (s .width))
 
   pub window-shaped : (i : ℕ) (slot : Slot) → i < s .count → Shaped (windowFor s l i slot)
   unfolding bucketsIn

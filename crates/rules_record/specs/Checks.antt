@@ -1,5 +1,5 @@
--- The checks that every call on a whole supervisor asks: document 01's 1 to 8, with document 02's 17 and 18 straight after 2. Assumes nothing.
--- Where laws and functions speak of checks 1 to 4, 1 to 5 and so on, 17 and 18 are among them: 1 2 17 18 3 4 5 6 7 8.
+-- The checks that every call on a whole supervisor asks: document 01's 1 to 8, with document 02's 23 straight after 1, and 17 and 18 straight after 2. Assumes nothing.
+-- Where laws and functions speak of checks 1 to 4, 1 to 5 and so on, 23, 17 and 18 are among them: 1 23 2 17 18 3 4 5 6 7 8.
 use Prim.Native.Nat.{ℕ, _*_, _≤_}
 use mathlib.Core.Bool.{Bool, true, _||_}
 use mathlib.Core.Path.{_≡_}
@@ -7,6 +7,7 @@ use lib.Dec.{leb, ltb, eqb}
 use lib.ListN.{length}
 use Rattle.base.specs.Choice.{both, ask}
 use Rattle.base.specs.Limits.{nanos, spanLimit, timely, widthLimit, bucketsLimit}
+use Rattle.rates.specs.Rates.{Rated}
 use Rattle.buckets.specs.Ranges.{rangesNumber}
 use Rattle.policy.specs.declared.DelayPolicy.{DelayPolicy}
 use Rattle.policy.specs.Settings.{timesAllowed, marginsAllowed, Sound}
@@ -45,7 +46,7 @@ outputFits n (Bytes bytes exact) = eqb bytes exact
 unfoldable pub recordNumber : (s : Inputs) (l : Lists) (output : Output) (rest : ℕ) → ℕ
 recordNumber s l output rest =
     ask 1 (inputsAllowed (s .count))
-    (rangesNumber (s .policy .«read_offset») (s .policy .«delay_max») (s .width)
+    (rangesNumber (s .policy .rate) (s .policy .«read_offset») (s .policy .«delay_max») (s .width)
     (ask 3 (pausesAllowed (s .policy) (s .stall))
     (ask 4 (marginsAllowed (s .policy))
     (ask 5 (listsFit (s .count) (bucketsIn s) l)
@@ -54,7 +55,7 @@ recordNumber s l output rest =
 
 -- the number is that of a check that speaks of the record, its settings and its lists, whatever else a call brings
 unfoldable pub ownNumber : (number : ℕ) → Bool
-ownNumber number = eqb number 1 || eqb number 2 || eqb number 17 || eqb number 18 || eqb number 3 || eqb number 4 || eqb number 5 || eqb number 6
+ownNumber number = eqb number 1 || eqb number 23 || eqb number 2 || eqb number 17 || eqb number 18 || eqb number 3 || eqb number 4 || eqb number 5 || eqb number 6
 
 -- ---- a call on one input
 -- 1 to 6, and 7: "Does the input exist?"; `rest` is the number that the checks after these give
@@ -70,6 +71,7 @@ timedNumber s l words input time rest = inputNumber s l (Words words) input (ask
 pub record Allowed (n : ℕ) (policy : DelayPolicy) (width stall : ℕ) : Type 0 where
   pub least : 1 ≤ n
   pub most : n ≤ 16
+  pub rated : Rated (policy .rate)
   pub sound : Sound policy
   pub width-least : 1 ≤ width
   pub width-most : width ≤ widthLimit

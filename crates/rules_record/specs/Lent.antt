@@ -25,9 +25,9 @@ pub record Lists : Type 0 where
 abbrev pub lists : (starts totals counts sums times peaks : List ℕ) → Lists
 lists starts totals counts sums times peaks = record { starts = starts; totals = totals; counts = counts; sums = sums; times = times; peaks = peaks }
 
--- the buckets of every window: "(offset + maximum + 4,800) / W + 2", of a policy and W, and of a record's
+-- the buckets of every window, of a policy and W, and of a record's
 abbrev pub bucketsFor : (policy : DelayPolicy) (width : ℕ) → ℕ
-bucketsFor policy width = bucketsOf (policy .«read_offset») (policy .«delay_max») width
+bucketsFor policy width = bucketsOf (policy .rate) (policy .«read_offset») (policy .«delay_max») width
 
 unfoldable pub bucketsIn : Inputs → ℕ
 bucketsIn s = bucketsFor (s .policy) (s .width)

@@ -78,7 +78,7 @@ module _ (s : Inputs) (i : ℕ) (largest : Lag) (time : ℕ) (starts sums times 
     (is-p : (totals counts times peaks : List ℕ) → OwnSums s (lists starts totals counts sums times peaks) i slot → p ≡ p999Of (s .policy) (windowFor s (lists starts totals counts sums times peaks) i slot))
     (is-current : current ≡ currentOf slot)
     (is-k : k ≡ 600)
-    (is-next : decided answer times′ lags′ ≡ nextOf oneMillisecond alwaysLower (s .policy) (held (slot .hold) (part (i * 600) k times) (part (i * 600) k lags)) p largest current time) where
+    (is-next : decided answer times′ lags′ ≡ nextOf (oneMillisecond (s .policy)) alwaysLower (s .policy) (held (slot .hold) (part (i * 600) k times) (part (i * 600) k lags)) p largest current time) where
   pub next-by : (totals counts : List ℕ) → OwnSums s (lists starts totals counts sums times lags) i (slotAt s i)
       → Answered i (nextFor i largest time s (lists starts totals counts sums times lags)) answer (lists starts totals counts sums times lags) (lists starts totals counts sums (patched (i * 600) k times′ times) (patched (i * 600) k lags′ lags))
   unfolding nextFor
@@ -91,8 +91,8 @@ module _ (s : Inputs) (i : ℕ) (largest : Lag) (time : ℕ) (starts sums times 
       is : decided answer times′ lags′ ≡ nextFor i largest time s (lists starts totals counts sums times lags)
       is =
           is-next
-          ∙ (λ t. nextOf oneMillisecond alwaysLower (s .policy) (held (slot .hold) (part (i * 600) (is-k t) times) (part (i * 600) (is-k t) lags)) (is-p totals counts times lags (subst (OwnSums s (lists starts totals counts sums times lags) i) (sym is-slot) own) t) largest (is-current t) time)
-          ∙ ap (λ (x : Slot). nextOf oneMillisecond alwaysLower (s .policy) (heldFor (lists starts totals counts sums times lags) i x) (p999Of (s .policy) (windowFor s (lists starts totals counts sums times lags) i x)) largest (currentOf x) time) is-slot
+          ∙ (λ t. nextOf (oneMillisecond (s .policy)) alwaysLower (s .policy) (held (slot .hold) (part (i * 600) (is-k t) times) (part (i * 600) (is-k t) lags)) (is-p totals counts times lags (subst (OwnSums s (lists starts totals counts sums times lags) i) (sym is-slot) own) t) largest (is-current t) time)
+          ∙ ap (λ (x : Slot). nextOf (oneMillisecond (s .policy)) alwaysLower (s .policy) (heldFor (lists starts totals counts sums times lags) i x) (p999Of (s .policy) (windowFor s (lists starts totals counts sums times lags) i x)) largest (currentOf x) time) is-slot
 
 module _ (s : Inputs) (i : ℕ) (largest : Lag) (time : ℕ) (l : Lists) {slot : Slot} (is-slot : slot ≡ slotAt s i) {code : ℕ} (is-code : code ≡ stateNumber (slot .state)) where
   state-is : code ≡ stateNumber (slotAt s i .state)

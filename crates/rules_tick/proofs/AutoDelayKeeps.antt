@@ -47,6 +47,7 @@ use Rattle.rules_routing.proofs.SetDelayKeeps.{stored-keeps}
 module _ (i : ℕ) (largest : Lag) (time : ℕ) (s : Inputs) (l : Lists) (r : Ready s l i) where
   pub next-asked : AskedFor (s .width) (s .policy) (heldOf s l i) (p999Of (s .policy) (windowOf s l i)) (currentOf (slotAt s i))
   next-asked = record {
+    rated = r .fitting .allowed .rated;
     sound = r .fitting .allowed .sound;
     window-least = r .fitting .allowed .window-least;
     window-most = r .fitting .allowed .window-most;
@@ -61,15 +62,15 @@ module _ (i : ℕ) (largest : Lag) (time : ℕ) (s : Inputs) (l : Lists) (r : Re
   module _ (soon : time ≤ timeLimit) where
     pub next-whole : wholeHold (s .policy) (s .width) (nextFor i largest time s l .held) ≡ true
     unfolding nextFor
-    next-whole = next-keeps-whole oneMillisecond alwaysLower (s .width) (s .policy) (heldOf s l i) _ largest _ time next-asked soon
+    next-whole = next-keeps-whole (oneMillisecond (s .policy)) alwaysLower (s .width) (s .policy) (heldOf s l i) _ largest _ time next-asked soon
 
     pub next-long : (length (nextFor i largest time s l .held .times) ≡ 600) × (length (nextFor i largest time s l .held .lags) ≡ 600)
     unfolding nextFor
-    next-long = next-keeps-lengths oneMillisecond alwaysLower (s .width) (s .policy) (heldOf s l i) _ largest _ time next-asked soon
+    next-long = next-keeps-lengths (oneMillisecond (s .policy)) alwaysLower (s .width) (s .policy) (heldOf s l i) _ largest _ time next-asked soon
 
     pub next-fits : ChangeFits (s .policy .«delay_max») (nextFor i largest time s l .change)
     unfolding nextFor
-    next-fits = next-change-fits oneMillisecond alwaysLower (s .width) (s .policy) (heldOf s l i) _ largest _ time next-asked soon
+    next-fits = next-change-fits (oneMillisecond (s .policy)) alwaysLower (s .width) (s .policy) (heldOf s l i) _ largest _ time next-asked soon
 
     pub next-answer-fits : (delay : ℕ) → nextFor i largest time s l .change ≡ To delay → delay ≤ s .policy .«delay_max»
     next-answer-fits delay e = subst (ChangeFits (s .policy .«delay_max»)) e next-fits

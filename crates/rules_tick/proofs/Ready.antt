@@ -85,6 +85,7 @@ module _ (s : Inputs) (i : ℕ) (starts sums times lags : List ℕ) (asked : Aut
         width = s .width;
         asked =
             record {
+              rated = r .fitting .allowed .rated;
               sound = r .fitting .allowed .sound;
               window-least = r .fitting .allowed .window-least;
               window-most = r .fitting .allowed .window-most;

@@ -55,7 +55,7 @@ currentOf slot = proposedOr (slot .proposed) (slot .delay)
 -- what `next` decides for input i
 unfoldable pub nextFor : (i : ℕ) (largest : Lag) (time : ℕ) (s : Inputs) (l : Lists) → Decided
 nextFor i largest time s l =
-    nextOf oneMillisecond alwaysLower (s .policy) (heldOf s l i) (p999Of (s .policy) (windowOf s l i)) largest (currentOf (slotAt s i)) time
+    nextOf (oneMillisecond (s .policy)) alwaysLower (s .policy) (heldOf s l i) (p999Of (s .policy) (windowOf s l i)) largest (currentOf (slotAt s i)) time
 
 -- the answer of `next` for input i, with the lists that it leaves
 pub record Answered (i : ℕ) (d : Decided) (answer : Next) (l m : Lists) : Type 0 where

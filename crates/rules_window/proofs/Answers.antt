@@ -14,9 +14,9 @@ use Rattle.rules_window.specs.declared.Quantile.the-variants.{End}
 use Rattle.rules_window.specs.Window.{Window, fresh, inUse, laid, opened, dropped, counted, pushed, pushedAll}
 use Rattle.rules_window.specs.Quantile.{column, within, running, reach, quantileIn, quantileUpto, quantileOf, thousandths}
 
--- a window of W 48, fresh and then pushed these lags at one time
+-- a window of W 48 at 48,000, fresh and then pushed these lags at one time
 abbrev pub after : List ℕ → Window
-after lags = pushedAll 5 lags (fresh (bucketsOf 480 4800 48) 48)
+after lags = pushedAll 5 lags (fresh (bucketsOf 48000 480 4800 48) 48)
 
 -- q 1
 abbrev pub one : Float

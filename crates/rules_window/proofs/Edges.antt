@@ -10,6 +10,7 @@ use lib.ListN.{replicate}
 use Rattle.base.specs.Choice.{both, ask}
 use Rattle.base.specs.Lists.{padded, sum, all, blankFrom, listed, sumFrom}
 use Rattle.base.specs.Rows.{apart, upTo}
+use Rattle.rates.specs.Rates.{rateAllowed}
 use Rattle.buckets.specs.Ranges.{reachesAllowed, widthAllowed, bucketsOf, bucketsFew, bucketsAllowed, rangesNumber}
 use Rattle.doubles.specs.Doubles.{ceilOf}
 use Rattle.doubles.specs.Quantile.{targetOf}
@@ -62,7 +63,7 @@ span-to-the-newest = refl
 
 -- document 02, §5: "a push, a dropped second, a cleared window and a fresh start must all leave it true"; a refused call leaves the row as it came
 pub sums-through-the-calls :
-    newReply 0 0 4800 (replicate 11 7) (replicate 11 7) (replicate 33 7) (replicate 3 7) .sums
+    newReply 48000 0 0 4800 (replicate 11 7) (replicate 11 7) (replicate 33 7) (replicate 3 7) .sums
     ∷ pushReply 0 5 (fresh 3 4800) (0 ∷ 0 ∷ 0 ∷ []) .sums
     ∷ pushReply 4800 1000000005 (pushed 0 5 (fresh 3 4800)) (1 ∷ 0 ∷ 0 ∷ []) .sums
     ∷ pushReply 9600 10000000006 (pushed 4800 1000000005 (pushed 0 5 (fresh 3 4800))) (1 ∷ 1 ∷ 0 ∷ []) .sums
@@ -70,7 +71,7 @@ pub sums-through-the-calls :
     ∷ clearReply (pushed 4800 1000000005 (pushed 0 5 (fresh 3 4800))) (1 ∷ 1 ∷ 1 ∷ []) .sums
     ∷ []
     ≡ (0 ∷ 0 ∷ 0 ∷ []) ∷ (1 ∷ 0 ∷ 0 ∷ []) ∷ (1 ∷ 1 ∷ 0 ∷ []) ∷ (0 ∷ 1 ∷ 1 ∷ []) ∷ (0 ∷ 0 ∷ 0 ∷ []) ∷ (1 ∷ 1 ∷ 1 ∷ []) ∷ []
-unfolding both ask padded sum all blankFrom sumFrom apart upTo fresh inUse laid opened dropped counted pushed summed wholeWindow listed column columnSums rightSums reachesAllowed widthAllowed bucketsOf bucketsFew bucketsAllowed rangesNumber checked newestOf newNumber pushNumber newReply pushReply clearReply
+unfolding both ask padded sum all blankFrom sumFrom apart upTo fresh inUse laid opened dropped counted pushed summed wholeWindow listed column columnSums rightSums rateAllowed reachesAllowed widthAllowed bucketsOf bucketsFew bucketsAllowed rangesNumber checked newestOf newNumber pushNumber newReply pushReply clearReply
 sums-through-the-calls = refl
 
 -- "quantiles .. without limit": a lag of 9,600 counts, and one far beyond the last bucket, which ends at 212 times 48
@@ -119,27 +120,30 @@ pub window-asked-17-18-5-6 :
 unfolding both ask sum all blankFrom sumFrom apart upTo summed wholeWindow column rightSums widthAllowed bucketsFew bucketsAllowed checked
 window-asked-17-18-5-6 = refl
 
--- those of `new`: 2, 17 and 18 of offset, maximum and W before the four lengths
-pub new-asked-2-17-18-5 :
-    newNumber 96000 95712 48 11 11 45056 4096
-    ∷ newNumber 96001 0 48 0 0 0 0
-    ∷ newNumber 0 0 0 0 0 0 0
-    ∷ newNumber 96000 95760 48 0 0 0 0
-    ∷ newNumber 0 0 4800 10 11 33 3
-    ∷ newNumber 0 0 4800 11 12 33 3
-    ∷ newNumber 0 0 4800 11 11 32 3
-    ∷ newNumber 0 0 4800 11 11 33 4
-    ∷ newNumber 0 0 4800 11 11 33 3
+-- those of `new`: 23 of the rate, 2, 17 and 18 of offset, maximum and W before the four lengths; at 96,000 the lists are longer
+pub new-asked-23-2-17-18-5 :
+    newNumber 48000 96000 95712 48 11 11 45056 4096
+    ∷ newNumber 44100 96001 0 0 0 0 0 0
+    ∷ newNumber 96000 0 0 4800 11 11 33 3
+    ∷ newNumber 96000 0 0 4800 11 11 44 4
+    ∷ newNumber 48000 96001 0 48 0 0 0 0
+    ∷ newNumber 48000 0 0 0 0 0 0 0
+    ∷ newNumber 48000 96000 95760 48 0 0 0 0
+    ∷ newNumber 48000 0 0 4800 10 11 33 3
+    ∷ newNumber 48000 0 0 4800 11 12 33 3
+    ∷ newNumber 48000 0 0 4800 11 11 32 3
+    ∷ newNumber 48000 0 0 4800 11 11 33 4
+    ∷ newNumber 48000 0 0 4800 11 11 33 3
     ∷ []
-    ≡ 0 ∷ 2 ∷ 17 ∷ 18 ∷ 5 ∷ 5 ∷ 5 ∷ 5 ∷ 0 ∷ []
-unfolding ask both reachesAllowed widthAllowed bucketsOf bucketsFew rangesNumber newNumber
-new-asked-2-17-18-5 = refl
+    ≡ 0 ∷ 23 ∷ 5 ∷ 0 ∷ 2 ∷ 17 ∷ 18 ∷ 5 ∷ 5 ∷ 5 ∷ 5 ∷ 0 ∷ []
+unfolding ask both rateAllowed reachesAllowed widthAllowed bucketsOf bucketsFew rangesNumber newNumber
+new-asked-23-2-17-18-5 = refl
 
 -- "a no ends it with that number, a zero value, and record and buffers unchanged"
 pub refused-new-is-zero :
-    newReply 96001 0 48 (1 ∷ []) (2 ∷ []) (3 ∷ []) (4 ∷ [])
+    newReply 48000 96001 0 48 (1 ∷ []) (2 ∷ []) (3 ∷ []) (4 ∷ [])
     ≡ record { number = 2; window = record { seconds = 0; buckets = 0; width = 0; starts = 1 ∷ []; totals = 2 ∷ []; counts = 3 ∷ [] }; sums = 4 ∷ [] }
-unfolding ask both reachesAllowed rangesNumber newNumber newReply
+unfolding ask both rateAllowed reachesAllowed rangesNumber newNumber newReply
 refused-new-is-zero = refl
 
 -- document 01's number and value of each answer of a quantile

@@ -94,16 +94,16 @@ module _ (w : Window) (sums : List ℕ) (n : ℕ) (e : n ≡ checked w sums 0) w
   clear-asks z = (checked-sound z .shaped, ap length (checked-sums z) ∙ sums-length w)
 
 -- ---- what `new` was asked
-pub new-settings : (offset maximum width a b c d n : ℕ) → n ≡ newNumber offset maximum width a b c d → n ≡ 0 → (offset ≤ samplesLimit) × (maximum ≤ samplesLimit) × (1 ≤ width)
+pub new-settings : (rate offset maximum width a b c d n : ℕ) → n ≡ newNumber rate offset maximum width a b c d → n ≡ 0 → (offset ≤ samplesLimit) × (maximum ≤ samplesLimit) × (1 ≤ width)
 unfolding newNumber
-new-settings offset maximum width a b c d n e z =
-    let r = ranges-told offset maximum width _ (sym e ∙ z) .0 in
+new-settings rate offset maximum width a b c d n e z =
+    let r = ranges-told rate offset maximum width _ (sym e ∙ z) .0 in
     (r .offset-most, r .maximum-most, r .width-least)
 
-pub new-asks : (offset maximum width : ℕ) (s t c us : List ℕ) (n B : ℕ) → n ≡ newNumber offset maximum width (length s) (length t) (length c) (length us) → n ≡ 0 → B ≡ bucketsOf offset maximum width → Shaped (windowed 0 B width s t c) × (length us ≡ B)
+pub new-asks : (rate offset maximum width : ℕ) (s t c us : List ℕ) (n B : ℕ) → n ≡ newNumber rate offset maximum width (length s) (length t) (length c) (length us) → n ≡ 0 → B ≡ bucketsOf rate offset maximum width → Shaped (windowed 0 B width s t c) × (length us ≡ B)
 unfolding newNumber
-new-asks offset maximum width s t c us n B e z eb =
-    let told = ranges-told offset maximum width _ (sym e ∙ z) in
+new-asks rate offset maximum width s t c us n B e z eb =
+    let told = ranges-told rate offset maximum width _ (sym e ∙ z) in
     let ranged = told .0 in
     let a = asked _ _ _ (told .1) in
     let b = asked _ _ _ (a .1) in
@@ -112,7 +112,7 @@ new-asks offset maximum width s t c us n B e z eb =
       record {
         width-low = ranged .width-least;
         width-high = ranged .width-most;
-        buckets-low = omega (arith, eb, buckets-some offset maximum width);
+        buckets-low = omega (arith, eb, buckets-some rate offset maximum width);
         buckets-high = rw eb (ranged .buckets-most);
         starts-long = eqb-true _ _ (a .0);
         totals-long = eqb-true _ _ (b .0);
@@ -129,13 +129,13 @@ replied-old (suc n) N old sums new e h = rw (← e)
 pub replied-new : (n N : ℕ) (old : Window) (sums : List ℕ) (new v : Window) (us : List ℕ) → n ≡ N → n ≡ 0 → v ≡ new → us ≡ columnSums new → record { number = n; window = v; sums = us } ≡ replied N old sums new
 replied-new n N old sums new v us e z h k = rw (← e, z, h, k)
 
-pub new-refused : (offset maximum width : ℕ) (s t c us : List ℕ) (n : ℕ) → n ≡ newNumber offset maximum width (length s) (length t) (length c) (length us) → (n ≡ 0 → ⊥) → record { number = n; window = nothing s t c; sums = us } ≡ newReply offset maximum width s t c us
+pub new-refused : (rate offset maximum width : ℕ) (s t c us : List ℕ) (n : ℕ) → n ≡ newNumber rate offset maximum width (length s) (length t) (length c) (length us) → (n ≡ 0 → ⊥) → record { number = n; window = nothing s t c; sums = us } ≡ newReply rate offset maximum width s t c us
 unfolding newReply
-new-refused offset maximum width s t c us n e h = replied-old n _ (nothing s t c) us _ e h
+new-refused rate offset maximum width s t c us n e h = replied-old n _ (nothing s t c) us _ e h
 
-pub new-made : (offset maximum width : ℕ) (s t c us : List ℕ) (n B : ℕ) (v : Window) (vs : List ℕ) → n ≡ newNumber offset maximum width (length s) (length t) (length c) (length us) → n ≡ 0 → B ≡ bucketsOf offset maximum width → v ≡ fresh B width → vs ≡ columnSums (fresh B width) → record { number = n; window = v; sums = vs } ≡ newReply offset maximum width s t c us
+pub new-made : (rate offset maximum width : ℕ) (s t c us : List ℕ) (n B : ℕ) (v : Window) (vs : List ℕ) → n ≡ newNumber rate offset maximum width (length s) (length t) (length c) (length us) → n ≡ 0 → B ≡ bucketsOf rate offset maximum width → v ≡ fresh B width → vs ≡ columnSums (fresh B width) → record { number = n; window = v; sums = vs } ≡ newReply rate offset maximum width s t c us
 unfolding newReply
-new-made offset maximum width s t c us n B v vs e z eb ev es = replied-new n _ (nothing s t c) us _ v vs e z (ev ∙ ap (λ (x : ℕ). fresh x width) eb) (es ∙ ap (λ (x : ℕ). columnSums (fresh x width)) eb)
+new-made rate offset maximum width s t c us n B v vs e z eb ev es = replied-new n _ (nothing s t c) us _ v vs e z (ev ∙ ap (λ (x : ℕ). fresh x width) eb) (es ∙ ap (λ (x : ℕ). columnSums (fresh x width)) eb)
 
 module _ (w : Window) (sums : List ℕ) (n : ℕ) where
   pub push-refused : (lag time : ℕ) → n ≡ pushNumber time w sums → (n ≡ 0 → ⊥) → record { number = n; window = w; sums = sums } ≡ pushReply lag time w sums

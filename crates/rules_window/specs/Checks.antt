@@ -1,4 +1,4 @@
--- The checks of the calls on one window, in their order (document 01's, with document 02's 17 and 18), and what each call answers and leaves. Assumes nothing.
+-- The checks of the calls on one window, in their order (document 01's, with document 02's 23, 17 and 18), and what each call answers and leaves. Assumes nothing.
 use Prim.Native.Nat.{ℕ, zero, suc, _+_, _-_, _*_}
 use mathlib.Core.Bool.{Bool, false}
 use mathlib.Core.List.{List}
@@ -47,14 +47,14 @@ roomFor time lags w = roomOf time lags (w .seconds) (w .starts) (w .totals)
 unfoldable pub fromZeroToOne : Float → Bool
 fromZeroToOne q = both (le (fin false 0 (pos 0)) q) (le q (fin false 1 (pos 0)))
 
--- 2 17 18 5: the number of the first check that says no, or 0; of the lists `new` asks only the lengths
-unfoldable pub newNumber : (offset maximum width starts totals counts sums : ℕ) → ℕ
-newNumber offset maximum width starts totals counts sums =
-    rangesNumber offset maximum width
+-- 23 2 17 18 5: the number of the first check that says no, or 0; of the lists `new` asks only the lengths
+unfoldable pub newNumber : (rate offset maximum width starts totals counts sums : ℕ) → ℕ
+newNumber rate offset maximum width starts totals counts sums =
+    rangesNumber rate offset maximum width
     (ask 5 (eqb starts 11)
     (ask 5 (eqb totals 11)
-    (ask 5 (eqb counts (11 * bucketsOf offset maximum width))
-    (ask 5 (eqb sums (bucketsOf offset maximum width)) 0))))
+    (ask 5 (eqb counts (11 * bucketsOf rate offset maximum width))
+    (ask 5 (eqb sums (bucketsOf rate offset maximum width)) 0))))
 
 unfoldable pub pushNumber : (time : ℕ) (w : Window) (sums : List ℕ) → ℕ
 pushNumber time w sums = checked w sums (ask 8 (timely time) (ask 11 (roomFor time 1 w) 0))
@@ -76,10 +76,10 @@ replied number old sums new = record { number = number; window = accepted number
 abbrev pub nothing : (starts totals counts : List ℕ) → Window
 nothing starts totals counts = record { seconds = 0; buckets = 0; width = 0; starts = starts; totals = totals; counts = counts }
 
-unfoldable pub newReply : (offset maximum width : ℕ) (starts totals counts sums : List ℕ) → Reply
-newReply offset maximum width starts totals counts sums =
-    replied (newNumber offset maximum width (length starts) (length totals) (length counts) (length sums)) (nothing starts totals counts) sums
-    (fresh (bucketsOf offset maximum width) width)
+unfoldable pub newReply : (rate offset maximum width : ℕ) (starts totals counts sums : List ℕ) → Reply
+newReply rate offset maximum width starts totals counts sums =
+    replied (newNumber rate offset maximum width (length starts) (length totals) (length counts) (length sums)) (nothing starts totals counts) sums
+    (fresh (bucketsOf rate offset maximum width) width)
 
 unfoldable pub pushReply : (lag time : ℕ) (w : Window) (sums : List ℕ) → Reply
 pushReply lag time w sums = replied (pushNumber time w sums) w sums (pushed lag time w)

@@ -86,8 +86,8 @@ module _ (i : ℕ) (tick : Tick) (s : Inputs) (l : Lists) (r : Ready s l i) (siz
   decision-is : decidedAt (rulesOf (s .policy)) view tick ≡ nextFor i (largestOf (tick .lags)) (tick .time) s l
   unfolding nextFor
   decision-is =
-      (λ t. nextOf oneMillisecond (lowers t) (s .policy) (is t .held) (p999Of (s .policy) (is t .window)) (largestOf (tick .lags)) (is t .delay) (tick .time))
-      ∙ ap (λ (x : ℕ). nextOf oneMillisecond alwaysLower (s .policy) (heldOf s l i) (p999Of (s .policy) (windowOf s l i)) (largestOf (tick .lags)) x (tick .time)) current-is
+      (λ t. nextOf (oneMillisecond (s .policy)) (lowers t) (s .policy) (is t .held) (p999Of (s .policy) (is t .window)) (largestOf (tick .lags)) (is t .delay) (tick .time))
+      ∙ ap (λ (x : ℕ). nextOf (oneMillisecond (s .policy)) alwaysLower (s .policy) (heldOf s l i) (p999Of (s .policy) (windowOf s l i)) (largestOf (tick .lags)) x (tick .time)) current-is
 
   abbrev Ends : Effect → Type 0
   Ends effect = Last (s .policy) tick (goesOn (slotAt s i)) view (viewOf (effect .inputs) (effect .lists) i)

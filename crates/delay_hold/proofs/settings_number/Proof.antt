@@ -10,23 +10,23 @@ use Rattle.delay_hold.proofs.settings_number.Tie as tie
 
 returns : tie.Need-returns
 unfolding settingsNumber
-returns c = sym (ranges-stop _ _ _ (c .before .ranges-number .ensures) (c .if1 .taken) _)
+returns c = sym (ranges-stop _ _ _ _ (c .before .ranges-number .ensures) (c .if1 .taken) _)
 
 returns-2 : tie.Need-returns-2
 unfolding settingsNumber
-returns-2 c = sym (ranges-go _ _ _ (c .before .before .before .ranges-number .ensures) (c .before .before .if1 .left) _ ∙ no-ask 3 _ (told-no _ _ (c .before .times-allowed .ensures) (c .if2 .taken)))
+returns-2 c = sym (ranges-go _ _ _ _ (c .before .before .before .ranges-number .ensures) (c .before .before .if1 .left) _ ∙ no-ask 3 _ (told-no _ _ (c .before .times-allowed .ensures) (c .if2 .taken)))
 
 returns-3 : tie.Need-returns-3
 unfolding settingsNumber
 returns-3 c =
-    sym (ranges-go _ _ _ (c .before .before .before .before .before .ranges-number .ensures) (c .before .before .before .before .if1 .left) _
+    sym (ranges-go _ _ _ _ (c .before .before .before .before .before .ranges-number .ensures) (c .before .before .before .before .if1 .left) _
     ∙ yes-ask 3 _ (told-yes _ _ (c .before .before .before .times-allowed .ensures) (c .before .before .if2 .left))
     ∙ no-ask 4 _ (told-no _ _ (c .before .margins-allowed .ensures) (c .if3 .taken)))
 
 returns-4 : tie.Need-returns-4
 unfolding settingsNumber
 returns-4 c =
-    sym (ranges-go _ _ _ (c .before .before .before .before .before .ranges-number .ensures) (c .before .before .before .before .if1 .left) _
+    sym (ranges-go _ _ _ _ (c .before .before .before .before .before .ranges-number .ensures) (c .before .before .before .before .if1 .left) _
     ∙ yes-ask 3 _ (told-yes _ _ (c .before .before .before .times-allowed .ensures) (c .before .before .if2 .left))
     ∙ yes-ask 4 _ (told-yes _ _ (c .before .margins-allowed .ensures) (c .if3 .left)))
 

@@ -1,7 +1,6 @@
 -- `delay_hold::DelayHold::decide_next` meets its contract. Assumes nothing.
 use Rattle.delay_hold.proofs.Gate.{accepted-asked, next-refused, next-kept, next-changed}
 use mathlib.Core.Path.{sym, _∙_}
-use native.Mathlib.Omega.{arith}
 use borrow.Author.Needs.{needs}
 use Rattle.delay_hold.proofs.DelayHold.decide_next.Statement.{statement}
 use Rattle.delay_hold.proofs.DelayHold.decide_next.Tie as tie
@@ -25,7 +24,7 @@ next-requires c κs =
     let c2 = c .before .before in
     let c3 = c2 .before in
     let c8 = c3 .before .before .before .before .before in
-    (accepted-asked (c8 .args .policy) (c8 .args .width) _ (c8 .args .p999) (c8 .args .current) (c8 .args .time) (sym (c3 .next-number .ensures) ∙ c2 .if1 .left), omega arith)
+    accepted-asked (c8 .args .policy) (c8 .args .width) _ (c8 .args .p999) (c8 .args .current) (c8 .args .time) (sym (c3 .next-number .ensures) ∙ c2 .if1 .left)
 
 enum-known-change : tie.Need-enum-known-change
 enum-known-change c = search needs

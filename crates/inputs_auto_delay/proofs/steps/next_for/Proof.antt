@@ -45,7 +45,7 @@ current-requires : tie.Need-current-requires
 current-requires c κs = search needs
 
 next-requires : tie.Need-next-requires
-next-requires c κs = (next-asks _ _ _ _ _ _ (c .before .before .before .before .before .before .before .before .before .before .pre .1) (c .before .before .before .before .before .before .before .before .before .before .pre .0) (c .before .before .before .p999 .ensures) (c .current .ensures) (add-sub-cancel-left (c .before .before .before .before .before .before .before .before .before .before .args .i * 600) 600), omega arith)
+next-requires c κs = next-asks _ _ _ _ _ _ (c .before .before .before .before .before .before .before .before .before .before .pre .1) (c .before .before .before .before .before .before .before .before .before .before .pre .0) (c .before .before .before .p999 .ensures) (c .current .ensures) (add-sub-cancel-left (c .before .before .before .before .before .before .before .before .before .before .args .i * 600) 600)
 
 same-length : tie.Need-same-length
 same-length c = search needs
