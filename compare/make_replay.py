@@ -15,7 +15,7 @@ import subprocess
 import sys
 
 sys.dont_write_bytecode = True
-from replay import alone, files, settled, sums, supervisor
+from replay import alone, desk, files, settled, sums, supervisor
 from replay.words import LINES, SECTIONS
 
 HERE = pathlib.Path(__file__).resolve().parent
@@ -31,6 +31,7 @@ def main():
     files.writing()
     settled.calls()
     sums.supervised()
+    desk.calls()
     if sys.argv[1:] == ["--print"]:
         print("\n".join(LINES))
         return

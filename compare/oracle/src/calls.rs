@@ -1,7 +1,7 @@
 //! Random calls over the whole range that the papers admit, its boundaries
 //! favoured, and calls that it refuses. Each call goes through the checked Rust,
 //! so that the next one can aim at what the record then holds.
-use crate::checks::{buckets, Checked, Settings};
+use crate::checks::{buckets, Checked, Settings, DESK_REACH};
 use crate::inputs::probe::{self, Policy, View};
 use crate::random::{ms, Random, LATEST, SECOND};
 use std::collections::BTreeMap;
@@ -156,7 +156,7 @@ impl Calls {
 
     fn reach(&mut self) -> u32 {
         let (a, b) = (self.r.upto(6000), self.r.upto(96_000));
-        self.r.pick(&[0, 0, 1, 47, 48, 49, 96, 480, 480, 480, 4800, 4800, 96_000, a, a, b])
+        self.r.pick(&[0, 0, 1, 47, 48, 49, 96, 480, 480, 480, 2399, 2400, 2401, 4800, 4800, 96_000, a, a, b])
     }
     fn width(&mut self) -> u32 {
         let w = 1 + self.r.upto(4799);
@@ -235,6 +235,14 @@ impl Calls {
         let top = ms(f64::from(max));
         let above = f64::from_bits(top.to_bits() + 1);
         self.r.pick(&[above, above, -5e-324, -1.0, f64::NAN, -f64::NAN, f64::INFINITY, f64::NEG_INFINITY, 1e300])
+    }
+    /// A manual delay of the listening desk, about its limit and the maximum.
+    fn desk(&mut self, max: u32) -> f64 {
+        let limit = ms(f64::from(max.min(DESK_REACH)));
+        let (near, some) = (self.r.near(limit), self.r.unit() * limit);
+        let above = f64::from_bits(limit.to_bits() + 1);
+        let (manual, beyond) = (self.manual(max), self.beyond(max));
+        self.r.pick(&[0.0, -0.0, limit, limit, near, above, some, some, manual, beyond])
     }
     fn any_manual(&mut self, max: u32) -> f64 {
         let any = self.r.any_double();
@@ -551,9 +559,10 @@ impl Calls {
 
     fn update(&mut self, now: u64, i: u64) {
         let max = self.checked.settings.max;
-        let kind = match self.r.chance(55) {
-            true => "A".into(),
-            false => format!("M{}", bits(self.manual(max))),
+        let kind = match self.r.below(10) {
+            0..=4 => "A".into(),
+            5..=7 => format!("M{}", bits(self.manual(max))),
+            _ => format!("D{}", bits(self.desk(max))),
         };
         self.call(format!("update {now} {i} {kind}"));
     }
@@ -681,7 +690,7 @@ impl Calls {
                 route_line(now, i, &route, Some(7), true, Some(channels), 1)
             }
             "update" if self.r.chance(20) => format!("update {now} {i} A"),
-            "update" => format!("update {now} {i} M{}", bits(manual)),
+            "update" => format!("update {now} {i} {}{}", self.r.pick(&["M", "M", "D"]), bits(manual)),
             "tick" => tick_line(now, &looks, &lags),
             "status" => format!("status {i} {applied} {channels}"),
             "has" => format!("has {i} {channels} 1"),
@@ -694,6 +703,7 @@ impl Calls {
     fn bad_line(&mut self) {
         let line = self.r.pick(&[
             "", "tick", "tock 1", "route", "new 0", "confirm 1", "confirm 1 x", "settled -1 0", "has 0 1", "update 0 0 B",
+            "update 0 0 D", "update 0 0 Dg", "update 0 0 DM0", "new 0 1 480 4800 48 0 1000000000 0 0 0 0 D0 0",
             "status 0 0", "ms", "ms 4294967296", "ms 1 2", "samples xyz", "index_at 18446744073709551616", "dump 1",
             "wpush 1", "co_set", "q_set 1", "put 0 nothing", "  dump", "confirm  1 0", "put 0 sum 0", "put 0 sum 4096 0",
             "put 0 sum 0 18446744073709551616", "wsum 0", "wsum 4096 0", "wsum 0 -1",

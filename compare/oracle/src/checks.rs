@@ -11,6 +11,8 @@ use std::sync::atomic::{AtomicBool, Ordering::Relaxed};
 const SECOND: u64 = 1_000_000_000;
 const LATEST: u64 = 4_000_000_000_000_000_000;
 const COUNT_MOST: u64 = 4_294_967_295;
+/// The listening desk's limit in samples, where the maximum is not smaller.
+pub const DESK_REACH: u32 = 2_400;
 
 /// Whether a panic is the Rust's own: it becomes the answer `panic`.
 static IN_THE_RUST: AtomicBool = AtomicBool::new(false);
@@ -129,6 +131,13 @@ fn kind(s: &str) -> Read<Option<f64>> {
         Some(hex) => double(hex).map(Some),
         None if s == "A" => Ok(None),
         None => Err(BadLine),
+    }
+}
+/// The same in `update`, and whether the listening desk sends it.
+fn setting(s: &str) -> Read<(Option<f64>, bool)> {
+    match s.strip_prefix('D') {
+        Some(hex) => Ok((Some(double(hex)?), true)),
+        None => Ok((kind(s)?, false)),
     }
 }
 fn rows(w: &mut Words) -> Read<()> {
@@ -446,13 +455,16 @@ impl Checked {
     }
 
     fn update(&mut self, w: &mut Words, short: bool) -> Read<()> {
-        let (now, input, kind) = (w.u64()?, w.u64()?, kind(w.word()?)?);
+        let (now, input) = (w.u64()?, w.u64()?);
+        let (kind, desk) = setting(w.word()?)?;
         w.end()?;
         self.record(short)?;
         self.exists(input)?;
         ask(8, now <= LATEST)?;
-        let most = f64::from(self.settings.max) * 1000.0 / 48_000.0;
-        ask(12, kind.is_none_or(|m| (0.0..=most).contains(&m)))
+        let ms = |n: u32| f64::from(n) * 1000.0 / 48_000.0;
+        let (most, limit) = (ms(self.settings.max), ms(self.settings.max.min(DESK_REACH)));
+        ask(12, kind.is_none_or(|m| (0.0..=most).contains(&m)))?;
+        ask(21, !desk || kind.is_none_or(|m| m <= limit))
     }
 
     fn tick(&mut self, w: &mut Words, short: bool) -> Read<()> {

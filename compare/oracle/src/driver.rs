@@ -41,8 +41,9 @@ fn maybe<T: std::str::FromStr>(s: &str) -> Option<T> {
 fn double(s: &str) -> f64 {
     f64::from_bits(u64::from_str_radix(s, 16).expect("hex"))
 }
+/// `D`, of the listening desk, is `M`: the Rust knows no desk, its limit is the checks'.
 fn kind(s: &str) -> ExtraDelay {
-    match s.strip_prefix('M') {
+    match s.strip_prefix(['M', 'D']) {
         Some(hex) => ExtraDelay::Ms(double(hex)),
         None => ExtraDelay::Auto(AutoTag::Auto),
     }

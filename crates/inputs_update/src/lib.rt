@@ -1,15 +1,20 @@
 // What the host changes of an input's delay (document 01, "Supervision"): its kind, and a proposal that is confirmed.
 ghost use mathlib.Core.Path.{_≡_};
 ghost use Rattle.rules_record.specs.Lent.{lists};
-ghost use Rattle.rules_calls.specs.UpdateChecks.{manualFits, kindFits, updateNumber};
+ghost use Rattle.rules_calls.specs.Update.{kindOf};
+ghost use Rattle.rules_calls.specs.UpdateChecks.{manualFits, kindFits, deskLimit, deskFits, manualNumber, updateNumber};
 ghost use Rattle.rules_record.specs.Reply.{leftInputs};
 ghost use Rattle.rules_calls.specs.UpdateReply.{updateReply, confirmReply};
+use rules_calls::DelaySetting;
 use rules_record::ExtraDelay;
 use rules_record::Inputs;
 use rules_record::InputsAnswer;
 use rules_record::Proposal;
 
 mod steps;
+
+// The longest delay that the listening desk sets, in samples, where the maximum is not smaller.
+const DESK_REACH: u32 = 2_400;
 
 // ---- the checks
 // Is a manual delay from 0 to the largest (check 12)?
@@ -31,10 +36,51 @@ fn kind_fits(kind: ExtraDelay, maximum: u32) -> bool
     manual_fits(delay, maximum)
 }
 
+fn desk_limit(maximum: u32) -> u32
+    ensures { λ r. ⌜ r ≡ deskLimit maximum ⌝ }
+{
+    base::least(DESK_REACH, maximum)
+}
+
+// Is a delay of the desk at most its limit (check 21)?
+fn desk_fits(setting: DelaySetting, maximum: u32) -> bool
+    ensures { λ r. ⌜ r ≡ deskFits setting maximum ⌝ }
+{
+    match setting {
+        DelaySetting::Auto(_) => true,
+        DelaySetting::Ms(_) => true,
+        DelaySetting::Desk(delay) => delay <= doubles::ms(desk_limit(maximum)),
+    }
+}
+
+// The kind that is stored: the record keeps no sender.
+fn kind_of(setting: DelaySetting) -> ExtraDelay
+    ensures { λ r. ⌜ r ≡ kindOf setting ⌝ }
+{
+    match setting {
+        DelaySetting::Auto(tag) => ExtraDelay::Auto(tag),
+        DelaySetting::Ms(delay) => ExtraDelay::Ms(delay),
+        DelaySetting::Desk(delay) => ExtraDelay::Ms(delay),
+    }
+}
+
+// Checks 12 and 21.
+fn manual_number(setting: DelaySetting, maximum: u32) -> u32
+    ensures { λ r. ⌜ r ≡ manualNumber setting maximum ⌝ }
+{
+    if !kind_fits(kind_of(setting), maximum) {
+        return 12;
+    }
+    if !desk_fits(setting, maximum) {
+        return 21;
+    }
+    0
+}
+
 fn update_number(
     inputs: Inputs,
     input: usize,
-    kind: ExtraDelay,
+    setting: DelaySetting,
     time: u64,
     starts: &[u64],
     totals: &[u64],
@@ -44,7 +90,7 @@ fn update_number(
     peaks: &[u32],
     words: usize,
 ) -> u32
-    ensures { λ r. ⌜ r ≡ updateNumber inputs (lists (now (starts .entry)) (now (totals .entry)) (now (counts .entry)) (now (sums .entry)) (now (times .entry)) (now (peaks .entry))) words input kind time ⌝ }
+    ensures { λ r. ⌜ r ≡ updateNumber inputs (lists (now (starts .entry)) (now (totals .entry)) (now (counts .entry)) (now (sums .entry)) (now (times .entry)) (now (peaks .entry))) words input setting time ⌝ }
 {
     let number = inputs_checks::input_checks(
         inputs,
@@ -62,10 +108,7 @@ fn update_number(
         return number;
     }
     let policy = inputs.policy;
-    if !kind_fits(kind, policy.delay_max) {
-        return 12;
-    }
-    0
+    manual_number(setting, policy.delay_max)
 }
 
 // ---- the calls
@@ -73,7 +116,7 @@ fn update_number(
 pub fn update(
     inputs: Inputs,
     input: usize,
-    kind: ExtraDelay,
+    setting: DelaySetting,
     time: u64,
     starts: &mut [u64],
     totals: &mut [u64],
@@ -83,12 +126,12 @@ pub fn update(
     peaks: &mut [u32],
     commands: &mut [u32],
 ) -> InputsAnswer
-    ensures { λ r. ⌜ leftInputs r (lists (now (starts .exit)) (now (totals .exit)) (now (counts .exit)) (now (sums .exit)) (now (times .exit)) (now (peaks .exit))) (now (commands .exit)) ≡ updateReply inputs (lists (now (starts .entry)) (now (totals .entry)) (now (counts .entry)) (now (sums .entry)) (now (times .entry)) (now (peaks .entry))) (now (commands .entry)) input kind time ⌝ }
+    ensures { λ r. ⌜ leftInputs r (lists (now (starts .exit)) (now (totals .exit)) (now (counts .exit)) (now (sums .exit)) (now (times .exit)) (now (peaks .exit))) (now (commands .exit)) ≡ updateReply inputs (lists (now (starts .entry)) (now (totals .entry)) (now (counts .entry)) (now (sums .entry)) (now (times .entry)) (now (peaks .entry))) (now (commands .entry)) input setting time ⌝ }
 {
     let number = update_number(
         inputs,
         input,
-        kind,
+        setting,
         time,
         starts,
         totals,
@@ -101,6 +144,7 @@ pub fn update(
     if number != 0 {
         return InputsAnswer { number, inputs };
     }
+    let kind = kind_of(setting);
     let slot = steps::with_kind(inputs_slots::slot_at(inputs, input), kind);
     let ExtraDelay::Ms(delay) = kind else {
         base::zero_u32(commands);

@@ -8,6 +8,7 @@ pub mod UpdateFrames
 pub mod UpdateKeeps
 pub mod UpdateParts
 pub mod UpdateReplies
+pub mod DeskDelays
 pub mod RouteReplies
 pub mod RouteCases
 pub mod Enrolling

@@ -22,8 +22,9 @@ use Rattle.rules_record.proofs.Beside.{Beside, beside-same}
 use Rattle.rules_routing.specs.Clear.{clearedSlot, cleared}
 use Rattle.rules_routing.proofs.ClearFrames.{cleared-beside}
 use Rattle.rules_routing.proofs.SettingsKept.{SameSettings, settings-then, settings-put, settings-stored}
+use Rattle.rules_calls.specs.declared.DelaySetting.{DelaySetting}
 use Rattle.rules_calls.specs.UpdateChecks.{updateNumber, confirmNumber}
-use Rattle.rules_calls.specs.Update.{kindStored, delaySet, updated}
+use Rattle.rules_calls.specs.Update.{kindStored, delaySet, kindOf, updated}
 use Rattle.rules_calls.specs.ConfirmDelay.{taken, confirmedBy, confirmed}
 use Rattle.rules_calls.specs.UpdateReply.{updateReply, confirmReply}
 use Rattle.rules_record.proofs.Numbers.{call-fitting, call-input}
@@ -70,23 +71,23 @@ module _ (s : Inputs) (i : ℕ) where
 
 -- ---- the calls, accepted or refused
 module _ (s : Inputs) (l : Lists) (commands : List ℕ) (input : ℕ) where
-  module _ (kind : ExtraDelay) (time : ℕ) where
-    pub update-other : (j : ℕ) → (j ≡ input → ⊥) → slotAt (updateReply s l commands input kind time .inputs) j ≡ slotAt s j
+  module _ (setting : DelaySetting) (time : ℕ) where
+    pub update-other : (j : ℕ) → (j ≡ input → ⊥) → slotAt (updateReply s l commands input setting time .inputs) j ≡ slotAt s j
     unfolding updateReply
     update-other j apart =
-        accepted-all (λ (reply : Reply). slotAt (reply .inputs) j ≡ slotAt s j) (updateNumber s l (length commands) input kind time) _ _ refl
-        (λ e. updated-other s input l kind time j apart)
+        accepted-all (λ (reply : Reply). slotAt (reply .inputs) j ≡ slotAt s j) (updateNumber s l (length commands) input setting time) _ _ refl
+        (λ e. updated-other s input l (kindOf setting) time j apart)
 
-    pub update-settings : SameSettings s (updateReply s l commands input kind time .inputs)
+    pub update-settings : SameSettings s (updateReply s l commands input setting time .inputs)
     unfolding updateReply
     update-settings =
-        accepted-all (λ (reply : Reply). SameSettings s (reply .inputs)) (updateNumber s l (length commands) input kind time) _ _ refl
-        (λ e. updated-settings s input l kind time)
+        accepted-all (λ (reply : Reply). SameSettings s (reply .inputs)) (updateNumber s l (length commands) input setting time) _ _ refl
+        (λ e. updated-settings s input l (kindOf setting) time)
 
-    pub update-beside : updateNumber s l (length commands) input kind time ≡ 0 → Beside (s .count) (bucketsIn s) input l (updated input kind time s l .lists)
+    pub update-beside : updateNumber s l (length commands) input setting time ≡ 0 → Beside (s .count) (bucketsIn s) input l (updated input (kindOf setting) time s l .lists)
     unfolding updateNumber
     update-beside e =
-        updated-beside s input l (call-fitting s l (length commands) input time _ e) (call-input s l (length commands) input time _ e) kind time
+        updated-beside s input l (call-fitting s l (length commands) input time _ e) (call-input s l (length commands) input time _ e) (kindOf setting) time
 
   module _ (time : ℕ) where
     pub confirm-other : (j : ℕ) → (j ≡ input → ⊥) → slotAt (confirmReply s l commands input time .inputs) j ≡ slotAt s j

@@ -29,8 +29,9 @@ use Rattle.rules_record.proofs.Keep.{slot-keeps, cleared-keeps}
 use Rattle.rules_routing.specs.Clear.{clearedSlot, cleared}
 use Rattle.rules_routing.proofs.SettingsKept.{settings-put}
 use Rattle.rules_routing.proofs.SetDelayKeeps.{stored-keeps}
-use Rattle.rules_calls.specs.UpdateChecks.{manualFits, kindFits, updateNumber, confirmNumber}
-use Rattle.rules_calls.specs.Update.{kindStored, delaySet, updated}
+use Rattle.rules_calls.specs.declared.DelaySetting.{DelaySetting}
+use Rattle.rules_calls.specs.UpdateChecks.{manualFits, kindFits, manualNumber, updateNumber, confirmNumber}
+use Rattle.rules_calls.specs.Update.{kindStored, delaySet, kindOf, updated}
 use Rattle.rules_calls.specs.ConfirmDelay.{taken, confirmedBy, confirmed}
 use Rattle.rules_calls.specs.UpdateReply.{updateReply, confirmReply}
 use Rattle.rules_record.proofs.Numbers.{input-told}
@@ -87,13 +88,13 @@ module _ (s : Inputs) (l : Lists) (i : ℕ) (c : Checked s l) (h : i < s .count)
 
 -- ---- the calls, accepted or refused
 module _ (s : Inputs) (l : Lists) (commands : List ℕ) (input : ℕ) (c : Checked s l) where
-  pub update-keeps : (kind : ExtraDelay) (time : ℕ) → Checked (updateReply s l commands input kind time .inputs) (updateReply s l commands input kind time .lists)
-  unfolding updateReply updateNumber
-  update-keeps kind time =
-      accepted-all (λ (reply : Reply). Checked (reply .inputs) (reply .lists)) (updateNumber s l (length commands) input kind time) _ _ c
+  pub update-keeps : (setting : DelaySetting) (time : ℕ) → Checked (updateReply s l commands input setting time .inputs) (updateReply s l commands input setting time .lists)
+  unfolding updateReply updateNumber manualNumber
+  update-keeps setting time =
+      accepted-all (λ (reply : Reply). Checked (reply .inputs) (reply .lists)) (updateNumber s l (length commands) input setting time) _ _ c
       (λ e.
       let told = input-told s l (length commands) input time _ e in
-      updated-keeps s l input c (told .1) kind time (asked 11 _ _ (told .3) .0) (told .2))
+      updated-keeps s l input c (told .1) (kindOf setting) time (asked 11 _ _ (told .3) .0) (told .2))
 
   pub confirm-keeps : (time : ℕ) → slotAt s input .«delay_changes» + 1 < counterLimit → Checked (confirmReply s l commands input time .inputs) (confirmReply s l commands input time .lists)
   unfolding confirmReply confirmNumber

@@ -19,13 +19,17 @@ use Rattle.rules_record.specs.Inputs.{putSlot}
 use Rattle.rules_record.specs.declared.Sent.{Sent}
 use Rattle.rules_record.specs.Commands.{Did}
 use Rattle.rules_routing.specs.SetDelay.{setDelayOf}
+use Rattle.rules_calls.specs.declared.DelaySetting.{DelaySetting}
 use Rattle.rules_calls.specs.UpdateChecks.{manualFits, kindFits}
-use Rattle.rules_calls.specs.Update.{kindStored, delaySet}
+use Rattle.rules_calls.specs.Update.{kindStored, delaySet, kindOf}
 use Rattle.rules_calls.specs.ConfirmDelay.{taken}
 
 -- ---- check 12
 pub kind-manual : (maximum : ℕ) {kind : ExtraDelay} {delay : Float} {fits : Bool} → kind ≡ Ms delay → fits ≡ manualFits delay maximum → fits ≡ kindFits kind maximum
 kind-manual maximum e h = h ∙ sym (ap (λ (x : ExtraDelay). kindFits x maximum) e)
+
+pub kind-asked : (setting : DelaySetting) (maximum : ℕ) {kind : ExtraDelay} {fits : Bool} → kind ≡ kindOf setting → fits ≡ kindFits kind maximum → fits ≡ kindFits (kindOf setting) maximum
+kind-asked setting maximum e h = h ∙ ap (λ (x : ExtraDelay). kindFits x maximum) e
 
 -- ---- the slot
 pub kind-by : (slot : Slot) (kind : ExtraDelay) {stored r : Slot} → stored ≡ withConfig slot (record { «extra_delay» = kind }) → r ≡ withProposed stored Nothing → r ≡ kindStored slot kind

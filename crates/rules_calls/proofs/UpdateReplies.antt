@@ -25,16 +25,17 @@ use Rattle.rules_record.specs.Reply.{Reply}
 use Rattle.rules_record.proofs.Numbers.{passed-by, call-fitting, call-input, call-low, call-room, call-changes}
 use Rattle.rules_record.proofs.Replies.{reply-refused, reply-accepted}
 use Rattle.rules_routing.specs.Clear.{cleared}
+use Rattle.rules_calls.specs.declared.DelaySetting.{DelaySetting}
 use Rattle.rules_calls.specs.UpdateChecks.{updateNumber, pending, confirmNumber}
-use Rattle.rules_calls.specs.Update.{kindStored, delaySet, updated}
+use Rattle.rules_calls.specs.Update.{kindStored, delaySet, kindOf, updated}
 use Rattle.rules_calls.specs.ConfirmDelay.{taken, confirmedBy, confirmed}
 use Rattle.rules_calls.specs.UpdateReply.{updateReply, confirmReply}
 
 -- ---- `update`
-module _ (s : Inputs) (l : Lists) (commands : List ℕ) (input : ℕ) (kind : ExtraDelay) (time : ℕ) {n : ℕ} (is-number : n ≡ updateNumber s l (length commands) input kind time) where
-  pub update-refused : (n ≡ 0 → ⊥) → _≡_ {A = Reply} (record { number = n; inputs = s; lists = l; commands = commands }) (updateReply s l commands input kind time)
+module _ (s : Inputs) (l : Lists) (commands : List ℕ) (input : ℕ) (setting : DelaySetting) (time : ℕ) {n : ℕ} (is-number : n ≡ updateNumber s l (length commands) input setting time) where
+  pub update-refused : (n ≡ 0 → ⊥) → _≡_ {A = Reply} (record { number = n; inputs = s; lists = l; commands = commands }) (updateReply s l commands input setting time)
   unfolding updateReply
-  update-refused h = reply-refused s l commands (updated input kind time s l) _ is-number h
+  update-refused h = reply-refused s l commands (updated input (kindOf setting) time s l) _ is-number h
 
   module _ (passed : n ≡ 0) where
     pub clear-asked : Fitting s l × (input < s .count)
@@ -51,31 +52,31 @@ module _ (s : Inputs) (l : Lists) (commands : List ℕ) (input : ℕ) (kind : Ex
       call-low s l (length commands) input time _ (sym is-number ∙ passed),
     )
 
-    module _ {at slot : Slot} (is-at : at ≡ slotAt s input) (is-slot : slot ≡ kindStored at kind) {all : Inputs} {after : List ℕ} where
+    module _ {kind : ExtraDelay} (is-kind : kind ≡ kindOf setting) {at slot : Slot} (is-at : at ≡ slotAt s input) (is-slot : slot ≡ kindStored at kind) {all : Inputs} {after : List ℕ} where
       pub update-auto : {tag : AutoTag} {m : Lists} → kind ≡ Auto tag → silent all m ≡ cleared input slot s l → after ≡ replicate (length commands) 0
-          → _≡_ {A = Reply} (record { number = n; inputs = all; lists = m; commands = after }) (updateReply s l commands input kind time)
+          → _≡_ {A = Reply} (record { number = n; inputs = all; lists = m; commands = after }) (updateReply s l commands input setting time)
       unfolding updateReply updated
       update-auto {tag} {m} is-auto is-cleared is-zeros =
-          reply-accepted s l commands (updated input kind time s l) _ is-number passed (silent all m) same refl refl (is-zeros ∙ laid (length commands) [] zero-le)
+          reply-accepted s l commands (updated input (kindOf setting) time s l) _ is-number passed (silent all m) same refl refl (is-zeros ∙ laid (length commands) [] zero-le)
         where
-          same : silent all m ≡ updated input kind time s l
+          same : silent all m ≡ updated input (kindOf setting) time s l
           same =
               is-cleared
               ∙ ap (λ (x : Slot). cleared input x s l) is-slot
               ∙ (λ t. cleared input (kindStored (is-at t) (is-auto t)) s l)
-              ∙ sym (ap (λ (x : ExtraDelay). updated input x time s l) is-auto)
+              ∙ ap (λ (x : ExtraDelay). updated input x time s l) (sym is-auto ∙ is-kind)
 
       pub update-manual : {delay : Float} {samples : ℕ} → kind ≡ Ms delay → samples ≡ samplesOf delay → (all ≡ delaySet input slot samples time s .inputs) × (after ≡ padded (length commands) (delaySet input slot samples time s .words))
-          → _≡_ {A = Reply} (record { number = n; inputs = all; lists = l; commands = after }) (updateReply s l commands input kind time)
+          → _≡_ {A = Reply} (record { number = n; inputs = all; lists = l; commands = after }) (updateReply s l commands input setting time)
       unfolding updateReply updated
       update-manual {delay} {samples} is-ms is-samples is-set =
-          reply-accepted s l commands (updated input kind time s l) _ is-number passed (beside l (delaySet input slot samples time s)) same (is-set .0) refl (is-set .1)
+          reply-accepted s l commands (updated input (kindOf setting) time s l) _ is-number passed (beside l (delaySet input slot samples time s)) same (is-set .0) refl (is-set .1)
         where
-          same : beside l (delaySet input slot samples time s) ≡ updated input kind time s l
+          same : beside l (delaySet input slot samples time s) ≡ updated input (kindOf setting) time s l
           same =
               ap (λ (x : Slot). beside l (delaySet input x samples time s)) is-slot
               ∙ (λ t. beside l (delaySet input (kindStored (is-at t) (is-ms t)) (is-samples t) time s))
-              ∙ sym (ap (λ (x : ExtraDelay). updated input x time s l) is-ms)
+              ∙ ap (λ (x : ExtraDelay). updated input x time s l) (sym is-ms ∙ is-kind)
 
 -- ---- `confirm_delay`
 module _ (s : Inputs) (l : Lists) (commands : List ℕ) (input time : ℕ) {n : ℕ} (is-input : n ≡ timedNumber s l (length commands) input time 0) where

@@ -14,6 +14,7 @@ pub mod UpdateChecks
 pub mod Update
 pub mod ConfirmDelay
 pub mod UpdateReply
+pub mod DeskDelays
 -- `status`, `has_channels`, `settled`
 pub mod StatusChecks
 pub mod Status

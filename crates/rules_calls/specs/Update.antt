@@ -1,4 +1,4 @@
--- Document 01, "Supervision": what `update` does to an input. Assumes nothing.
+-- Document 01, "Supervision", and document 02, §6: what `update` does to an input. Assumes nothing.
 use Prim.Native.Nat.{ℕ}
 use Rattle.doubles.specs.Doubles.{samplesOf}
 use Rattle.rules_record.specs.declared.ExtraDelay.{ExtraDelay}
@@ -13,6 +13,14 @@ use Rattle.rules_routing.specs.SetDelay.{setDelayOf}
 use Rattle.rules_record.specs.Lent.{Lists}
 use Rattle.rules_record.specs.Effects.{Effect, beside}
 use Rattle.rules_routing.specs.Clear.{cleared}
+use Rattle.rules_calls.specs.declared.DelaySetting.{DelaySetting}
+use Rattle.rules_calls.specs.declared.DelaySetting.the-variants.{Auto as set-auto, Ms as set-ms, Desk}
+
+-- "Each `update` with Ms says which of the two sends it; record and status do not keep this": the kind that is stored
+abbrev pub kindOf : DelaySetting → ExtraDelay
+kindOf (set-auto tag) = Auto tag
+kindOf (set-ms delay) = Ms delay
+kindOf (Desk delay) = Ms delay
 
 -- "the kind is stored, the proposal goes"
 abbrev pub kindStored : (slot : Slot) (kind : ExtraDelay) → Slot

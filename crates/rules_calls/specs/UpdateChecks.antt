@@ -1,5 +1,5 @@
--- Document 01's checks of `update` and `confirm_delay`, in their order. Assumes nothing.
-use Prim.Native.Nat.{ℕ}
+-- Document 01's checks of `update` and `confirm_delay` with document 02's 21, in their order. Assumes nothing.
+use Prim.Native.Nat.{ℕ, min}
 use mathlib.Core.Bool.{Bool, true, false}
 use lib.IntN.{pos}
 use lib.Ieee.{Float, fin, le}
@@ -13,6 +13,9 @@ use Rattle.rules_record.specs.declared.Inputs.{Inputs}
 use Rattle.rules_record.specs.Inputs.{slotAt}
 use Rattle.rules_record.specs.Lent.{Lists}
 use Rattle.rules_record.specs.Checks.{timedNumber}
+use Rattle.rules_calls.specs.declared.DelaySetting.{DelaySetting}
+use Rattle.rules_calls.specs.declared.DelaySetting.the-variants.{Auto as set-auto, Ms as set-ms, Desk}
+use Rattle.rules_calls.specs.Update.{kindOf}
 
 -- 12: "Is a manual delay from 0 to `ms`(maximum)?"; a NaN is not, -0.0 is
 unfoldable pub manualFits : (delay : Float) (maximum : ℕ) → Bool
@@ -22,8 +25,25 @@ abbrev pub kindFits : ExtraDelay → (maximum : ℕ) → Bool
 kindFits (Auto tag) maximum = true
 kindFits (Ms delay) maximum = manualFits delay maximum
 
-unfoldable pub updateNumber : (s : Inputs) (l : Lists) (words input : ℕ) (kind : ExtraDelay) (time : ℕ) → ℕ
-updateNumber s l words input kind time = timedNumber s l words input time (ask 12 (kindFits kind (s .policy .«delay_max»)) 0)
+-- the listening desk: "Its limit is 2,400 samples or the maximum, whichever is smaller."
+abbrev pub deskReach : ℕ
+deskReach = 2_400
+
+unfoldable pub deskLimit : (maximum : ℕ) → ℕ
+deskLimit maximum = min deskReach maximum
+
+-- 21: "a desk value above `ms` of its limit"; the scoring program's are not asked
+abbrev pub deskFits : DelaySetting → (maximum : ℕ) → Bool
+deskFits (set-auto tag) maximum = true
+deskFits (set-ms delay) maximum = true
+deskFits (Desk delay) maximum = le delay (msOf (deskLimit maximum))
+
+-- 12, and "straight after" it 21
+unfoldable pub manualNumber : (setting : DelaySetting) (maximum : ℕ) → ℕ
+manualNumber setting maximum = ask 12 (kindFits (kindOf setting) maximum) (ask 21 (deskFits setting maximum) 0)
+
+unfoldable pub updateNumber : (s : Inputs) (l : Lists) (words input : ℕ) (setting : DelaySetting) (time : ℕ) → ℕ
+updateNumber s l words input setting time = timedNumber s l words input time (manualNumber setting (s .policy .«delay_max»))
 
 -- 13: "Is a proposal pending?"
 abbrev pub pending : Proposal → Bool

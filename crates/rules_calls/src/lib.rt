@@ -1,5 +1,6 @@
 // The calls `new`, `route`, `update`, `confirm_delay`, `status`, `has_channels` and `settled`: their rules and laws (document 01, "Supervision"), and what they are given and answer.
 // No code: the code that is proved equal to them stands in the crates inputs_new, inputs_route, inputs_update and inputs_status.
+use rules_record::AutoTag;
 use rules_record::ExtraDelay;
 use rules_record::Flow;
 
@@ -63,6 +64,13 @@ pub struct Answer {
 pub enum Wanted {
     Nothing,
     From(Source),
+}
+
+// What `update` is given: automatic, or a manual delay in milliseconds, sent by the scoring program (Ms) or by the listening desk (Desk). The record keeps no sender.
+pub enum DelaySetting {
+    Auto(AutoTag),
+    Ms(f64),
+    Desk(f64),
 }
 
 // What a supervisor is set to. Times are in nanoseconds, the margin's share is a percent.

@@ -29,8 +29,9 @@ use Rattle.rules_calls.specs.declared.Wanted.{Wanted}
 use Rattle.rules_calls.specs.RouteChecks.{routeNumber}
 use Rattle.rules_calls.specs.Route.{routed}
 use Rattle.rules_calls.specs.RouteReply.{routeReply}
+use Rattle.rules_calls.specs.declared.DelaySetting.{DelaySetting}
 use Rattle.rules_calls.specs.UpdateChecks.{updateNumber, confirmNumber}
-use Rattle.rules_calls.specs.Update.{updated}
+use Rattle.rules_calls.specs.Update.{kindOf, updated}
 use Rattle.rules_calls.specs.ConfirmDelay.{confirmed}
 use Rattle.rules_calls.specs.UpdateReply.{updateReply, confirmReply}
 use Rattle.rules_tick.specs.declared.Look.{Look}
@@ -95,18 +96,18 @@ module _ (s : Inputs) (sized : Sized s) (l : Lists) (commands : List ℕ) where
     unfolding routeReply
     route-timed = reply-timed (routeNumber s l (length commands) input wanted time world) s l commands (routed input wanted time world s l) sized route-tells
 
-  module _ (input : ℕ) (kind : ExtraDelay) (time : ℕ) where
-    update-tells : updateNumber s l (length commands) input kind time ≡ 0 → TellsEffect time s (updated input kind time s l)
+  module _ (input : ℕ) (setting : DelaySetting) (time : ℕ) where
+    update-tells : updateNumber s l (length commands) input setting time ≡ 0 → TellsEffect time s (updated input (kindOf setting) time s l)
     unfolding updateNumber
-    update-tells e = tells-updated input (call-low s l (length commands) input time _ e) time kind s l sized
+    update-tells e = tells-updated input (call-low s l (length commands) input time _ e) time (kindOf setting) s l sized
 
-    pub update-told : Told s (updateReply s l commands input kind time)
+    pub update-told : Told s (updateReply s l commands input setting time)
     unfolding updateReply
-    update-told = reply-told (updateNumber s l (length commands) input kind time) s l commands (updated input kind time s l) sized update-tells
+    update-told = reply-told (updateNumber s l (length commands) input setting time) s l commands (updated input (kindOf setting) time s l) sized update-tells
 
-    pub update-timed : Timed s time (updateReply s l commands input kind time)
+    pub update-timed : Timed s time (updateReply s l commands input setting time)
     unfolding updateReply
-    update-timed = reply-timed (updateNumber s l (length commands) input kind time) s l commands (updated input kind time s l) sized update-tells
+    update-timed = reply-timed (updateNumber s l (length commands) input setting time) s l commands (updated input (kindOf setting) time s l) sized update-tells
 
   module _ (input time : ℕ) where
     confirm-tells : confirmNumber s l (length commands) input time ≡ 0 → TellsEffect time s (confirmed input time s l)

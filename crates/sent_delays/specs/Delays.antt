@@ -16,6 +16,7 @@ use Rattle.rules_calls.specs.declared.Settings.{Settings}
 use Rattle.rules_calls.specs.declared.Wanted.{Wanted}
 use Rattle.rules_calls.specs.NewReply.{newReply}
 use Rattle.rules_calls.specs.RouteReply.{routeReply}
+use Rattle.rules_calls.specs.declared.DelaySetting.{DelaySetting}
 use Rattle.rules_calls.specs.UpdateReply.{updateReply, confirmReply}
 use Rattle.sent_delays.specs.Last.{lastDelay}
 
@@ -36,6 +37,6 @@ pub record SentDelays : Type 0 where
       newReply settings kinds bytes delays time l commands .number ≡ 0 → ToldFresh (newReply settings kinds bytes delays time l commands)
   pub route :
       (s : Inputs) → Sized s → (l : Lists) (commands : List ℕ) (input : ℕ) (wanted : Wanted) (time : ℕ) (world : World) → Told s (routeReply s l commands input wanted time world)
-  pub update : (s : Inputs) → Sized s → (l : Lists) (commands : List ℕ) (input : ℕ) (kind : ExtraDelay) (time : ℕ) → Told s (updateReply s l commands input kind time)
+  pub update : (s : Inputs) → Sized s → (l : Lists) (commands : List ℕ) (input : ℕ) (setting : DelaySetting) (time : ℕ) → Told s (updateReply s l commands input setting time)
   pub confirm : (s : Inputs) → Sized s → (l : Lists) (commands : List ℕ) (input time : ℕ) → Told s (confirmReply s l commands input time)
   pub tick : (s : Inputs) → Sized s → (l : Lists) (commands : List ℕ) (looks : List Look) (lags : List ℕ) (time : ℕ) → Told s (tickReply s l commands looks lags time)

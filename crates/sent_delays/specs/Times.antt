@@ -19,6 +19,7 @@ use Rattle.rules_calls.specs.declared.Settings.{Settings}
 use Rattle.rules_calls.specs.declared.Wanted.{Wanted}
 use Rattle.rules_calls.specs.NewReply.{newReply}
 use Rattle.rules_calls.specs.RouteReply.{routeReply}
+use Rattle.rules_calls.specs.declared.DelaySetting.{DelaySetting}
 use Rattle.rules_calls.specs.UpdateReply.{updateReply, confirmReply}
 
 -- "kind (1 SetInput, 2 ClearInput, 3 SetDelay)"
@@ -56,6 +57,6 @@ pub record SentTimes : Type 0 where
       newReply settings kinds bytes delays time l commands .number ≡ 0 → TimedFresh time (newReply settings kinds bytes delays time l commands)
   pub route :
       (s : Inputs) → Sized s → (l : Lists) (commands : List ℕ) (input : ℕ) (wanted : Wanted) (time : ℕ) (world : World) → Timed s time (routeReply s l commands input wanted time world)
-  pub update : (s : Inputs) → Sized s → (l : Lists) (commands : List ℕ) (input : ℕ) (kind : ExtraDelay) (time : ℕ) → Timed s time (updateReply s l commands input kind time)
+  pub update : (s : Inputs) → Sized s → (l : Lists) (commands : List ℕ) (input : ℕ) (setting : DelaySetting) (time : ℕ) → Timed s time (updateReply s l commands input setting time)
   pub confirm : (s : Inputs) → Sized s → (l : Lists) (commands : List ℕ) (input time : ℕ) → Timed s time (confirmReply s l commands input time)
   pub tick : (s : Inputs) → Sized s → (l : Lists) (commands : List ℕ) (looks : List Look) (lags : List ℕ) (time : ℕ) → Timed s time (tickReply s l commands looks lags time)

@@ -138,12 +138,12 @@ fn changing(
             )
         }
         Call::Update(asked) => {
-            let kind = asked.kind;
+            let setting = asked.setting;
             changed(
                 inputs_update::update(
                     kept,
                     asked.input,
-                    kind,
+                    setting,
                     asked.time,
                     starts,
                     totals,

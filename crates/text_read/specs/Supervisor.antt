@@ -7,6 +7,7 @@ use lib.Dec.{eqb}
 use lib.Ieee.{binary64, ofBits}
 use lib.ListN.{take}
 use Rattle.base.specs.Choice.{pick}
+use Rattle.rules_calls.specs.declared.DelaySetting.the-variants.{Desk}
 use Rattle.rules_calls.specs.declared.Wanted.the-variants.{From, Nothing}
 use Rattle.text_words.specs.Words.{lost, below}
 use Rattle.text_requests.specs.declared.Call.{Call}
@@ -15,10 +16,11 @@ use Rattle.text_requests.specs.declared.Known.{Known}
 use Rattle.text_requests.specs.declared.Part.the-variants.{Window, Hold, Counters, Delays, Sum}
 use Rattle.text_requests.specs.Forms.{space, slash, u64At, hexAt, u32At, bitAt, maybeU64At, maybeU32At, flowAt, kindAt, textEnd, wordEnd}
 use Rattle.text_requests.specs.Lists.{kindsEnd, looksEnd, loadsEnd, Lags, lagsAt, rowsAt}
-use Rattle.text_requests.specs.Parts.{inodeOf, readerOf, kindOf, proposalOf}
+use Rattle.text_requests.specs.Parts.{inodeOf, readerOf, settingOf, proposalOf}
 use Rattle.text_read_alone.specs.Alone.{holdAt, sumAt}
 use Rattle.text_read.specs.declared.supervisor.CallLine.{CallLine}
 use Rattle.text_read.specs.declared.supervisor.PartLine.{PartLine}
+use Rattle.text_read.specs.declared.supervisor.SettingWord.{SettingWord}
 use Rattle.text_read.specs.declared.supervisor.SettingsWords.{SettingsWords}
 use Rattle.text_read.specs.declared.supervisor.TickName.{TickName}
 use Rattle.text_read.specs.declared.supervisor.WantedWord.{WantedWord}
@@ -100,14 +102,22 @@ routeLine s at =
       next = head .next;
     }
 
--- ---- `update`: now u64, input u64, kind
+-- ---- `update`: now u64, input u64, kind; or in its place `D` (68) with a hex64: Ms, sent by the desk
+unfoldable pub settingAt : (s : List ℕ) (at : ℕ) → SettingWord
+settingAt s at =
+    let desk = hexAt s (textEnd s at " ") 68 in
+    let kind = kindAt s at space in
+    pick (eqb (desk .next) lost)
+    (record { setting = settingOf kind; next = kind .next })
+    (record { setting = Desk (ofBits binary64 (desk .value)); next = desk .next })
+
 unfoldable pub updateLine : (s : List ℕ) (at : ℕ) → CallLine
 updateLine s at =
     let name = wordEnd s at "update" in
     let time = u64At s name space in
     let input = u64At s (time .next) space in
-    let kind = kindAt s (input .next) space in
-    record { call = Update (record { time = time .value; input = input .value; kind = kindOf kind }); next = kind .next }
+    let word = settingAt s (input .next) in
+    record { call = Update (record { time = time .value; input = input .value; setting = word .setting }); next = word .next }
 
 -- `confirm`: now u64, input u64
 unfoldable pub confirmLine : (s : List ℕ) (at : ℕ) → CallLine

@@ -2,7 +2,8 @@
 // or a word is missing or of another form, the place after the words is LOST.
 ghost use mathlib.Core.Path.{_≡_};
 ghost use lib.ListN.{length};
-ghost use Rattle.text_read.specs.Supervisor.{orElse, partOr, settingsAt, newLine, wantedAt, routeLine, updateLine, confirmLine, settledLine, tickName, tickSaid, tickLine, statusLine, hasLine, dumpLine, dwrite1Line, windowPart, holdPart, countersPart, delaysPart, sumPart, putLine, changeLines, askLines, callLine};
+ghost use Rattle.text_read.specs.Supervisor.{orElse, partOr, settingsAt, newLine, wantedAt, routeLine, settingAt, updateLine, confirmLine, settledLine, tickName, tickSaid, tickLine, statusLine, hasLine, dumpLine, dwrite1Line, windowPart, holdPart, countersPart, delaysPart, sumPart, putLine, changeLines, askLines, callLine};
+use rules_calls::DelaySetting;
 use rules_calls::Settings;
 use rules_calls::Source;
 use rules_calls::Wanted;
@@ -31,9 +32,9 @@ use text_requests::lists::loads_end;
 use text_requests::lists::looks_end;
 use text_requests::lists::rows_at;
 use text_requests::parts::inode_of;
-use text_requests::parts::kind_of;
 use text_requests::parts::proposal_of;
 use text_requests::parts::reader_of;
+use text_requests::parts::setting_of;
 use text_words::LOST;
 use text_words::bit_word;
 use text_words::flow_word;
@@ -190,21 +191,45 @@ fn route(s: &[u8], at: usize) -> CallLine
 }
 
 // ---- update, confirm, settled
+pub struct SettingWord {
+    pub setting: DelaySetting,
+    pub next: usize,
+}
+
+// A kind, or `D` and the bits of a double: a manual delay that the desk sends.
+fn setting_at(s: &[u8], at: usize) -> SettingWord
+    ensures { λ r. ⌜ r ≡ settingAt (now (s .entry)) at ⌝ }
+{
+    let desk = hex_word(s, text_end(s, at, b" "), b'D');
+    if desk.next != LOST {
+        return SettingWord {
+            setting: DelaySetting::Desk(double(desk.value)),
+            next: desk.next,
+        };
+    }
+    let kind = kind_word(s, at, b' ');
+    SettingWord {
+        setting: setting_of(kind),
+        next: kind.next,
+    }
+}
+
 fn update(s: &[u8], at: usize) -> CallLine
     ensures { λ r. ⌜ r ≡ updateLine (now (s .entry)) at ⌝ }
 {
     let name = word_end(s, at, b"update");
     let time = u64_word(s, name, b' ');
     let input = u64_word(s, time.next, b' ');
-    let kind = kind_word(s, input.next, b' ');
+    let word = setting_at(s, input.next);
+    let setting = word.setting;
     let asked = UpdateAsked {
         time: time.value,
         input: input.value as usize,
-        kind: kind_of(kind),
+        setting,
     };
     CallLine {
         call: Call::Update(asked),
-        next: kind.next,
+        next: word.next,
     }
 }
 

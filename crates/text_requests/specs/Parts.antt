@@ -10,6 +10,8 @@ use Rattle.delay_hold.specs.declared.Moment.{Moment}
 use Rattle.delay_hold.specs.declared.Moment.the-variants.{At, Never}
 use Rattle.delay_hold.specs.declared.Seed.{Seed}
 use Rattle.delay_hold.specs.declared.Seed.the-variants.{From, Nothing as no-seed}
+use Rattle.rules_calls.specs.declared.DelaySetting.{DelaySetting}
+use Rattle.rules_calls.specs.declared.DelaySetting.the-variants.{Auto as set-auto, Ms as set-ms}
 use Rattle.rules_record.specs.declared.AutoTag.the-variants.{Auto as auto-tag}
 use Rattle.rules_record.specs.declared.ExtraDelay.{ExtraDelay}
 use Rattle.rules_record.specs.declared.ExtraDelay.the-variants.{Auto, Ms}
@@ -50,6 +52,10 @@ lagOf w = pick (w .some) (lag-of (w .value)) None
 -- ---- a manual delay by its bits
 unfoldable pub kindOf : KindWord → ExtraDelay
 kindOf w = pick (w .manual) (Ms (ofBits binary64 (w .bits))) (Auto auto-tag)
+
+-- in `update`, a kind that the scoring program sends
+unfoldable pub settingOf : KindWord → DelaySetting
+settingOf w = pick (w .manual) (set-ms (ofBits binary64 (w .bits))) (set-auto auto-tag)
 
 -- ---- two numbers, or none; the second of 32 bits where it is a lag
 unfoldable pub downOf : MaybePair → QueryDown

@@ -1,9 +1,9 @@
 // What a line of the text protocol asks, by value (compare/README.md, "The protocol"); which words give which request is text_read's. Where a request has a list (kinds, looks, loaded delays, rows, peaks), it holds the place of the line where the list begins.
 use delay_hold::DelayHold;
 use delay_hold::Lag;
+use rules_calls::DelaySetting;
 use rules_calls::Settings;
 use rules_calls::Wanted;
-use rules_record::ExtraDelay;
 use rules_record::Proposal;
 use rules_routing::World;
 use sources::QueryDown;
@@ -131,7 +131,7 @@ pub struct RouteAsked {
 pub struct UpdateAsked {
     pub time: u64,
     pub input: usize,
-    pub kind: ExtraDelay,
+    pub setting: DelaySetting,
 }
 
 pub struct TimeAsked {

@@ -1,10 +1,11 @@
 // What a word gives: a number or none as the calls take it.
 ghost use mathlib.Core.Path.{_≡_};
-ghost use Rattle.text_requests.specs.Parts.{inodeOf, dueOf, momentOf, readerOf, proposalOf, lagOf, kindOf, downOf, lowOf, timerOf, seedOf};
+ghost use Rattle.text_requests.specs.Parts.{inodeOf, dueOf, momentOf, readerOf, proposalOf, lagOf, kindOf, settingOf, downOf, lowOf, timerOf, seedOf};
 use delay_hold::Lag;
 use delay_hold::LowerTimer;
 use delay_hold::Moment;
 use delay_hold::Seed;
+use rules_calls::DelaySetting;
 use rules_record::AutoTag;
 use rules_record::ExtraDelay;
 use rules_record::Inode;
@@ -46,6 +47,16 @@ pub fn kind_of(w: KindWord) -> ExtraDelay
         return ExtraDelay::Ms(double(w.bits));
     }
     ExtraDelay::Auto(AutoTag::Auto)
+}
+
+// A kind that the scoring program sends.
+pub fn setting_of(w: KindWord) -> DelaySetting
+    ensures { λ r. ⌜ r ≡ settingOf w ⌝ }
+{
+    if w.manual {
+        return DelaySetting::Ms(double(w.bits));
+    }
+    DelaySetting::Auto(AutoTag::Auto)
 }
 
 pub fn proposal_of(w: MaybeSmallWord) -> Proposal

@@ -15,8 +15,8 @@ use Rattle.rules_record.specs.Effects.{Effect}
 use Rattle.rules_record.specs.Reply.{Reply, replied}
 use Rattle.rules_record.specs.Checks.{outputFits, recordNumber, ownNumber, inputNumber, timedNumber}
 use Rattle.rules_record.proofs.Checked.{of-checked}
-use Rattle.rules_calls.specs.UpdateChecks.{updateNumber}
-use Rattle.rules_calls.specs.Update.{updated}
+use Rattle.rules_calls.specs.UpdateChecks.{manualNumber, updateNumber}
+use Rattle.rules_calls.specs.Update.{kindOf, updated}
 use Rattle.rules_calls.specs.UpdateReply.{updateReply}
 use Rattle.rules_calls.specs.RouteChecks.{routeNumber}
 use Rattle.rules_calls.specs.Route.{routed}
@@ -67,13 +67,13 @@ module _ (settings : Settings) (n : ℕ) (r : Reply) (g : Sure settings n r) whe
   beyond-input input time rest later = beyond-record _ (beyond-ask 7 _ _ refl (beyond-ask 8 _ _ refl later))
 
   pub beyond : (call : Call) → Beyond (after r call .number)
-  unfolding ownNumber after routeReply updateReply tickReply routeNumber updateNumber tickNumber
+  unfolding ownNumber after routeReply updateReply tickReply routeNumber manualNumber updateNumber tickNumber
   beyond (routes input wanted time world) =
       reply-beyond (r .inputs) (r .lists) (r .commands) (routed input wanted time world (r .inputs) (r .lists)) (routeNumber (r .inputs) (r .lists) (length (r .commands)) input wanted time world)
       (beyond-input input time _ (beyond-ask 9 _ _ refl (beyond-ask 10 _ _ refl beyond-zero)))
-  beyond (updates input kind time) =
-      reply-beyond (r .inputs) (r .lists) (r .commands) (updated input kind time (r .inputs) (r .lists)) (updateNumber (r .inputs) (r .lists) (length (r .commands)) input kind time)
-      (beyond-input input time _ (beyond-ask 12 _ _ refl beyond-zero))
+  beyond (updates input setting time) =
+      reply-beyond (r .inputs) (r .lists) (r .commands) (updated input (kindOf setting) time (r .inputs) (r .lists)) (updateNumber (r .inputs) (r .lists) (length (r .commands)) input setting time)
+      (beyond-input input time _ (beyond-ask 12 _ _ refl (beyond-ask 21 _ _ refl beyond-zero)))
   beyond (ticks looks lags time) =
       reply-beyond (r .inputs) (r .lists) (r .commands) (ticked looks lags time (r .inputs) (r .lists)) (tickNumber (r .inputs) (r .lists) (length (r .commands)) looks lags time)
       (beyond-record _ (beyond-ask 8 _ _ refl (beyond-ask 10 _ _ refl (beyond-ask 10 _ _ refl (beyond-ask 11 _ _ refl beyond-zero)))))

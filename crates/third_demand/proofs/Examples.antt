@@ -19,6 +19,7 @@ use Rattle.policy.specs.Need.{needOf}
 use Rattle.delay_hold.specs.declared.Lag.the-variants as Lag
 use Rattle.rules_record.specs.declared.AutoTag.the-variants as AutoTag
 use Rattle.rules_record.specs.declared.ExtraDelay.the-variants as ExtraDelay
+use Rattle.rules_calls.specs.declared.DelaySetting.the-variants as DelaySetting
 use Rattle.rules_record.specs.declared.Inode.the-variants as Inode
 use Rattle.rules_record.specs.Lent.{lists}
 use Rattle.rules_record.specs.Reply.{Reply}
@@ -72,7 +73,7 @@ tickAt second lag = ticks looks (lag ∷ []) (second * nanos)
 
 -- refused by 7: there is no input 5
 abbrev refused : Call
-refused = updates 5 (ExtraDelay.Auto AutoTag.Auto) (18 * nanos)
+refused = updates 5 (DelaySetting.Auto AutoTag.Auto) (18 * nanos)
 
 -- the ticks of the stretch after its first, at 5 s
 abbrev later : List Call
@@ -107,7 +108,7 @@ oneUpTo L (lag ∷ (more ∷ lags)) = false
 -- an accepted call that left z is a tick of the stretch
 abbrev goesBy : (i L before : ℕ) → Call → (z : Reply) → Bool
 goesBy i L before (routes input wanted time world) z = false
-goesBy i L before (updates input kind time) z = false
+goesBy i L before (updates input setting time) z = false
 goesBy i L before (ticks seen lags time) z = both (leb time (before + 5 * nanos)) (both (goesOn (slotAt (z .inputs) i)) (oneUpTo L (lagsOf seen lags i)))
 
 -- the calls after a tick of the stretch at `before`: refused ones, and ticks of it
@@ -125,7 +126,7 @@ one-lag L (lag ∷ (more ∷ lags)) h = absurd (not-both h refl)
 
 goes-of : (i L before : ℕ) (r : Reply) (call : Call) → goesBy i L before call (after r call) ≡ true → Goes i L before r call
 goes-of i L before r (routes input wanted time world) h = absurd (not-both h refl)
-goes-of i L before r (updates input kind time) h = absurd (not-both h refl)
+goes-of i L before r (updates input setting time) h = absurd (not-both h refl)
 goes-of i L before r (ticks seen lags time) h =
     let a = both-true _ _ h in
     let b = both-true _ _ (a .1) in

@@ -4,7 +4,7 @@ use Prim.Native.Nat.{ℕ, _+_, _*_, _≤_, _<_}
 use mathlib.Core.Path.{_≡_}
 use mathlib.Core.List.{List}
 use lib.ListN.{length}
-use Rattle.rules_record.specs.declared.ExtraDelay.{ExtraDelay}
+use Rattle.rules_calls.specs.declared.DelaySetting.{DelaySetting}
 use Rattle.rules_record.specs.declared.Proposal.the-variants.{Nothing}
 use Rattle.rules_record.specs.declared.Slot.{Slot}
 use Rattle.rules_record.specs.States.{isRunning}
@@ -80,5 +80,5 @@ pub record Laws (settings : Settings) : Type 0 where
       (n : ℕ) (r : Reply) (input : ℕ) (wanted : Wanted) (time : ℕ) (world : World) (i : ℕ) → Sure settings n r → Accepted r (routes input wanted time world) → i < settings .count →
       (input ≡ i → ⊥) → Alone i r (after r (routes input wanted time world))
   pub update-other :
-      (n : ℕ) (r : Reply) (input : ℕ) (kind : ExtraDelay) (time i : ℕ) → Sure settings n r → Accepted r (updates input kind time) → i < settings .count →
-      (input ≡ i → ⊥) → Alone i r (after r (updates input kind time))
+      (n : ℕ) (r : Reply) (input : ℕ) (setting : DelaySetting) (time i : ℕ) → Sure settings n r → Accepted r (updates input setting time) → i < settings .count →
+      (input ≡ i → ⊥) → Alone i r (after r (updates input setting time))

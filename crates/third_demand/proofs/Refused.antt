@@ -8,7 +8,7 @@ use Rattle.rules_record.specs.Lent.{Lists}
 use Rattle.rules_record.specs.Effects.{Effect}
 use Rattle.rules_record.specs.Reply.{Reply, replied}
 use Rattle.rules_calls.specs.UpdateChecks.{updateNumber}
-use Rattle.rules_calls.specs.Update.{updated}
+use Rattle.rules_calls.specs.Update.{kindOf, updated}
 use Rattle.rules_calls.specs.UpdateReply.{updateReply}
 use Rattle.rules_calls.specs.RouteChecks.{routeNumber}
 use Rattle.rules_calls.specs.Route.{routed}
@@ -39,10 +39,10 @@ refused-after r (routes input wanted time world) refused =
     unchanged-of r _
     (reply-unchanged (r .inputs) (r .lists) (r .commands) (routed input wanted time world (r .inputs) (r .lists))
     (routeNumber (r .inputs) (r .lists) (length (r .commands)) input wanted time world) refused)
-refused-after r (updates input kind time) refused =
+refused-after r (updates input setting time) refused =
     unchanged-of r _
-    (reply-unchanged (r .inputs) (r .lists) (r .commands) (updated input kind time (r .inputs) (r .lists))
-    (updateNumber (r .inputs) (r .lists) (length (r .commands)) input kind time) refused)
+    (reply-unchanged (r .inputs) (r .lists) (r .commands) (updated input (kindOf setting) time (r .inputs) (r .lists))
+    (updateNumber (r .inputs) (r .lists) (length (r .commands)) input setting time) refused)
 refused-after r (ticks looks lags time) refused =
     unchanged-of r _
     (reply-unchanged (r .inputs) (r .lists) (r .commands) (ticked looks lags time (r .inputs) (r .lists))

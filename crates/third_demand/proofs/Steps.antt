@@ -7,7 +7,7 @@ use native.Mathlib.Omega.{arith}
 use lib.ListN.{length}
 use Rattle.base.proofs.Choices.{accepted-new}
 use Rattle.policy.specs.declared.DelayPolicy.{DelayPolicy}
-use Rattle.rules_record.specs.declared.ExtraDelay.{ExtraDelay}
+use Rattle.rules_calls.specs.declared.DelaySetting.{DelaySetting}
 use Rattle.rules_record.specs.States.{isRunning}
 use Rattle.rules_record.specs.Inputs.{slotAt}
 use Rattle.rules_routing.specs.declared.World.{World}
@@ -19,7 +19,7 @@ use Rattle.rules_routing.proofs.SettingsKept.{settings-then}
 use Rattle.rules_tick.specs.AutoDelay.{goesOn}
 use Rattle.rules_tick.proofs.Raised.{Raised}
 use Rattle.rules_calls.specs.UpdateChecks.{updateNumber}
-use Rattle.rules_calls.specs.Update.{updated}
+use Rattle.rules_calls.specs.Update.{kindOf, updated}
 use Rattle.rules_calls.specs.UpdateReply.{updateReply}
 use Rattle.rules_calls.proofs.UpdateKeeps.{update-keeps}
 use Rattle.rules_calls.specs.declared.Wanted.{Wanted}
@@ -98,26 +98,26 @@ module _ (settings : Settings) (n : ℕ) (r : Reply) (g : Sure settings n r) whe
     }
 
   -- ---- `update`
-  module _ (input : ℕ) (kind : ExtraDelay) (time : ℕ) (took : Accepted r (updates input kind time)) where
-    update-passed : updateNumber (r .inputs) (r .lists) (length (r .commands)) input kind time ≡ 0
+  module _ (input : ℕ) (setting : DelaySetting) (time : ℕ) (took : Accepted r (updates input setting time)) where
+    update-passed : updateNumber (r .inputs) (r .lists) (length (r .commands)) input setting time ≡ 0
     unfolding after updateReply
-    update-passed = passed-of _ (r .inputs) (r .lists) (r .commands) (updated input kind time (r .inputs) (r .lists)) took
+    update-passed = passed-of _ (r .inputs) (r .lists) (r .commands) (updated input (kindOf setting) time (r .inputs) (r .lists)) took
 
-    update-on : CallOn input time (r .inputs) (r .lists) (after r (updates input kind time) .inputs) (after r (updates input kind time) .lists)
+    update-on : CallOn input time (r .inputs) (r .lists) (after r (updates input setting time) .inputs) (after r (updates input setting time) .lists)
     unfolding after
-    update-on = update-call (r .inputs) (r .lists) (r .commands) input kind time update-passed (g .checked .sized)
+    update-on = update-call (r .inputs) (r .lists) (r .commands) input setting time update-passed (g .checked .sized)
 
-    update-sure : Sure settings (n + 1) (after r (updates input kind time))
+    update-sure : Sure settings (n + 1) (after r (updates input setting time))
     unfolding after
     update-sure =
-        sure-on input time (after r (updates input kind time)) update-on (update-keeps (r .inputs) (r .lists) (r .commands) input (g .checked) kind time)
-        (long-after _ _ (updated input kind time (r .inputs) (r .lists)) (update-reply (r .inputs) (r .lists) (r .commands) input kind time update-passed) (room 3 (updated input kind time (r .inputs) (r .lists) .words) (omega arith) (updated-few input kind time (r .inputs) (r .lists))))
+        sure-on input time (after r (updates input setting time)) update-on (update-keeps (r .inputs) (r .lists) (r .commands) input (g .checked) setting time)
+        (long-after _ _ (updated input (kindOf setting) time (r .inputs) (r .lists)) (update-reply (r .inputs) (r .lists) (r .commands) input setting time update-passed) (room 3 (updated input (kindOf setting) time (r .inputs) (r .lists) .words) (omega arith) (updated-few input (kindOf setting) time (r .inputs) (r .lists))))
 
-    update-step : Unproposed settings r → Step settings n r (updates input kind time)
+    update-step : Unproposed settings r → Step settings n r (updates input setting time)
     unfolding after
     update-step none = record {
-      good = record { sure = update-sure; unproposed = unproposed-on input time (after r (updates input kind time)) update-on (update-sure .checked) (update-sure .long) none };
-      lifted = lifted-on input time (after r (updates input kind time)) update-on (update-sure .checked) (update-sure .long);
+      good = record { sure = update-sure; unproposed = unproposed-on input time (after r (updates input setting time)) update-on (update-sure .checked) (update-sure .long) none };
+      lifted = lifted-on input time (after r (updates input setting time)) update-on (update-sure .checked) (update-sure .long);
     }
 
   -- ---- `route`
@@ -215,7 +215,7 @@ module _ (settings : Settings) (n : ℕ) (r : Reply) (g : Sure settings n r) whe
   -- ---- every call
   sure-after : (call : Call) → n < most → Accepted r call → Sure settings (n + 1) (after r call)
   sure-after (routes input wanted time world) few took = route-sure input wanted time world took
-  sure-after (updates input kind time) few took = update-sure input kind time took
+  sure-after (updates input setting time) few took = update-sure input setting time took
   sure-after (ticks looks lags time) few took = tick-sure few looks lags time took
 
 -- with confirmation or without
@@ -232,11 +232,11 @@ laws settings unconfirmed = record {
   tick = λ n r looks lags time i few g took h. tick-views settings n r (g .sure) few looks lags time took unconfirmed (g .unproposed) i h;
   route-other = λ n r input wanted time world i g took h apart.
       alone-on settings n r g input time (after r (routes input wanted time world)) (route-on settings n r g input wanted time world took) (route-sure settings n r g input wanted time world took .checked) (route-sure settings n r g input wanted time world took .long) i h apart;
-  update-other = λ n r input kind time i g took h apart.
-      alone-on settings n r g input time (after r (updates input kind time)) (update-on settings n r g input kind time took) (update-sure settings n r g input kind time took .checked) (update-sure settings n r g input kind time took .long) i h apart;
+  update-other = λ n r input setting time i g took h apart.
+      alone-on settings n r g input time (after r (updates input setting time)) (update-on settings n r g input setting time took) (update-sure settings n r g input setting time took .checked) (update-sure settings n r g input setting time took .long) i h apart;
 }
   where
     step : (n : ℕ) (r : Reply) (call : Call) → n < most → Good settings n r → Accepted r call → Step settings n r call
     step n r (routes input wanted time world) few g took = route-step settings n r (g .sure) input wanted time world took (g .unproposed)
-    step n r (updates input kind time) few g took = update-step settings n r (g .sure) input kind time took (g .unproposed)
+    step n r (updates input setting time) few g took = update-step settings n r (g .sure) input setting time took (g .unproposed)
     step n r (ticks looks lags time) few g took = tick-step settings n r (g .sure) few looks lags time took unconfirmed (g .unproposed)

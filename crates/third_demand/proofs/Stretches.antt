@@ -95,9 +95,9 @@ module _ (settings : Settings) (laws : Laws settings) (i L : ℕ) (h : i < setti
     onward-taken (routes input wanted time world) took order goes =
         still (routes input wanted time world) (laws .route-other n r input wanted time world i (g .sure) took h goes) (accepted-last _ took order)
         (subst (λ (x : ℕ). before ≤ x) (sym (accepted-clock (routes input wanted time world) took order)) (omega (arith, le, order)))
-    onward-taken (updates input kind time) took order goes =
-        still (updates input kind time) (laws .update-other n r input kind time i (g .sure) took h goes) (accepted-last _ took order)
-        (subst (λ (x : ℕ). before ≤ x) (sym (accepted-clock (updates input kind time) took order)) (omega (arith, le, order)))
+    onward-taken (updates input setting time) took order goes =
+        still (updates input setting time) (laws .update-other n r input setting time i (g .sure) took h goes) (accepted-last _ took order)
+        (subst (λ (x : ℕ). before ≤ x) (sym (accepted-clock (updates input setting time) took order)) (omega (arith, le, order)))
     onward-taken (ticks looks lags time) took order goes =
         let call : Call = ticks looks lags time in
         let tick : Tick = tickOf time (lagsOf looks lags i) in

@@ -13,7 +13,7 @@ use Rattle.third_demand.specs.Calls.{Call, routes, updates, ticks, after
 pub after-told : (r : Reply) (call : Call) → Sized (r .inputs) → Told (r .inputs) (after r call)
 unfolding after
 after-told r (routes input wanted time world) h = route-told (r .inputs) h (r .lists) (r .commands) input wanted time world
-after-told r (updates input kind time) h = update-told (r .inputs) h (r .lists) (r .commands) input kind time
+after-told r (updates input setting time) h = update-told (r .inputs) h (r .lists) (r .commands) input setting time
 after-told r (ticks looks lags time) h = tick-told (r .inputs) h (r .lists) (r .commands) looks lags time
 
 pub step-told : (r : Reply) (call : Call) → Sized (r .inputs) → Accepted r call → (i : ℕ) → i < 16 → slotAt (after r call .inputs) i .delay ≡ lastDelay i (slotAt (r .inputs) i .delay) (after r call .commands)

@@ -23,8 +23,9 @@ use Rattle.rules_record.specs.Reply.{Reply, carriedOut}
 use Rattle.rules_record.proofs.Numbers.{input-told, call-fitting, call-low}
 use Rattle.rules_routing.specs.Clear.{clearedSlot, cleared}
 use Rattle.rules_routing.proofs.SettingsKept.{SameSettings}
-use Rattle.rules_calls.specs.UpdateChecks.{kindFits, updateNumber}
-use Rattle.rules_calls.specs.Update.{kindStored, updated}
+use Rattle.rules_calls.specs.declared.DelaySetting.{DelaySetting}
+use Rattle.rules_calls.specs.UpdateChecks.{kindFits, manualNumber, updateNumber}
+use Rattle.rules_calls.specs.Update.{kindStored, kindOf, updated}
 use Rattle.rules_calls.specs.UpdateReply.{updateReply}
 use Rattle.rules_calls.proofs.UpdateDelays.{manual-slot, auto-slot}
 use Rattle.rules_calls.proofs.UpdateFrames.{update-other, update-settings, update-beside}
@@ -73,37 +74,37 @@ module _ (s : Inputs) (l : Lists) (i time : ℕ) (sized : Sized s) (low : i < 16
   }
 
 -- ---- the call
-module _ (s : Inputs) (l : Lists) (commands : List ℕ) (input : ℕ) (kind : ExtraDelay) (time : ℕ) (accepted : updateNumber s l (length commands) input kind time ≡ 0) where
+module _ (s : Inputs) (l : Lists) (commands : List ℕ) (input : ℕ) (setting : DelaySetting) (time : ℕ) (accepted : updateNumber s l (length commands) input setting time ≡ 0) where
   abbrev effect : Effect
-  effect = updated input kind time s l
+  effect = updated input (kindOf setting) time s l
 
-  pub update-reply : updateReply s l commands input kind time ≡ carriedOut (updateNumber s l (length commands) input kind time) commands effect
+  pub update-reply : updateReply s l commands input setting time ≡ carriedOut (updateNumber s l (length commands) input setting time) commands effect
   unfolding updateReply
   update-reply = accepted-new _ _ _ accepted
 
-  told : Fitting s l × (input < s .count) × (input < 16) × (time ≤ timeLimit) × (kindFits kind (s .policy .«delay_max») ≡ true)
-  unfolding updateNumber
+  told : Fitting s l × (input < s .count) × (input < 16) × (time ≤ timeLimit) × (kindFits (kindOf setting) (s .policy .«delay_max») ≡ true)
+  unfolding updateNumber manualNumber
   told =
       let t = input-told s l (length commands) input time _ accepted in
       (call-fitting s l (length commands) input time _ accepted, t .1, call-low s l (length commands) input time _ accepted, t .2, asked 11 _ _ (t .3) .0)
 
   same : SameSettings s (effect .inputs)
-  same = subst (λ (r : Reply). SameSettings s (r .inputs)) update-reply (update-settings s l commands input kind time)
+  same = subst (λ (r : Reply). SameSettings s (r .inputs)) update-reply (update-settings s l commands input setting time)
 
   others : (j : ℕ) → (j ≡ input → ⊥) → slotAt (effect .inputs) j ≡ slotAt s j
-  others j apart = subst (λ (r : Reply). slotAt (r .inputs) j ≡ slotAt s j) update-reply (update-other s l commands input kind time j apart)
+  others j apart = subst (λ (r : Reply). slotAt (r .inputs) j ≡ slotAt s j) update-reply (update-other s l commands input setting time j apart)
 
   pub updated-call : Sized s → CallOn input time s l (effect .inputs) (effect .lists)
   updated-call sized = record {
     settings = same;
-    lifted = own-lifted s l input time sized (told .2) (told .0) (told .1) (told .3) kind (told .4) same;
+    lifted = own-lifted s l input time sized (told .2) (told .0) (told .1) (told .3) (kindOf setting) (told .4) same;
     other-slot = others;
-    other-view = λ j there apart. view-other s (effect .inputs) same l (effect .lists) input j (update-beside s l commands input kind time accepted) there apart (others j apart);
-    proposed = λ none. stored-proposed s l input time sized (told .2) kind;
-    reopens = stored-reopens s l input time sized (told .2) kind;
-    changes = stored-changes s l input time sized (told .2) kind;
-    lates = stored-lates s l input time sized (told .2) kind;
+    other-view = λ j there apart. view-other s (effect .inputs) same l (effect .lists) input j (update-beside s l commands input setting time accepted) there apart (others j apart);
+    proposed = λ none. stored-proposed s l input time sized (told .2) (kindOf setting);
+    reopens = stored-reopens s l input time sized (told .2) (kindOf setting);
+    changes = stored-changes s l input time sized (told .2) (kindOf setting);
+    lates = stored-lates s l input time sized (told .2) (kindOf setting);
   }
 
-  pub update-call : Sized s → CallOn input time s l (updateReply s l commands input kind time .inputs) (updateReply s l commands input kind time .lists)
+  pub update-call : Sized s → CallOn input time s l (updateReply s l commands input setting time .inputs) (updateReply s l commands input setting time .lists)
   update-call sized = subst (λ (r : Reply). CallOn input time s l (r .inputs) (r .lists)) (sym update-reply) (updated-call sized)

@@ -10,6 +10,7 @@ use Rattle.rules_record.specs.declared.ExtraDelay.{ExtraDelay}
 use Rattle.rules_routing.specs.declared.World.{World}
 use Rattle.rules_record.specs.Lent.{Lists}
 use Rattle.rules_record.specs.Reply.{Reply}
+use Rattle.rules_calls.specs.declared.DelaySetting.{DelaySetting}
 use Rattle.rules_calls.specs.UpdateReply.{updateReply}
 use Rattle.rules_calls.specs.declared.Wanted.{Wanted}
 use Rattle.rules_calls.specs.RouteReply.{routeReply}
@@ -22,18 +23,18 @@ use Rattle.sent_delays.specs.Last.{lastDelay}
 -- "every list of .. calls (route, delay setting, tick ..)"; "a delay setting is a call that stores a delay kind, here `update`"
 pub data Call : Type 0 where
   routes : (input : ℕ) → Wanted → (time : ℕ) → World → Call
-  updates : (input : ℕ) → ExtraDelay → (time : ℕ) → Call
+  updates : (input : ℕ) → DelaySetting → (time : ℕ) → Call
   ticks : List Look → (lags : List ℕ) → (time : ℕ) → Call
 
 abbrev pub timeOf : Call → ℕ
 timeOf (routes input wanted time world) = time
-timeOf (updates input kind time) = time
+timeOf (updates input setting time) = time
 timeOf (ticks looks lags time) = time
 
 -- "Each call gets what the one before left; nobody else writes it."
 unfoldable pub after : (r : Reply) → Call → Reply
 after r (routes input wanted time world) = routeReply (r .inputs) (r .lists) (r .commands) input wanted time world
-after r (updates input kind time) = updateReply (r .inputs) (r .lists) (r .commands) input kind time
+after r (updates input setting time) = updateReply (r .inputs) (r .lists) (r .commands) input setting time
 after r (ticks looks lags time) = tickReply (r .inputs) (r .lists) (r .commands) looks lags time
 
 -- what a list of calls leaves, "refused ones included"

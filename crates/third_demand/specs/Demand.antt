@@ -72,13 +72,13 @@ pub record InStretch (i L before : ℕ) (looks : List Look) (lags : List ℕ) (t
 -- what an accepted call of the stretch is: a tick of it, or a call for another input
 abbrev pub Goes : (i L before : ℕ) → Reply → Call → Type 0
 Goes i L before r (routes input wanted time world) = input ≡ i → ⊥
-Goes i L before r (updates input kind time) = input ≡ i → ⊥
+Goes i L before r (updates input setting time) = input ≡ i → ⊥
 Goes i L before r (ticks looks lags time) = InStretch i L before looks lags time (after r (ticks looks lags time))
 
 -- the time of the stretch's last tick, after an accepted call
 abbrev pub tickTime : (before : ℕ) → Call → ℕ
 tickTime before (routes input wanted time world) = before
-tickTime before (updates input kind time) = before
+tickTime before (updates input setting time) = before
 tickTime before (ticks looks lags time) = time
 
 unfoldable pub lastTick : (before : ℕ) (r : Reply) (call : Call) → ℕ

@@ -25,6 +25,9 @@ same-length-5 c = search needs
 returns : tie.Need-returns
 returns c = update-refused _ _ _ _ _ _ (c .before .update-number .ensures) (c .if1 .taken)
 
+kind-of-requires : tie.Need-kind-of-requires
+kind-of-requires c κs = search needs
+
 slot-at-requires : tie.Need-slot-at-requires
 slot-at-requires c κs = search needs
 
@@ -41,7 +44,7 @@ zero-u32-requires : tie.Need-zero-u32-requires
 zero-u32-requires c κs = search needs
 
 clear-requires : tie.Need-clear-requires
-clear-requires c κs = clear-asked _ _ (c .before .before .before .before .before .before .before .before .before .before .before .before .before .before .before .before .before .before .before .before .before .before .before .before .before .before .before .before .before .args .commands .now) _ _ _ (c .before .before .before .before .before .before .before .before .before .before .before .before .before .before .before .update-number .ensures) (c .before .before .before .before .before .before .before .before .before .before .before .before .before .before .if1 .left)
+clear-requires c κs = clear-asked _ _ (c .before .before .before .before .before .before .before .before .before .before .before .before .before .before .before .before .before .before .before .before .before .before .before .before .before .before .before .before .before .before .args .commands .now) _ _ _ (c .before .before .before .before .before .before .before .before .before .before .before .before .before .before .before .before .update-number .ensures) (c .before .before .before .before .before .before .before .before .before .before .before .before .before .before .before .if1 .left)
 
 same-length-6 : tie.Need-same-length-6
 same-length-6 c = search needs
@@ -62,13 +65,13 @@ same-length-11 : tie.Need-same-length-11
 same-length-11 c = search needs
 
 returns-2 : tie.Need-returns-2
-returns-2 c = update-auto _ _ _ _ _ _ (c .before .before .before .before .before .before .before .before .before .before .before .before .before .before .before .before .before .before .before .before .before .before .before .before .before .before .before .before .update-number .ensures) (c .before .before .before .before .before .before .before .before .before .before .before .before .before .before .before .before .before .before .before .before .before .before .before .before .before .before .before .if1 .left) (c .before .before .before .before .before .before .before .before .before .before .before .before .before .before .before .before .before .before .before .before .before .before .before .before .before .before .slot-at .ensures) (c .before .before .before .before .before .before .before .before .before .before .before .before .before .before .before .before .before .before .before .before .before .before .before .before .before .with-kind .ensures) (c .before .before .before .before .before .before .before .before .before .before .before .before .before .before .before .before .before .before .before .before .before .before .before .enum-told .given .1) (c .before .before .before .before .before .before .before .before .before .before .before .before .clear .ensures) (c .before .before .before .before .before .before .before .before .before .before .before .before .before .before .before .before .before .before .before .before .before .zero-u32 .ensures)
+returns-2 c = update-auto _ _ _ _ _ _ (c .before .before .before .before .before .before .before .before .before .before .before .before .before .before .before .before .before .before .before .before .before .before .before .before .before .before .before .before .before .update-number .ensures) (c .before .before .before .before .before .before .before .before .before .before .before .before .before .before .before .before .before .before .before .before .before .before .before .before .before .before .before .before .if1 .left) (c .before .before .before .before .before .before .before .before .before .before .before .before .before .before .before .before .before .before .before .before .before .before .before .before .before .before .before .kind-of .ensures) (c .before .before .before .before .before .before .before .before .before .before .before .before .before .before .before .before .before .before .before .before .before .before .before .before .before .before .slot-at .ensures) (c .before .before .before .before .before .before .before .before .before .before .before .before .before .before .before .before .before .before .before .before .before .before .before .before .before .with-kind .ensures) (c .before .before .before .before .before .before .before .before .before .before .before .before .before .before .before .before .before .before .before .before .before .before .before .enum-told .given .1) (c .before .before .before .before .before .before .before .before .before .before .before .before .clear .ensures) (c .before .before .before .before .before .before .before .before .before .before .before .before .before .before .before .before .before .before .before .before .before .zero-u32 .ensures)
 
 samples-requires : tie.Need-samples-requires
 samples-requires c κs = search needs
 
 delay-set-requires : tie.Need-delay-set-requires
-delay-set-requires c κs = manual-asked _ _ (c .before .before .before .before .before .before .before .before .before .before .before .before .before .before .before .before .before .before .before .before .before .before .args .commands .now) _ _ _ (c .before .before .before .before .before .before .before .before .update-number .ensures) (c .before .before .before .before .before .before .before .if1 .left)
+delay-set-requires c κs = manual-asked _ _ (c .before .before .before .before .before .before .before .before .before .before .before .before .before .before .before .before .before .before .before .before .before .before .before .args .commands .now) _ _ _ (c .before .before .before .before .before .before .before .before .before .update-number .ensures) (c .before .before .before .before .before .before .before .before .if1 .left)
 
 same-length-12 : tie.Need-same-length-12
 same-length-12 c = search needs
@@ -98,7 +101,7 @@ same-length-20 : tie.Need-same-length-20
 same-length-20 c = search needs
 
 returns-3 : tie.Need-returns-3
-returns-3 c = update-manual _ _ _ _ _ _ (c .before .before .before .before .before .before .before .before .before .before .before .update-number .ensures) (c .before .before .before .before .before .before .before .before .before .before .if1 .left) (c .before .before .before .before .before .before .before .before .before .slot-at .ensures) (c .before .before .before .before .before .before .before .before .with-kind .ensures) (c .before .before .before .before .before .before .kind .given .1) (c .before .before .before .before .samples .ensures) (c .before .before .delay-set .ensures)
+returns-3 c = update-manual _ _ _ _ _ _ (c .before .before .before .before .before .before .before .before .before .before .before .before .update-number .ensures) (c .before .before .before .before .before .before .before .before .before .before .before .if1 .left) (c .before .before .before .before .before .before .before .before .before .before .kind-of .ensures) (c .before .before .before .before .before .before .before .before .before .slot-at .ensures) (c .before .before .before .before .before .before .before .before .with-kind .ensures) (c .before .before .before .before .before .before .kind .given .1) (c .before .before .before .before .samples .ensures) (c .before .before .delay-set .ensures)
 
 pub update-spec : {M : Type 1} → statement M
 update-spec =
@@ -112,6 +115,7 @@ update-spec =
     same-length-5
     same-length-6
     returns
+    kind-of-requires
     slot-at-requires
     with-kind-requires
     enum-known-kind

@@ -7,7 +7,7 @@ use Rattle.text_read.proofs.supervisor.update.Tie as tie
 
 returns : tie.Need-returns
 unfolding updateLine
-returns c = rw (c .kind-of .ensures, c .before .kind-word .ensures, c .before .before .u64-word2 .ensures, c .before .before .before .u64-word .ensures, c .before .before .before .before .word-end .ensures)
+returns c = rw (c .setting-at .ensures, c .before .u64-word2 .ensures, c .before .before .u64-word .ensures, c .before .before .before .word-end .ensures)
 
 pub update-spec : {M : Type 1} → statement M
 update-spec =
@@ -17,6 +17,5 @@ update-spec =
     (λ c κs. search needs)  -- word-end-requires
     (λ c κs. search needs)  -- u64-word-requires
     (λ c κs. search needs)  -- u64-word-requires-2
-    (λ c κs. search needs)  -- kind-word-requires
-    (λ c κs. search needs)  -- kind-of-requires
+    (λ c κs. search needs)  -- setting-at-requires
     returns)
