@@ -1,11 +1,8 @@
-// The block clock: sample indices and times in nanoseconds.
+// The block clock: sample indices and times in nanoseconds, at a rate of samples a second.
 ghost use mathlib.Core.Path.{_≡_};
 ghost use Rattle.timing.specs.Clock.{indexAnswer, timeAnswer};
 use base::NANOS;
 use base::TIME_LIMIT;
-
-// Samples a second.
-const RATE: u64 = 48_000;
 
 // The last second that begins within a u64 of nanoseconds.
 const LAST_SECOND: u64 = 18_446_744_073;
@@ -18,30 +15,44 @@ pub struct Answer {
     pub value: u64,
 }
 
-// The sample index at a time, rounded down.
-pub fn index_at(ns: u64) -> Answer
-    ensures { λ r. ⌜ r ≡ indexAnswer 48000 ns ⌝ }
+// The sample index at a time, rounded down (checks 23 and 8).
+pub fn index_at(rate: u32, ns: u64) -> Answer
+    ensures { λ r. ⌜ r ≡ indexAnswer rate ns ⌝ }
 {
+    if !rates::rate_allowed(rate) {
+        return Answer {
+            number: 23,
+            value: 0,
+        };
+    }
     if ns > TIME_LIMIT {
         return Answer {
             number: 8,
             value: 0,
         };
     }
+    let samples = rate as u64;
     let seconds = ns / NANOS;
     let rest = ns % NANOS;
-    Answer {
-        number: 0,
-        value: seconds * RATE + rest * RATE / NANOS,
-    }
+    let whole = seconds * samples;
+    let part = rest * samples / NANOS;
+    let value = whole + part;
+    Answer { number: 0, value }
 }
 
-// The time of a sample index, rounded up.
-pub fn time_of(index: u64) -> Answer
-    ensures { λ r. ⌜ r ≡ timeAnswer 48000 index ⌝ }
+// The time of a sample index, rounded up (checks 23 and 8).
+pub fn time_of(rate: u32, index: u64) -> Answer
+    ensures { λ r. ⌜ r ≡ timeAnswer rate index ⌝ }
 {
-    let seconds = index / RATE;
-    let rest = (index % RATE * NANOS + (RATE - 1)) / RATE;
+    if !rates::rate_allowed(rate) {
+        return Answer {
+            number: 23,
+            value: 0,
+        };
+    }
+    let samples = rate as u64;
+    let seconds = index / samples;
+    let rest = (index % samples * NANOS + (samples - 1)) / samples;
     if seconds > LAST_SECOND {
         return Answer {
             number: 8,
@@ -55,8 +66,6 @@ pub fn time_of(index: u64) -> Answer
             value: 0,
         };
     }
-    Answer {
-        number: 0,
-        value: begins + rest,
-    }
+    let value = begins + rest;
+    Answer { number: 0, value }
 }
