@@ -6,7 +6,9 @@ use lib.IntN.{pos, negsuc}
 use lib.Ieee.{fin, binary64, round, mul, div, ofInt, le}
 use Rattle.base.specs.Choice.{ask, both}
 use Rattle.buckets.specs.Ranges.{reachesAllowed}
+use Rattle.rates.specs.Rates.{rateAllowed}
 use Rattle.doubles.specs.Doubles.{msOf, samplesOf, halfAway}
+use Rattle.doubles.specs.Answers.{rateNumber, msBy, msAnswer, samplesBy, samplesAnswer}
 use Rattle.policy.specs.declared.Need.the-variants as Need
 use Rattle.policy.specs.Settings.{marginsAllowed}
 use Rattle.policy.specs.Need.{needOf, needNumber, needReply}
@@ -14,12 +16,12 @@ use Rattle.answers.specs.Fifteen.{settings, Fifteen}
 use Rattle.answers.proofs.Windows.{limited-are, one-above-is, two-above-is}
 use Rattle.answers.proofs.Holds.{decisions-are}
 
-one-millisecond : msOf 48 ≡ fin false 1 (pos 0)
-unfolding msOf round div mul ofInt
+one-millisecond : msAnswer 48_000 48 ≡ msBy 0 (fin false 1 (pos 0))
+unfolding msAnswer rateNumber rateAllowed ask msOf round div mul ofInt
 one-millisecond = refl
 
-samples-are : samplesOf (fin false 1 (negsuc 4)) ∷ samplesOf (round binary64 false 10416 1000000) ∷ [] ≡ 2 ∷ 0 ∷ []
-unfolding samplesOf halfAway round div mul ofInt
+samples-are : samplesAnswer 48_000 (fin false 1 (negsuc 4)) ∷ samplesAnswer 48_000 (round binary64 false 10416 1000000) ∷ [] ≡ samplesBy 0 2 ∷ samplesBy 0 0 ∷ []
+unfolding samplesAnswer rateNumber rateAllowed ask samplesOf halfAway round div mul ofInt
 samples-are = refl
 
 needs-are : needReply settings 480 ∷ needReply settings 485 ∷ needReply settings 5280 ∷ [] ≡ Need.Of 96 ∷ Need.Of 104 ∷ Need.Of 4800 ∷ []

@@ -5,6 +5,7 @@ use lib.Ieee.{round, mul, ofInt, le}
 use Rattle.base.specs.Choice.{ask, both}
 use Rattle.base.specs.Lists.{padded, all, blankFrom}
 use Rattle.base.specs.Rows.{apart, upTo}
+use Rattle.rates.specs.Rates.{rateAllowed}
 use Rattle.buckets.specs.Ranges.{reachesAllowed, widthAllowed, bucketsOf, bucketsFew, rangesNumber}
 use Rattle.doubles.specs.Doubles.{halfAway}
 use Rattle.policy.specs.Settings.{timesAllowed, marginsAllowed}
@@ -22,5 +23,5 @@ use Rattle.answers.specs.Fifteen.{firstNext}
 pub decisions-are :
     firstNext None (Of 485) 0 ∷ firstNext None (Of 480) 0 ∷ firstNext None (Of 5281) 0 ∷ firstNext (Of 480) None 47 ∷ firstNext (Of 480) None 48 ∷ []
     ≡ Changed 104 ∷ Kept ∷ Kept ∷ Changed 96 ∷ Kept ∷ []
-unfolding newReply newNumber nextReply nextNumber settingsNumber heldNumber listsFit wholeHold wholePeaks wholeTimes timerFits apart upTo all blankFrom ask both reachesAllowed widthAllowed bucketsOf bucketsFew rangesNumber timesAllowed marginsAllowed nextOf noted joinTimes joinLags oldCount timesAfter lagsAfter padded decide decideAt weighed lowering needOf halfAway round mul ofInt le
+unfolding newReply newNumber nextReply nextNumber settingsNumber heldNumber listsFit wholeHold wholePeaks wholeTimes timerFits apart upTo all blankFrom ask both rateAllowed reachesAllowed widthAllowed bucketsOf bucketsFew rangesNumber timesAllowed marginsAllowed nextOf noted joinTimes joinLags oldCount timesAfter lagsAfter padded decide decideAt weighed lowering needOf halfAway round mul ofInt le
 decisions-are = refl

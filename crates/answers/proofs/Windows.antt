@@ -6,6 +6,7 @@ use lib.ListN.{length, replicate, length-append, length-replicate}
 use Rattle.base.specs.Choice.{ask, both}
 use Rattle.base.specs.Lists.{padded, all, listed, sum, blankFrom, sumFrom}
 use Rattle.base.specs.Rows.{apart, upTo}
+use Rattle.rates.specs.Rates.{rateAllowed}
 use Rattle.buckets.specs.Ranges.{reachesAllowed, widthAllowed, bucketsOf, bucketsFew, bucketsAllowed, rangesNumber}
 use Rattle.doubles.specs.Doubles.{ceilOf}
 use Rattle.doubles.specs.Quantile.{targetOf}
@@ -23,28 +24,28 @@ use Rattle.answers.proofs.Pushes.{leftOf, after-pushed}
 
 -- the window that `new` makes
 abbrev empty : Window
-empty = fresh (bucketsOf 0 0 48) 48
+empty = fresh (bucketsOf 48_000 0 0 48) 48
 
 pub limited-are : quantileUptoLeft one 95 (after (0 ∷ 100 ∷ []) made) ∷ quantileUptoLeft one 96 (after (0 ∷ 100 ∷ []) made) ∷ [] ≡ End 48 ∷ End 144 ∷ []
-unfolding after ask both padded all listed sum blankFrom sumFrom apart upTo ceilOf targetOf bucketsOf fresh inUse laid opened dropped counted pushed pushedAll summed wholeWindow column within running reach quantileIn columnSums rightSums thousandths reachesAllowed widthAllowed bucketsFew bucketsAllowed rangesNumber checked newestOf fromZeroToOne newNumber pushNumber quantileNumber newReply pushReply quantileUptoReply quantileReply round mul ofInt le
+unfolding after ask both padded all listed sum blankFrom sumFrom apart upTo ceilOf targetOf bucketsOf fresh inUse laid opened dropped counted pushed pushedAll summed wholeWindow column within running reach quantileIn columnSums rightSums thousandths rateAllowed reachesAllowed widthAllowed bucketsFew bucketsAllowed rangesNumber checked newestOf fromZeroToOne newNumber pushNumber quantileNumber newReply pushReply quantileUptoReply quantileReply round mul ofInt le
 limited-are = refl
 
 one-pushed : quantileLeft (thousandths 999) (leftOf (pushedAll 5 (replicate 999 0 ++ 48 ∷ []) empty)) ≡ End 48
-unfolding ask both padded all listed sum blankFrom sumFrom apart upTo ceilOf targetOf bucketsOf fresh inUse laid opened dropped counted pushed pushedAll summed wholeWindow column within running reach quantileIn columnSums rightSums thousandths reachesAllowed widthAllowed bucketsFew bucketsAllowed rangesNumber checked newestOf fromZeroToOne newNumber pushNumber quantileNumber newReply pushReply quantileUptoReply quantileReply round mul ofInt le
+unfolding ask both padded all listed sum blankFrom sumFrom apart upTo ceilOf targetOf bucketsOf fresh inUse laid opened dropped counted pushed pushedAll summed wholeWindow column within running reach quantileIn columnSums rightSums thousandths rateAllowed reachesAllowed widthAllowed bucketsFew bucketsAllowed rangesNumber checked newestOf fromZeroToOne newNumber pushNumber quantileNumber newReply pushReply quantileUptoReply quantileReply round mul ofInt le
 one-pushed = refl
 
 two-pushed : quantileLeft (thousandths 999) (leftOf (pushedAll 5 (replicate 998 0 ++ 48 ∷ 48 ∷ []) empty)) ≡ End 96
-unfolding ask both padded all listed sum blankFrom sumFrom apart upTo ceilOf targetOf bucketsOf fresh inUse laid opened dropped counted pushed pushedAll summed wholeWindow column within running reach quantileIn columnSums rightSums thousandths reachesAllowed widthAllowed bucketsFew bucketsAllowed rangesNumber checked newestOf fromZeroToOne newNumber pushNumber quantileNumber newReply pushReply quantileUptoReply quantileReply round mul ofInt le
+unfolding ask both padded all listed sum blankFrom sumFrom apart upTo ceilOf targetOf bucketsOf fresh inUse laid opened dropped counted pushed pushedAll summed wholeWindow column within running reach quantileIn columnSums rightSums thousandths rateAllowed reachesAllowed widthAllowed bucketsFew bucketsAllowed rangesNumber checked newestOf fromZeroToOne newNumber pushNumber quantileNumber newReply pushReply quantileUptoReply quantileReply round mul ofInt le
 two-pushed = refl
 
 -- ---- a thousand pushes
 made-is : made ≡ leftOf empty
-unfolding newReply newNumber ask both reachesAllowed widthAllowed bucketsOf bucketsFew rangesNumber
+unfolding newReply newNumber ask both rateAllowed reachesAllowed widthAllowed bucketsOf bucketsFew rangesNumber
 made-is = refl
 
 empty-sound : Sound empty
 unfolding bucketsOf
-empty-sound = fresh-sound (bucketsOf 0 0 48) 48 (omega arith) (omega arith) (omega arith) (omega arith)
+empty-sound = fresh-sound (bucketsOf 48_000 0 0 48) 48 (omega arith) (omega arith) (omega arith) (omega arith)
 
 no-newest : newest 5 empty ≡ 0
 unfolding newestOf fresh

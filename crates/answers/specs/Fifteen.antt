@@ -8,7 +8,7 @@ use lib.IntN.{pos, negsuc}
 use lib.Ieee.{Float, fin, binary64, round}
 use lib.ListN.{replicate}
 use Rattle.buckets.specs.Ranges.{bucketsOf}
-use Rattle.doubles.specs.Doubles.{msOf, samplesOf}
+use Rattle.doubles.specs.Answers.{msBy, msAnswer, samplesBy, samplesAnswer}
 use Rattle.policy.specs.declared.DelayPolicy.{DelayPolicy}
 use Rattle.policy.specs.declared.Need.the-variants as Need
 use Rattle.policy.specs.Need.{needReply}
@@ -23,13 +23,13 @@ use Rattle.delay_hold.specs.declared.Answer.the-variants.{Kept, Changed}
 use Rattle.delay_hold.specs.Next.{Held}
 use Rattle.delay_hold.specs.Checks as hold
 
--- "With offset 480, maximum 4,800, margin 96, share 0.5", "hold 30 s, window 10 s"
+-- "With offset 480, maximum 4,800, margin 96, share 0.5", "hold 30 s, window 10 s"; 48,000 samples a second
 abbrev pub settings : DelayPolicy
-settings = record { «read_offset» = 480; «delay_max» = 4800; hold = 30_000_000_000; window = 10_000_000_000; margin = 96; «margin_share» = fin false 1 (negsuc 0) }
+settings = record { «read_offset» = 480; «delay_max» = 4800; hold = 30_000_000_000; window = 10_000_000_000; margin = 96; «margin_share» = fin false 1 (negsuc 0); rate = 48_000 }
 
 -- what `LagWindow::new` leaves: a window of W 48, made on lists which were not zero, with the fewest buckets that there are at this W, and its sums
 abbrev pub made : window.Reply
-made = window.newReply 0 0 48 (replicate 11 7) (replicate 11 7) (replicate (11 * bucketsOf 0 0 48) 7) (replicate (bucketsOf 0 0 48) 7)
+made = window.newReply 48_000 0 0 48 (replicate 11 7) (replicate 11 7) (replicate (11 * bucketsOf 48_000 0 0 48) 7) (replicate (bucketsOf 48_000 0 0 48) 7)
 
 -- what is left after these lags were pushed, one after the other, at one time: each `push` on the lists and the sums that the one before left
 unfoldable pub after : List ℕ → (left : window.Reply) → window.Reply
@@ -56,9 +56,9 @@ firstNext p999 largest current = hold.nextReply settings 48 fresh p999 largest c
 
 pub record Fifteen : Type 0 where
   -- "`ms(48)` = 1"
-  pub milliseconds : msOf 48 ≡ fin false 1 (pos 0)
+  pub milliseconds : msAnswer 48_000 48 ≡ msBy 0 (fin false 1 (pos 0))
   -- "`samples` of 0.03125 is 2, of 0.010416 is 0"
-  pub samples : samplesOf (fin false 1 (negsuc 4)) ∷ samplesOf (round binary64 false 10416 1000000) ∷ [] ≡ 2 ∷ 0 ∷ []
+  pub samples : samplesAnswer 48_000 (fin false 1 (negsuc 4)) ∷ samplesAnswer 48_000 (round binary64 false 10416 1000000) ∷ [] ≡ samplesBy 0 2 ∷ samplesBy 0 0 ∷ []
   -- "need(480) = 96, need(485) = 104, need(5280) = 4800"
   pub needs : needReply settings 480 ∷ needReply settings 485 ∷ needReply settings 5280 ∷ [] ≡ Need.Of 96 ∷ Need.Of 104 ∷ Need.Of 4800 ∷ []
   -- "W 48, lags 0 and 100, q 1: limit 95 gives 48, limit 96 gives 144. 999 lags of 0 and one of 48 at 0.999: 48. 998 and two: 96."

@@ -9,7 +9,8 @@ use native.Mathlib.Omega.{arith}
 use lib.ListN.{length}
 use Rattle.base.specs.Limits.{nanos, timeLimit}
 use Rattle.base.proofs.Choices.{by-le}
-use Rattle.buckets.specs.Ranges.{bucketsOf, tenth}
+use Rattle.buckets.specs.Ranges.{bucketsOf}
+use Rattle.rates.specs.Rates.{tenth}
 use Rattle.buckets.proofs.Told.{buckets-some}
 use Rattle.policy.specs.declared.DelayPolicy.{DelayPolicy}
 use Rattle.policy.specs.Need.{needOf}
@@ -35,7 +36,7 @@ module _ (policy : DelayPolicy) (width : ℕ) (allowed : Allowed policy width) (
   buckets = bucketsFor policy width
 
   used : 0 < buckets
-  used = omega (arith, buckets-some (policy .«read_offset») (policy .«delay_max») width)
+  used = omega (arith, buckets-some (policy .rate) (policy .«read_offset») (policy .«delay_max») width)
 
   -- ---- L is at most offset + maximum
   module _
@@ -138,8 +139,8 @@ module _ (policy : DelayPolicy) (width : ℕ) (allowed : Allowed policy width) (
       let limit : ℕ = policy .«read_offset» + policy .«delay_max» in
       let b : ℕ = limit / width in
       let m : b ≤ L / width = div-mono width limit L (allowed .width-least) (omega arith) in
-      let n : b ≤ (limit + tenth) / width = div-mono width limit (limit + tenth) (allowed .width-least) (omega arith) in
-      let q : b + 1 ≤ bucketOf L width ((limit + tenth) / width + 2) + 1 = omega arith in
+      let n : b ≤ (limit + tenth (policy .rate)) / width = div-mono width limit (limit + tenth (policy .rate)) (allowed .width-least) (omega arith) in
+      let q : b + 1 ≤ bucketOf L width ((limit + tenth (policy .rate)) / width + 2) + 1 = omega arith in
       omega (arith, mul-le-mul-right width q, lt-div-mul-add {a = limit} {b = width} (allowed .width-least), add-mul b 1 width)
 
   -- ---- the theorem, for a tick and the ticks after it

@@ -4,6 +4,7 @@ use Prim.Native.Nat.{ℕ, _+_, _-_, _≤_}
 use mathlib.Core.Path.{_≡_, refl, sym, subst, _∙_}
 use mathlib.Core.List.{List, [], _∷_, _++_}
 use native.Mathlib.Omega.{arith}
+use Rattle.rates.proofs.Told.{millisecond-some}
 use Rattle.policy.specs.declared.DelayPolicy.{DelayPolicy}
 use Rattle.policy.specs.Need.{needOf}
 use Rattle.delay_hold.specs.declared.Lag.{Lag}
@@ -93,16 +94,15 @@ module _ (policy : DelayPolicy) (width : ℕ) (allowed : Allowed policy width) (
       (sane-history 0 (freshView policy width) events (a .0) k (sane-fresh policy width 0))
       (a .1) may e few r long)
 
--- ---- the third demand of one input, with document 01's 48 samples
+-- ---- the third demand of one input, with the samples that the policy's rate has in a millisecond
 
 pub whole-after : (policy : DelayPolicy) (width : ℕ) → Allowed policy width → StaysWhole policy width
 whole-after policy width allowed events law =
-    kept-history policy width allowed oneMillisecond 0 (freshView policy width) events law (kept-fresh policy width allowed) .whole
+    kept-history policy width allowed (oneMillisecond policy) 0 (freshView policy width) events law (kept-fresh policy width allowed) .whole
 
 pub floor-after : (policy : DelayPolicy) (width : ℕ) → Allowed policy width → Floor policy width
 floor-after policy width allowed events tick lag law e fits =
-    omega (arith, floor-history policy width allowed oneMillisecond events tick lag law e (omega arith))
+    omega (arith, floor-history policy width allowed (oneMillisecond policy) events tick lag law e (omega arith))
 
 pub ceiling-after : (policy : DelayPolicy) (width : ℕ) → Allowed policy width → Ceiling policy width
-ceiling-after policy width allowed events first later L law may e few r long =
-    omega (arith, ceiling-history policy width allowed oneMillisecond (omega arith) events first later L law may e few r (omega arith))
+ceiling-after policy width allowed = ceiling-history policy width allowed (oneMillisecond policy) (millisecond-some _ (allowed .rated))

@@ -1,6 +1,7 @@
 -- A night in small, computed on the definitions: a tick with a lag of 4,000, then one every 5 s with a lag of 480. Hold 0, window 1 s, W 480.
 -- Assumes nothing.
 use Prim.Native.Nat.{ℕ, zero, suc, _+_, _*_, _≤_}
+use mathlib.Core.Logic.{inl}
 use mathlib.Core.Path.{_≡_, refl}
 use mathlib.Core.Bool.{false}
 use mathlib.Core.List.{List, [], _∷_, _++_}
@@ -29,7 +30,7 @@ use Rattle.history.specs.Demand.{delayOf, Accepted}
 use Rattle.history.proofs.Demand.{ceiling-after}
 
 abbrev small : DelayPolicy
-small = record { «read_offset» = 480; «delay_max» = 4800; hold = 0; window = nanos; margin = 96; «margin_share» = fin false 1 (negsuc 0) }
+small = record { «read_offset» = 480; «delay_max» = 4800; hold = 0; window = nanos; margin = 96; «margin_share» = fin false 1 (negsuc 0); rate = 48_000 }
 
 abbrev late : Tick
 late = tickOf 0 (4000 ∷ [])
@@ -51,7 +52,7 @@ fell = refl
 -- ---- 15 s + window + 3 holds would be too soon: the timer lowers to an older need first, and then starts anew
 -- the same with a hold of 1 ns
 abbrev brief : DelayPolicy
-brief = record { «read_offset» = 480; «delay_max» = 4800; hold = 1; window = nanos; margin = 96; «margin_share» = fin false 1 (negsuc 0) }
+brief = record { «read_offset» = 480; «delay_max» = 4800; hold = 1; window = nanos; margin = 96; «margin_share» = fin false 1 (negsuc 0); rate = 48_000 }
 
 -- a tick with one lag, at so many seconds
 abbrev tickAt : (second lag : ℕ) → Tick
@@ -79,6 +80,7 @@ allowed : Allowed small 480
 unfolding le bucketsOf
 allowed =
     record {
+      rated = inl refl;
       sound = record { offset = omega arith; maximum = omega arith; margins = omega arith; low = tt; high = tt };
       hold-most = omega arith;
       window-least = omega arith;

@@ -76,7 +76,7 @@ module _ (policy : DelayPolicy) (width : ℕ) (allowed : Allowed policy width) w
   unfolding freshView fresh
   kept-fresh =
       kept-of (freshView policy width)
-      (fresh-sound buckets width (allowed .width-least) (allowed .width-most) (omega (arith, buckets-some (policy .«read_offset») (policy .«delay_max») width)) (allowed .buckets-most)) refl refl
+      (fresh-sound buckets width (allowed .width-least) (allowed .width-most) (omega (arith, buckets-some (policy .rate) (policy .«read_offset») (policy .«delay_max») width)) (allowed .buckets-most)) refl refl
       (marks.fresh-whole policy width (omega (arith, allowed .window-least))) refl refl (omega arith)
 
   -- ---- the ticks
@@ -87,12 +87,13 @@ module _ (policy : DelayPolicy) (width : ℕ) (allowed : Allowed policy width) w
   module _ (time : ℕ) (soon : time ≤ timeLimit) (lags : List ℕ) (view : InputView) (k : Kept policy width view) (room : roomFor time (length lags) (view .window) ≡ true) where
     pub kept-pushed : Ready width buckets time 0 (pushedAll time lags (view .window))
     kept-pushed =
-        ready-all width buckets time (allowed .width-least) (omega (arith, buckets-some (policy .«read_offset») (policy .«delay_max») width)) soon lags (view .window)
+        ready-all width buckets time (allowed .width-least) (omega (arith, buckets-some (policy .rate) (policy .«read_offset») (policy .«delay_max») width)) soon lags (view .window)
         (kept-ready view k time (length lags) room)
 
     kept-asked : AskedFor width policy (view .held) (p999Of policy (pushedAll time lags (view .window))) (view .delay)
     kept-asked =
         record {
+          rated = allowed .rated;
           sound = allowed .sound;
           window-least = allowed .window-least;
           window-most = allowed .window-most;

@@ -49,7 +49,7 @@ module _ (policy : DelayPolicy) (width : ℕ) (allowed : Allowed policy width) (
     where
       starts-pushed : StartsTill time (pushedAll time lags (view .window))
       starts-pushed =
-          till-all width (bucketsFor policy width) time (allowed .width-least) (omega (arith, buckets-some (policy .«read_offset») (policy .«delay_max») width)) soon
+          till-all width (bucketsFor policy width) time (allowed .width-least) (omega (arith, buckets-some (policy .rate) (policy .«read_offset») (policy .«delay_max») width)) soon
           lags (view .window) (kept-ready policy width allowed view k time (length lags) room) (s .starts)
 
       sane-ticked : Sane time (tickedView rules view (record { time = time; lags = lags; mayLower = mayLower }))

@@ -9,7 +9,8 @@ use borrow.Author.Tests.{le-leb}
 use lib.ListN.{length}
 use Rattle.base.specs.Limits.{nanos}
 use Rattle.base.proofs.Choices.{by-le, le-rule}
-use Rattle.buckets.specs.Ranges.{bucketsOf, tenth}
+use Rattle.buckets.specs.Ranges.{bucketsOf}
+use Rattle.rates.specs.Rates.{tenth}
 use Rattle.buckets.proofs.Told.{buckets-some}
 use Rattle.policy.specs.declared.DelayPolicy.{DelayPolicy}
 use Rattle.policy.specs.Need.{needOf}
@@ -45,8 +46,8 @@ module _ (policy : DelayPolicy) (width L : ℕ) (allowed : Allowed policy width)
   unfolding bucketEnd bucketsOf
   end-above h =
       let b : ℕ = L / width in
-      let m : b ≤ (limit + tenth) / width = div-mono width L (limit + tenth) (allowed .width-least) (omega arith) in
-      let q : bucketOf L width ((limit + tenth) / width + 2) ≡ b = omega arith in
+      let m : b ≤ (limit + tenth (policy .rate)) / width = div-mono width L (limit + tenth (policy .rate)) (allowed .width-least) (omega arith) in
+      let q : bucketOf L width ((limit + tenth (policy .rate)) / width + 2) ≡ b = omega arith in
       rw q (omega (arith, lt-div-mul-add {a = L} {b = width} (allowed .width-least), add-mul b 1 width))
 
   pub end-most : bucketEnd policy width L ≤ L + width
@@ -109,7 +110,7 @@ module _
         -- past `began` + 10 s the quantile, and the lag that joins the peaks, are at most `edge`
         quantile-low : began + 10 * nanos < time → AtMost edge p999
         unfolding bucketEnd
-        quantile-low f = p999-windowed began L width buckets (allowed .width-least) (omega (arith, buckets-some (policy .«read_offset») (policy .«delay_max») width)) policy fits time w f sound widths k
+        quantile-low f = p999-windowed began L width buckets (allowed .width-least) (omega (arith, buckets-some (policy .rate) (policy .«read_offset») (policy .«delay_max») width)) policy fits time w f sound widths k
 
         joined-low : began + 10 * nanos < time → lagUpTo (largerLag (lagOf policy largest) p999) edge ≡ true
         joined-low f =

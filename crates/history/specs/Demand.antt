@@ -1,5 +1,5 @@
 -- The mission's third demand, of one input: what holds of its delay after every list of events from a fresh input on. Assumes nothing.
-use Prim.Native.Nat.{ℕ, _+_, _*_, _≤_}
+use Prim.Native.Nat.{ℕ, _+_, _-_, _*_, _≤_}
 use mathlib.Core.Path.{_≡_}
 use mathlib.Core.Bool.{true}
 use mathlib.Core.List.{List, [], _∷_, _++_}
@@ -22,12 +22,12 @@ delayWith millisecond policy width events = history (rulesWith policy millisecon
 abbrev pub AcceptedWith : (millisecond : ℕ) → DelayPolicy → ℕ → List Event → Type 0
 AcceptedWith millisecond policy width events = Lawful (rulesWith policy millisecond) 0 (freshView policy width) events
 
--- with document 01's 48 samples
+-- with the samples that the policy's rate has in a millisecond
 abbrev pub delayOf : (policy : DelayPolicy) (width : ℕ) (events : List Event) → ℕ
-delayOf = delayWith oneMillisecond
+delayOf policy = delayWith (oneMillisecond policy) policy
 
 abbrev pub Accepted : DelayPolicy → ℕ → List Event → Type 0
-Accepted = AcceptedWith oneMillisecond
+Accepted policy = AcceptedWith (oneMillisecond policy) policy
 
 -- what the calls leave is whole: check 6 never refuses it
 abbrev pub StaysWhole : DelayPolicy → ℕ → Type 0
@@ -44,7 +44,7 @@ FloorWith millisecond policy width =
     lag ≤ policy .«read_offset» + delayWith millisecond policy width (events ++ (ticks tick ∷ []))
 
 abbrev pub Floor : DelayPolicy → ℕ → Type 0
-Floor = FloorWith oneMillisecond
+Floor policy = FloorWith (oneMillisecond policy) policy
 
 -- "take any stretch of successive accepted ticks, each at most 5 s after the one before, that all leave it running on automatic and bring it
 -- lags, none above L, with no accepted route or delay setting for it between them. After each of them that comes 30 s + window + 3 holds or
@@ -57,5 +57,6 @@ CeilingWith millisecond more policy width =
     first .time + (30 * nanos + policy .window + 3 * policy .hold) ≤ ending (first .time) later →
     delayWith millisecond policy width (events ++ runningTicks (first ∷ later)) ≤ needOf policy (bucketEnd policy width L) + more
 
+-- document 02, §9: "The 47 of the promised ceiling becomes one millisecond less one sample"
 abbrev pub Ceiling : DelayPolicy → ℕ → Type 0
-Ceiling = CeilingWith oneMillisecond 47
+Ceiling policy = CeilingWith (oneMillisecond policy) (oneMillisecond policy - 1) policy

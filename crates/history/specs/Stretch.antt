@@ -4,6 +4,7 @@ use mathlib.Core.Path.{_≡_}
 use mathlib.Core.Bool.{true}
 use mathlib.Core.List.{List, [], _∷_}
 use Rattle.base.specs.Limits.{nanos, spanLimit, widthLimit, bucketsLimit}
+use Rattle.rates.specs.Rates.{Rated}
 use Rattle.policy.specs.declared.DelayPolicy.{DelayPolicy}
 use Rattle.policy.specs.Settings as policies
 use Rattle.rules_window.specs.Window.{bucketOf}
@@ -11,8 +12,9 @@ use Rattle.rules_record.specs.Lent.{bucketsFor}
 use Rattle.history.specs.View.{Tick}
 use Rattle.history.specs.Events.{Event, ticks}
 
--- what checks 2, 17, 18, 3 and 4 of `new` let through
+-- what checks 23, 2, 17, 18, 3 and 4 of `new` let through
 pub record Allowed (policy : DelayPolicy) (width : ℕ) : Type 0 where
+  pub rated : Rated (policy .rate)
   pub sound : policies.Sound policy
   pub hold-most : policy .hold ≤ spanLimit
   pub window-least : nanos ≤ policy .window

@@ -9,7 +9,7 @@ use Rattle.delay_hold.specs.Step4Peaks.{worstOf}
 use Rattle.delay_hold.specs.Next.{Held, Decided, nextOf, delayAfter, oneMillisecond, alwaysLower}
 use Rattle.rules_tick.specs.AutoDelay.{p999Of}
 
--- what all calls of a list keep: the policy of `new` and document 01's 48 samples
+-- what all calls of a list keep: the policy of `new` and the samples of a millisecond
 pub record Rules : Type 0 where
   pub policy : DelayPolicy
   pub millisecond : ℕ
@@ -17,9 +17,9 @@ pub record Rules : Type 0 where
 abbrev pub rulesWith : (policy : DelayPolicy) (millisecond : ℕ) → Rules
 rulesWith policy millisecond = record { policy = policy; millisecond = millisecond }
 
--- document 01's: 48 samples are a millisecond
+-- by the policy's rate
 abbrev pub rulesOf : DelayPolicy → Rules
-rulesOf policy = rulesWith policy oneMillisecond
+rulesOf policy = rulesWith policy (oneMillisecond policy)
 
 -- one input, with the parts of the lent lists that are its own
 pub record InputView : Type 0 where

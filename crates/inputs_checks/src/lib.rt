@@ -46,7 +46,12 @@ fn first_refused(
         return 1;
     }
     let policy = inputs.policy;
-    let ranges = buckets::ranges_number(policy.read_offset, policy.delay_max, inputs.width);
+    let ranges = buckets::ranges_number(
+        policy.rate,
+        policy.read_offset,
+        policy.delay_max,
+        inputs.width,
+    );
     if ranges != 0 {
         return ranges;
     }
@@ -56,7 +61,12 @@ fn first_refused(
     if !policy.margins_allowed() {
         return 4;
     }
-    let buckets = buckets::core::buckets_of(policy.read_offset, policy.delay_max, inputs.width);
+    let buckets = buckets::core::buckets_of(
+        policy.rate,
+        policy.read_offset,
+        policy.delay_max,
+        inputs.width,
+    );
     if !core::lists_fit(
         inputs.count,
         buckets,

@@ -33,6 +33,7 @@ fn policy_of(settings: Settings) -> DelayPolicy
         window: settings.window,
         margin: settings.margin,
         margin_share: settings.percent / 100.0,
+        rate: settings.rate,
     }
 }
 
@@ -87,6 +88,7 @@ fn no_inputs() -> Inputs
         window: 0,
         margin: 0,
         margin_share: 0.0,
+        rate: 0,
     };
     blank(0, policy, 0, 0, false)
 }
@@ -133,7 +135,12 @@ fn settings_number(
     if !inputs_checks::inputs_allowed(settings.count) {
         return 1;
     }
-    let ranges = buckets::ranges_number(settings.read_offset, settings.delay_max, settings.width);
+    let ranges = buckets::ranges_number(
+        settings.rate,
+        settings.read_offset,
+        settings.delay_max,
+        settings.width,
+    );
     if ranges != 0 {
         return ranges;
     }
@@ -145,6 +152,7 @@ fn settings_number(
         return 4;
     }
     let buckets = buckets::core::buckets_of(
+        settings.rate,
         settings.read_offset,
         settings.delay_max,
         settings.width,

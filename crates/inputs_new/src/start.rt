@@ -43,7 +43,10 @@ fn started_one(
         return Sent { inputs: all, used };
     };
     let policy = inputs.policy;
-    let samples = base::least(doubles::samples(delay), policy.delay_max);
+    let samples = base::least(
+        doubles::core::samples(policy.rate, delay),
+        policy.delay_max,
+    );
     inputs_set_delay::core::set_delay(all, i, samples, time, commands, used)
 }
 

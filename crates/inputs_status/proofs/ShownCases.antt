@@ -77,16 +77,16 @@ module _ (s : Inputs) (l : Lists) (i applied channels : ℕ) {slot : Slot} (is-s
   pub status-by : {code shown k : ℕ} {source : Sourced} {w : LagWindow} {arrival : Arrival} {worst proposed : Milliseconds} {extra effective last : Float}
       → source ≡ sourceOf s (slot .route)
       → w ≡ windowIn (s .policy) (s .width) slot
-      → arrival ≡ arrivalIn (asOneSecond (w .buckets) (w .width) (part (i * w .buckets) (w .buckets) (l .sums)))
+      → arrival ≡ arrivalIn (s .policy .rate) (asOneSecond (w .buckets) (w .width) (part (i * w .buckets) (w .buckets) (l .sums)))
       → OwnSums s l i (slotAt s i)
       → k ≡ 600
-      → worst ≡ worstMs slot (part (i * 600) k (l .peaks))
-      → proposed ≡ proposedMs (slot .proposed)
+      → worst ≡ worstMs (s .policy .rate) slot (part (i * 600) k (l .peaks))
+      → proposed ≡ proposedMs (s .policy .rate) (slot .proposed)
       → code ≡ stateNumber (slot .state)
       → shown ≡ channelsShown (slot .state) channels
-      → extra ≡ msOf applied
-      → effective ≡ msOf (s .policy .«read_offset» + applied)
-      → last ≡ msOf (slot .«last_lag»)
+      → extra ≡ msOf (s .policy .rate) applied
+      → effective ≡ msOf (s .policy .rate) (s .policy .«read_offset» + applied)
+      → last ≡ msOf (s .policy .rate) (slot .«last_lag»)
       → _≡_ {A = InputStatus}
       (record {
         number = 0;
@@ -117,8 +117,8 @@ module _ (s : Inputs) (l : Lists) (i applied channels : ℕ) {slot : Slot} (is-s
         «effective_delay_ms» = is-effective t;
         «proposed_delay_ms» = is-proposed t;
         «lag_ms» = is-last t;
-        «arrival_lag_ms» = (is-arrival ∙ (λ u. arrivalIn (asOneSecond (is-window u .buckets) (is-window u .width) (part (i * is-window u .buckets) (is-window u .buckets) (l .sums)))) ∙ arrival-row (windowFor s l i slot) (subst (λ (x : Slot). OwnSums s l i x) (sym is-slot) own)) t;
-        «worst_lag_ms» = (is-worst ∙ (λ u. worstMs slot (part (i * 600) (is-k u) (l .peaks)))) t;
+        «arrival_lag_ms» = (is-arrival ∙ (λ u. arrivalIn (s .policy .rate) (asOneSecond (is-window u .buckets) (is-window u .width) (part (i * is-window u .buckets) (is-window u .buckets) (l .sums)))) ∙ arrival-row (s .policy .rate) (windowFor s l i slot) (subst (λ (x : Slot). OwnSums s l i x) (sym is-slot) own)) t;
+        «worst_lag_ms» = (is-worst ∙ (λ u. worstMs (s .policy .rate) slot (part (i * 600) (is-k u) (l .peaks)))) t;
         «delay_changes» = slot .«delay_changes»;
         «late_events» = slot .«late_events»;
         reopens = slot .reopens;

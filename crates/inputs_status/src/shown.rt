@@ -12,7 +12,7 @@ ghost use Rattle.rules_calls.specs.Status.{sourceOf, channelsShown, proposedMs,
 ghost use Rattle.inputs_status.specs.StatusAsked.{Countable, Showable};
 use delay_hold::DelayHold;
 use delay_hold::Lag;
-use doubles::ms;
+use doubles::core::ms;
 use lag_window::LagWindow;
 use rules_calls::Arrival;
 use rules_calls::ArrivalLag;
@@ -54,39 +54,39 @@ fn channels_shown(state: State, channels: u32) -> u32
     channels
 }
 
-fn proposed_ms(proposed: Proposal) -> Milliseconds
-    ensures { λ r. ⌜ r ≡ proposedMs proposed ⌝ }
+fn proposed_ms(rate: u32, proposed: Proposal) -> Milliseconds
+    ensures { λ r. ⌜ r ≡ proposedMs rate proposed ⌝ }
 {
     let Proposal::Pending(delay) = proposed else {
         return Milliseconds::None;
     };
-    Milliseconds::Of(ms(delay))
+    Milliseconds::Of(ms(rate, delay))
 }
 
-fn lag_ms(lag: Lag) -> Milliseconds
-    ensures { λ r. ⌜ r ≡ lagMs lag ⌝ }
+fn lag_ms(rate: u32, lag: Lag) -> Milliseconds
+    ensures { λ r. ⌜ r ≡ lagMs rate lag ⌝ }
 {
     let Lag::Of(samples) = lag else {
         return Milliseconds::None;
     };
-    Milliseconds::Of(ms(samples))
+    Milliseconds::Of(ms(rate, samples))
 }
 
 // The greatest of an automatic input's peaks, which stand first in its lags.
-fn worst_ms(slot: Slot, peaks: &[u32]) -> Milliseconds
+fn worst_ms(rate: u32, slot: Slot, peaks: &[u32]) -> Milliseconds
     requires { ⌜ slot .hold .peaks ≤ length (now peaks) ⌝ }
-    ensures { λ r. ⌜ r ≡ worstMs slot (now (peaks .entry)) ⌝ }
+    ensures { λ r. ⌜ r ≡ worstMs rate slot (now (peaks .entry)) ⌝ }
 {
     if !inputs_slots::automatic(slot) {
         return Milliseconds::None;
     }
     let hold = slot.hold;
-    lag_ms(delay_hold::core::worst(peaks, hold.peaks))
+    lag_ms(rate, delay_hold::core::worst(peaks, hold.peaks))
 }
 
 // The quantiles, where all three are there.
-fn arrival_of(half: Quantile, high: Quantile, highest: Quantile) -> Arrival
-    ensures { λ r. ⌜ r ≡ arrivalOf half high highest ⌝ }
+fn arrival_of(rate: u32, half: Quantile, high: Quantile, highest: Quantile) -> Arrival
+    ensures { λ r. ⌜ r ≡ arrivalOf rate half high highest ⌝ }
 {
     let Quantile::End(p50) = half else {
         return Arrival::None;
@@ -98,22 +98,22 @@ fn arrival_of(half: Quantile, high: Quantile, highest: Quantile) -> Arrival
         return Arrival::None;
     };
     let lag = ArrivalLag {
-        p50: ms(p50),
-        p99: ms(p99),
-        p999: ms(p999),
+        p50: ms(rate, p50),
+        p99: ms(rate, p99),
+        p999: ms(rate, p999),
     };
     Arrival::Of(lag)
 }
 
 // The quantiles of the lags of input i, without a limit, by its row of sums alone.
-fn arrival(window: LagWindow, i: usize, sums: &[u64]) -> Arrival
+fn arrival(rate: u32, window: LagWindow, i: usize, sums: &[u64]) -> Arrival
     requires { ⌜ Countable window i (now sums) ⌝ }
-    ensures { λ r. ⌜ r ≡ arrivalIn (asOneSecond (window .buckets) (window .width) (part (i * window .buckets) (window .buckets) (now (sums .entry)))) ⌝ }
+    ensures { λ r. ⌜ r ≡ arrivalIn rate (asOneSecond (window .buckets) (window .width) (part (i * window .buckets) (window .buckets) (now (sums .entry)))) ⌝ }
 {
     let half = inputs_window::core::quantile_upto(window, i, 0.5, NO_LIMIT, sums);
     let high = inputs_window::core::quantile_upto(window, i, 0.99, NO_LIMIT, sums);
     let highest = inputs_window::core::quantile_upto(window, i, 0.999, NO_LIMIT, sums);
-    arrival_of(half, high, highest)
+    arrival_of(rate, half, high, highest)
 }
 
 // The status of input i, from its row of sums and its peaks; the contract says it of every list of counts that has these sums.
@@ -137,21 +137,21 @@ pub(crate) fn status(
     let extra_delay = config.extra_delay;
     let source = source_of(inputs, to);
     let window = inputs_window::core::window_in(policy, inputs.width, slot);
-    let arrival_lag_ms = arrival(window, i, sums);
+    let arrival_lag_ms = arrival(policy.rate, window, i, sums);
     let from = i * DelayHold::PLACES;
     let end = from + DelayHold::PLACES;
-    let worst_lag_ms = worst_ms(slot, &peaks[from..end]);
-    let proposed_delay_ms = proposed_ms(proposed);
+    let worst_lag_ms = worst_ms(policy.rate, slot, &peaks[from..end]);
+    let proposed_delay_ms = proposed_ms(policy.rate, proposed);
     InputStatus {
         number: 0,
         state: inputs_slots::code(state),
         source,
         channels: channels_shown(state, channels),
         extra_delay,
-        extra_delay_ms: ms(applied),
-        effective_delay_ms: ms(policy.read_offset + applied),
+        extra_delay_ms: ms(policy.rate, applied),
+        effective_delay_ms: ms(policy.rate, policy.read_offset + applied),
         proposed_delay_ms,
-        lag_ms: ms(slot.last_lag),
+        lag_ms: ms(policy.rate, slot.last_lag),
         arrival_lag_ms,
         worst_lag_ms,
         delay_changes: slot.delay_changes,

@@ -5,6 +5,7 @@ ghost use Rattle.rules_calls.specs.Update.{kindOf};
 ghost use Rattle.rules_calls.specs.UpdateChecks.{manualFits, kindFits, deskLimit, deskFits, manualNumber, updateNumber};
 ghost use Rattle.rules_record.specs.Reply.{leftInputs};
 ghost use Rattle.rules_calls.specs.UpdateReply.{updateReply, confirmReply};
+use policy::DelayPolicy;
 use rules_calls::DelaySetting;
 use rules_record::ExtraDelay;
 use rules_record::Inputs;
@@ -13,43 +14,44 @@ use rules_record::Proposal;
 
 mod steps;
 
-// The longest delay that the listening desk sets, in samples, where the maximum is not smaller.
-const DESK_REACH: u32 = 2_400;
+// The longest delay that the listening desk sets, in milliseconds, where the maximum is not smaller.
+const DESK_REACH: u32 = 50;
 
 // ---- the checks
 // Is a manual delay from 0 to the largest (check 12)?
-fn manual_fits(delay: f64, maximum: u32) -> bool
-    ensures { λ r. ⌜ r ≡ manualFits delay maximum ⌝ }
+fn manual_fits(delay: f64, policy: DelayPolicy) -> bool
+    ensures { λ r. ⌜ r ≡ manualFits delay policy ⌝ }
 {
     if delay >= 0.0 {
-        return delay <= doubles::ms(maximum);
+        return delay <= doubles::core::ms(policy.rate, policy.delay_max);
     }
     false
 }
 
-fn kind_fits(kind: ExtraDelay, maximum: u32) -> bool
-    ensures { λ r. ⌜ r ≡ kindFits kind maximum ⌝ }
+fn kind_fits(kind: ExtraDelay, policy: DelayPolicy) -> bool
+    ensures { λ r. ⌜ r ≡ kindFits kind policy ⌝ }
 {
     let ExtraDelay::Ms(delay) = kind else {
         return true;
     };
-    manual_fits(delay, maximum)
+    manual_fits(delay, policy)
 }
 
-fn desk_limit(maximum: u32) -> u32
-    ensures { λ r. ⌜ r ≡ deskLimit maximum ⌝ }
+fn desk_limit(policy: DelayPolicy) -> u32
+    ensures { λ r. ⌜ r ≡ deskLimit policy ⌝ }
 {
-    base::least(DESK_REACH, maximum)
+    let reach = DESK_REACH * rates::millisecond(policy.rate);
+    base::least(reach, policy.delay_max)
 }
 
 // Is a delay of the desk at most its limit (check 21)?
-fn desk_fits(setting: DelaySetting, maximum: u32) -> bool
-    ensures { λ r. ⌜ r ≡ deskFits setting maximum ⌝ }
+fn desk_fits(setting: DelaySetting, policy: DelayPolicy) -> bool
+    ensures { λ r. ⌜ r ≡ deskFits setting policy ⌝ }
 {
     match setting {
         DelaySetting::Auto(_) => true,
         DelaySetting::Ms(_) => true,
-        DelaySetting::Desk(delay) => delay <= doubles::ms(desk_limit(maximum)),
+        DelaySetting::Desk(delay) => delay <= doubles::core::ms(policy.rate, desk_limit(policy)),
     }
 }
 
@@ -65,13 +67,13 @@ fn kind_of(setting: DelaySetting) -> ExtraDelay
 }
 
 // Checks 12 and 21.
-fn manual_number(setting: DelaySetting, maximum: u32) -> u32
-    ensures { λ r. ⌜ r ≡ manualNumber setting maximum ⌝ }
+fn manual_number(setting: DelaySetting, policy: DelayPolicy) -> u32
+    ensures { λ r. ⌜ r ≡ manualNumber setting policy ⌝ }
 {
-    if !kind_fits(kind_of(setting), maximum) {
+    if !kind_fits(kind_of(setting), policy) {
         return 12;
     }
-    if !desk_fits(setting, maximum) {
+    if !desk_fits(setting, policy) {
         return 21;
     }
     0
@@ -108,7 +110,7 @@ fn update_number(
         return number;
     }
     let policy = inputs.policy;
-    manual_number(setting, policy.delay_max)
+    manual_number(setting, policy)
 }
 
 // ---- the calls
@@ -164,7 +166,9 @@ pub fn update(
             inputs: all,
         };
     };
-    let all = steps::delay_set(inputs, input, slot, doubles::samples(delay), time, commands);
+    let policy = inputs.policy;
+    let samples = doubles::core::samples(policy.rate, delay);
+    let all = steps::delay_set(inputs, input, slot, samples, time, commands);
     InputsAnswer {
         number,
         inputs: all,

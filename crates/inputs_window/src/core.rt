@@ -26,7 +26,12 @@ pub fn window_in(policy: DelayPolicy, width: u32, slot: Slot) -> LagWindow
     requires { ⌜ Sound policy × (1 ≤ width) ⌝ }
     ensures { λ r. ⌜ r ≡ windowIn policy width slot ⌝ }
 {
-    let buckets = buckets::core::buckets_of(policy.read_offset, policy.delay_max, width);
+    let buckets = buckets::core::buckets_of(
+        policy.rate,
+        policy.read_offset,
+        policy.delay_max,
+        width,
+    );
     LagWindow {
         seconds: slot.lag_seconds,
         buckets,

@@ -68,9 +68,9 @@ channels-routed Running routed channels = refl
 channels-routed Stalled routed channels = refl
 
 -- "of the greatest peak if automatic": a manual input shows none
-pub worst-of-manual : (slot : Slot) (lags : List ℕ) → isAuto (slot .config .«extra_delay») ≡ false → worstMs slot lags ≡ Milliseconds.None
+pub worst-of-manual : (rate : ℕ) (slot : Slot) (lags : List ℕ) → isAuto (slot .config .«extra_delay») ≡ false → worstMs rate slot lags ≡ Milliseconds.None
 unfolding worstMs
-worst-of-manual slot lags manual = no-pick _ _ manual
+worst-of-manual rate slot lags manual = no-pick _ _ manual
 
 -- ---- `settled`
 -- document 02, §4, of a Running input with hold 10: "neither a SetDelay nor a SetInput went to the input within the last hold (the last of each is at least hold old, or none ever went)"

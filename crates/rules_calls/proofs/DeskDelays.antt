@@ -1,5 +1,5 @@
 -- The listening desk's check and limit at their edges, and what is shown of its delays (document 02, §6). Assumes nothing.
-use Prim.Native.Nat.{ℕ, _≤_}
+use Prim.Native.Nat.{ℕ, _≤_, min}
 use mathlib.Core.Bool.{true, false}
 use mathlib.Core.Path.{_≡_, refl, sym, ap, subst, _∙_}
 use mathlib.Core.List.{List, [], _∷_}
@@ -13,8 +13,11 @@ use Rattle.base.specs.Limits.{samplesLimit}
 use Rattle.base.specs.Lists.{padded}
 use Rattle.base.proofs.Choices.{by-bool, by-zero, yes-ask, no-ask, asked, accepted-new}
 use Rattle.base.proofs.Points.{both-true}
+use Rattle.rates.specs.Rates.{Rated}
+use Rattle.rates.proofs.Told.{rated-some, rated-few}
 use Rattle.doubles.specs.Doubles.{msOf, samplesOf}
 use Rattle.doubles.proofs.Delays.{manual-fits}
+use Rattle.policy.specs.declared.DelayPolicy.{DelayPolicy}
 use Rattle.rules_record.specs.declared.AutoTag.the-variants.{Auto as auto-tag}
 use Rattle.rules_record.specs.declared.Slot.{Slot}
 use Rattle.rules_record.specs.declared.Inputs.{Inputs}
@@ -22,8 +25,10 @@ use Rattle.rules_record.specs.Inputs.{slotAt}
 use Rattle.rules_record.specs.Sized.{Sized}
 use Rattle.rules_record.specs.Commands.{setDelay}
 use Rattle.rules_record.specs.Lent.{Lists}
+use Rattle.rules_record.specs.declared.Output.the-variants.{Words}
 use Rattle.rules_record.specs.Checks.{timedNumber}
 use Rattle.rules_record.specs.Reply.{Reply, carriedOut, replied}
+use Rattle.rules_record.proofs.Checked.{settings-told}
 use Rattle.rules_record.proofs.Numbers.{input-told, refused-by, passed-by, call-low}
 use Rattle.rules_calls.specs.declared.DelaySetting.{DelaySetting}
 use Rattle.rules_calls.specs.declared.DelaySetting.the-variants.{Auto, Ms, Desk}
@@ -34,12 +39,26 @@ use Rattle.rules_calls.specs.DeskDelays.{DeskDelays}
 use Rattle.rules_calls.proofs.UpdateDelays.{manual-slot, manual-words}
 
 -- ---- the edges, computed
+-- a policy of this rate and maximum
+abbrev ofRate : (rate maximum : ℕ) → DelayPolicy
+ofRate rate maximum = record { «read_offset» = 0; «delay_max» = maximum; hold = 0; window = 0; margin = 0; «margin_share» = fin false 0 (pos 0); rate = rate }
+
 -- "Its limit is 2,400 samples or the maximum, whichever is smaller."
-pub the-smaller-limit : deskLimit 0 ∷ deskLimit 2399 ∷ deskLimit 2400 ∷ deskLimit 2401 ∷ deskLimit 96000 ∷ [] ≡ 0 ∷ 2399 ∷ 2400 ∷ 2400 ∷ 2400 ∷ []
+pub the-smaller-limit : deskLimit (ofRate 48000 0) ∷ deskLimit (ofRate 48000 2399) ∷ deskLimit (ofRate 48000 2400) ∷ deskLimit (ofRate 48000 2401) ∷ deskLimit (ofRate 48000 96000) ∷ [] ≡ 0 ∷ 2399 ∷ 2400 ∷ 2400 ∷ 2400 ∷ []
 unfolding deskLimit
 the-smaller-limit = refl
 
--- 50 ms are 2,400 samples, 100 ms 4,800; the doubles next above them
+-- "The desk's limit is 50 ms": at 96,000 twice as many samples
+pub the-limit-at-96000 : deskLimit (ofRate 96000 4799) ∷ deskLimit (ofRate 96000 4800) ∷ deskLimit (ofRate 96000 4801) ∷ deskLimit (ofRate 96000 96000) ∷ [] ≡ 4799 ∷ 4800 ∷ 4800 ∷ 4800 ∷ []
+unfolding deskLimit
+the-limit-at-96000 = refl
+
+-- at 48,000 as before
+pub the-limit-at-48000 : (maximum : ℕ) → deskLimit (ofRate 48000 maximum) ≡ min 2_400 maximum
+unfolding deskLimit
+the-limit-at-48000 maximum = refl
+
+-- at 48,000, 50 ms are 2,400 samples, 100 ms 4,800; the doubles next above them
 abbrev fifty : Float
 fifty = fin false 25 (pos 1)
 
@@ -54,13 +73,13 @@ above-hundred = fin false 7036874417766401 (negsuc 45)
 
 -- with a maximum of 4,800: from 0 to 50 ms, -0.0 too, are accepted, above them to 100 ms are 21, and what 12 refuses is 12
 pub desk-at-its-edges :
-    manualNumber (Desk (fin true 0 (pos 0))) 4800
-    ∷ manualNumber (Desk fifty) 4800
-    ∷ manualNumber (Desk above-fifty) 4800
-    ∷ manualNumber (Desk hundred) 4800
-    ∷ manualNumber (Desk above-hundred) 4800
-    ∷ manualNumber (Desk (fin true 1 (negsuc 1073))) 4800
-    ∷ manualNumber (Desk nan) 4800
+    manualNumber (Desk (fin true 0 (pos 0))) (ofRate 48000 4800)
+    ∷ manualNumber (Desk fifty) (ofRate 48000 4800)
+    ∷ manualNumber (Desk above-fifty) (ofRate 48000 4800)
+    ∷ manualNumber (Desk hundred) (ofRate 48000 4800)
+    ∷ manualNumber (Desk above-hundred) (ofRate 48000 4800)
+    ∷ manualNumber (Desk (fin true 1 (negsuc 1073))) (ofRate 48000 4800)
+    ∷ manualNumber (Desk nan) (ofRate 48000 4800)
     ∷ []
     ≡ 0 ∷ 0 ∷ 21 ∷ 21 ∷ 12 ∷ 12 ∷ 12 ∷ []
 unfolding manualNumber manualFits deskLimit both ask msOf round div mul ofInt le
@@ -68,57 +87,76 @@ desk-at-its-edges = refl
 
 -- of the scoring program, and of a change back to automatic, 21 is not asked
 pub others-at-the-edges :
-    manualNumber (Ms above-fifty) 4800 ∷ manualNumber (Ms hundred) 4800 ∷ manualNumber (Ms above-hundred) 4800 ∷ manualNumber (Auto auto-tag) 4800 ∷ [] ≡ 0 ∷ 0 ∷ 12 ∷ 0 ∷ []
+    manualNumber (Ms above-fifty) (ofRate 48000 4800) ∷ manualNumber (Ms hundred) (ofRate 48000 4800) ∷ manualNumber (Ms above-hundred) (ofRate 48000 4800) ∷ manualNumber (Auto auto-tag) (ofRate 48000 4800) ∷ [] ≡ 0 ∷ 0 ∷ 12 ∷ 0 ∷ []
 unfolding manualNumber manualFits deskLimit both ask msOf round div mul ofInt le
 others-at-the-edges = refl
 
 -- with a maximum of 2,400, or of 48 (1 ms), 12 refuses before 21 can
 pub small-maxima-at-their-edges :
-    manualNumber (Desk fifty) 2400 ∷ manualNumber (Desk above-fifty) 2400 ∷ manualNumber (Desk (fin false 1 (pos 0))) 48 ∷ manualNumber (Desk fifty) 48 ∷ [] ≡ 0 ∷ 12 ∷ 0 ∷ 12 ∷ []
+    manualNumber (Desk fifty) (ofRate 48000 2400) ∷ manualNumber (Desk above-fifty) (ofRate 48000 2400) ∷ manualNumber (Desk (fin false 1 (pos 0))) (ofRate 48000 48) ∷ manualNumber (Desk fifty) (ofRate 48000 48) ∷ [] ≡ 0 ∷ 12 ∷ 0 ∷ 12 ∷ []
 unfolding manualNumber manualFits deskLimit both ask msOf round div mul ofInt le
 small-maxima-at-their-edges = refl
 
+-- at 96,000 the same milliseconds with twice the maximum
+pub desk-at-its-edges-at-96000 :
+    manualNumber (Desk fifty) (ofRate 96000 9600)
+    ∷ manualNumber (Desk above-fifty) (ofRate 96000 9600)
+    ∷ manualNumber (Desk hundred) (ofRate 96000 9600)
+    ∷ manualNumber (Desk above-hundred) (ofRate 96000 9600)
+    ∷ manualNumber (Ms hundred) (ofRate 96000 9600)
+    ∷ manualNumber (Ms hundred) (ofRate 96000 9599)
+    ∷ []
+    ≡ 0 ∷ 21 ∷ 21 ∷ 12 ∷ 0 ∷ 12 ∷ []
+unfolding manualNumber manualFits deskLimit both ask msOf round div mul ofInt le
+desk-at-its-edges-at-96000 = refl
+
 -- ---- 21 comes after 12
-pub twelve-first : (setting : DelaySetting) (maximum : ℕ) → kindFits (kindOf setting) maximum ≡ false → manualNumber setting maximum ≡ 12
+pub twelve-first : (setting : DelaySetting) (policy : DelayPolicy) → kindFits (kindOf setting) policy ≡ false → manualNumber setting policy ≡ 12
 unfolding manualNumber
-twelve-first setting maximum refused = no-ask 12 _ refused
+twelve-first setting policy refused = no-ask 12 _ refused
 
 -- what 12 lets through is refused by 21 exactly above the limit
-pub then-twenty-one : (setting : DelaySetting) (maximum : ℕ) → kindFits (kindOf setting) maximum ≡ true → deskFits setting maximum ≡ false → manualNumber setting maximum ≡ 21
+pub then-twenty-one : (setting : DelaySetting) (policy : DelayPolicy) → kindFits (kindOf setting) policy ≡ true → deskFits setting policy ≡ false → manualNumber setting policy ≡ 21
 unfolding manualNumber
-then-twenty-one setting maximum fits beyond = yes-ask 12 _ fits ∙ no-ask 21 0 beyond
+then-twenty-one setting policy fits beyond = yes-ask 12 _ fits ∙ no-ask 21 0 beyond
 
-limit-is : (maximum : ℕ) → maximum ≤ deskReach → deskLimit maximum ≡ maximum
+limit-is : (policy : DelayPolicy) → policy .«delay_max» ≤ deskReach (policy .rate) → deskLimit policy ≡ policy .«delay_max»
 unfolding deskLimit
-limit-is maximum small = omega (arith, small)
+limit-is policy small = omega (arith, small)
 
--- with a maximum up to 2,400 the desk is asked no more than the scoring program
-pub same-up-to-the-reach : (delay : Float) (maximum : ℕ) → maximum ≤ deskReach → manualNumber (Desk delay) maximum ≡ manualNumber (Ms delay) maximum
+-- with a maximum up to 50 ms the desk is asked no more than the scoring program
+pub same-up-to-the-reach : (delay : Float) (policy : DelayPolicy) → policy .«delay_max» ≤ deskReach (policy .rate) → manualNumber (Desk delay) policy ≡ manualNumber (Ms delay) policy
 unfolding manualNumber manualFits
-same-up-to-the-reach delay maximum small =
-    by-bool (manualFits delay maximum)
-    (λ fits. ap (ask 12 (manualFits delay maximum)) (yes-ask 21 0 (subst (λ (n : ℕ). le delay (msOf n) ≡ true) (sym (limit-is maximum small)) (both-true _ _ fits .1)) ∙ sym (yes-ask 21 0 refl)))
+same-up-to-the-reach delay policy small =
+    by-bool (manualFits delay policy)
+    (λ fits. ap (ask 12 (manualFits delay policy)) (yes-ask 21 0 (subst (λ (n : ℕ). le delay (msOf (policy .rate) n) ≡ true) (sym (limit-is policy small)) (both-true _ _ fits .1)) ∙ sym (yes-ask 21 0 refl)))
     (λ refused. no-ask 12 _ refused ∙ sym (no-ask 12 _ refused))
 
 -- ---- the claim
 module _ (s : Inputs) (l : Lists) (commands : List ℕ) (input : ℕ) (delay : Float) (time : ℕ) where
   -- what number 0 says of the desk's delay
-  told : updateNumber s l (length commands) input (Desk delay) time ≡ 0 → (manualFits delay (s .policy .«delay_max») ≡ true) × (deskFits (Desk delay) (s .policy .«delay_max») ≡ true) × (manualNumber (Desk delay) (s .policy .«delay_max») ≡ 0)
+  told : updateNumber s l (length commands) input (Desk delay) time ≡ 0 → (manualFits delay (s .policy) ≡ true) × (deskFits (Desk delay) (s .policy) ≡ true) × (manualNumber (Desk delay) (s .policy) ≡ 0)
   unfolding updateNumber manualNumber
   told e =
       let rest = input-told s l (length commands) input time _ e .3 in
       let twelve = asked 11 _ _ rest in
       (twelve .0, asked 20 _ _ (twelve .1) .0, rest)
 
-  limit-allowed : deskLimit (s .policy .«delay_max») ≤ samplesLimit
-  unfolding deskLimit
-  limit-allowed = omega arith
+  -- what it says of the rate, and so of the limit
+  rated : updateNumber s l (length commands) input (Desk delay) time ≡ 0 → Rated (s .policy .rate)
+  unfolding updateNumber
+  rated e = settings-told s l (Words (length commands)) 0 (input-told s l (length commands) input time _ e .0) .0 .allowed .rated
 
-  within : updateNumber s l (length commands) input (Desk delay) time ≡ 0 → samplesOf delay ≤ deskLimit (s .policy .«delay_max»)
+  limit-few : Rated (s .policy .rate) → deskLimit (s .policy) ≤ samplesLimit
+  unfolding deskLimit
+  limit-few r = omega (arith, rated-few _ r)
+
+  within : updateNumber s l (length commands) input (Desk delay) time ≡ 0 → samplesOf (s .policy .rate) delay ≤ deskLimit (s .policy)
   unfolding manualFits
   within e =
       let twelve = both-true _ _ (told e .0) in
-      manual-fits delay (deskLimit (s .policy .«delay_max»)) limit-allowed (subst T (sym (twelve .0)) tt) (subst T (sym (told e .1)) tt)
+      let r = rated e in
+      manual-fits (s .policy .rate) (rated-some _ r) (omega (arith, rated-few _ r)) delay (deskLimit (s .policy)) (omega (arith, limit-few r)) (subst T (sym (twelve .0)) tt) (subst T (sym (told e .1)) tt)
 
   same-number : updateNumber s l (length commands) input (Desk delay) time ≡ 0 → updateNumber s l (length commands) input (Desk delay) time ≡ updateNumber s l (length commands) input (Ms delay) time
   unfolding updateNumber manualNumber
@@ -130,31 +168,31 @@ module _ (s : Inputs) (l : Lists) (commands : List ℕ) (input : ℕ) (delay : F
     unfolding updateNumber
     both-refused some = sym (refused-by s l (length commands) input time first some _) ∙ refused-by s l (length commands) input time first some _
 
-    number-is : n ≡ 0 → (setting : DelaySetting) → updateNumber s l (length commands) input setting time ≡ manualNumber setting (s .policy .«delay_max»)
+    number-is : n ≡ 0 → (setting : DelaySetting) → updateNumber s l (length commands) input setting time ≡ manualNumber setting (s .policy)
     unfolding updateNumber
-    number-is none setting = sym (passed-by s l (length commands) input time first none (manualNumber setting (s .policy .«delay_max»)) refl)
+    number-is none setting = sym (passed-by s l (length commands) input time first none (manualNumber setting (s .policy)) refl)
 
   alike : (updateNumber s l (length commands) input (Ms delay) time ≡ 0 → ⊥) → updateNumber s l (length commands) input (Desk delay) time ≡ updateNumber s l (length commands) input (Ms delay) time
   unfolding manualNumber
   alike refused =
       by-zero (timedNumber s l (length commands) input time 0)
       (λ none.
-      by-bool (manualFits delay (s .policy .«delay_max»))
+      by-bool (manualFits delay (s .policy))
       (λ fits. absurd (refused (number-is _ refl none (Ms delay) ∙ yes-ask 12 _ fits ∙ yes-ask 21 0 refl)))
       (λ beyond. number-is _ refl none (Desk delay) ∙ no-ask 12 _ beyond ∙ sym (number-is _ refl none (Ms delay) ∙ no-ask 12 _ beyond)))
       (λ some. both-refused _ refl some)
 
   -- what number 0 says of the scoring program's delay
-  scoring-told : updateNumber s l (length commands) input (Ms delay) time ≡ 0 → (timedNumber s l (length commands) input time 0 ≡ 0) × (manualFits delay (s .policy .«delay_max») ≡ true)
+  scoring-told : updateNumber s l (length commands) input (Ms delay) time ≡ 0 → (timedNumber s l (length commands) input time 0 ≡ 0) × (manualFits delay (s .policy) ≡ true)
   unfolding updateNumber manualNumber
   scoring-told e =
       let rest = input-told s l (length commands) input time _ e .3 in
       (subst (λ (n : ℕ). timedNumber s l (length commands) input time n ≡ 0) rest e, asked 11 _ _ rest .0)
 
-  beyond : updateNumber s l (length commands) input (Ms delay) time ≡ 0 → deskFits (Desk delay) (s .policy .«delay_max») ≡ false → updateNumber s l (length commands) input (Desk delay) time ≡ 21
+  beyond : updateNumber s l (length commands) input (Ms delay) time ≡ 0 → deskFits (Desk delay) (s .policy) ≡ false → updateNumber s l (length commands) input (Desk delay) time ≡ 21
   beyond e above = number-is _ refl (scoring-told e .0) (Desk delay) ∙ then-twenty-one (Desk delay) _ (scoring-told e .1) above
 
-  up-to : updateNumber s l (length commands) input (Ms delay) time ≡ 0 → deskFits (Desk delay) (s .policy .«delay_max») ≡ true → updateNumber s l (length commands) input (Desk delay) time ≡ 0
+  up-to : updateNumber s l (length commands) input (Ms delay) time ≡ 0 → deskFits (Desk delay) (s .policy) ≡ true → updateNumber s l (length commands) input (Desk delay) time ≡ 0
   unfolding manualNumber
   up-to e fits = number-is _ refl (scoring-told e .0) (Desk delay) ∙ yes-ask 12 _ (scoring-told e .1) ∙ yes-ask 21 0 fits
 
@@ -162,13 +200,13 @@ module _ (s : Inputs) (l : Lists) (commands : List ℕ) (input : ℕ) (delay : F
   unfolding updateReply
   as-scoring-leaves e = ap (λ (n : ℕ). replied n s l commands (updated input (kindOf (Ms delay)) time s l)) (same-number e)
 
-  legal : updateNumber s l (length commands) input (Ms delay) time ≡ timedNumber s l (length commands) input time (ask 12 (manualFits delay (s .policy .«delay_max»)) 0)
+  legal : updateNumber s l (length commands) input (Ms delay) time ≡ timedNumber s l (length commands) input time (ask 12 (manualFits delay (s .policy)) 0)
   unfolding updateNumber manualNumber
-  legal = ap (λ (n : ℕ). timedNumber s l (length commands) input time (ask 12 (manualFits delay (s .policy .«delay_max»)) n)) (yes-ask 21 0 refl)
+  legal = ap (λ (n : ℕ). timedNumber s l (length commands) input time (ask 12 (manualFits delay (s .policy)) n)) (yes-ask 21 0 refl)
 
   uncut : Sized s → updateNumber s l (length commands) input (Ms delay) time ≡ 0
-      → (slotAt (updateReply s l commands input (Ms delay) time .inputs) input .delay ≡ samplesOf delay)
-      × (updateReply s l commands input (Ms delay) time .commands ≡ padded (length commands) (setDelay input (samplesOf delay)))
+      → (slotAt (updateReply s l commands input (Ms delay) time .inputs) input .delay ≡ samplesOf (s .policy .rate) delay)
+      × (updateReply s l commands input (Ms delay) time .commands ≡ padded (length commands) (setDelay input (samplesOf (s .policy .rate) delay)))
   unfolding updateReply updateNumber
   uncut sized e =
       let carried = accepted-new (updateNumber s l (length commands) input (Ms delay) time) _ (carriedOut (updateNumber s l (length commands) input (Ms delay) time) commands (updated input (kindOf (Ms delay)) time s l)) e in

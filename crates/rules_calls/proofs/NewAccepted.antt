@@ -13,6 +13,7 @@ use Rattle.rules_window.specs.Window.{fresh}
 use Rattle.delay_hold.specs.declared.Moment.{Moment}
 use Rattle.delay_hold.specs.declared.Moment.the-variants.{Never, At}
 use Rattle.delay_hold.specs.Next.{held, freshHold}
+use Rattle.policy.specs.declared.DelayPolicy.{DelayPolicy}
 use Rattle.rules_record.specs.declared.ExtraDelay.{ExtraDelay}
 use Rattle.rules_record.specs.declared.ExtraDelay.the-variants.{Auto, Ms}
 use Rattle.rules_record.specs.declared.State.the-variants.{Unrouted}
@@ -70,15 +71,15 @@ module _ (settings : Settings) (l : Lists) (words : ℕ) where
       (fit-of (length bytes) (length delays) 0 (told .0) .0, told .1, told .2)
 
 -- ---- an input as it starts
-abbrev pub startedDelay : ExtraDelay → (maximum : ℕ) → ℕ
-startedDelay (Auto tag) maximum = 0
-startedDelay (Ms delay) maximum = min (samplesOf delay) maximum
+abbrev pub startedDelay : ExtraDelay → (policy : DelayPolicy) → ℕ
+startedDelay (Auto tag) policy = 0
+startedDelay (Ms delay) policy = min (samplesOf (policy .rate) delay) (policy .«delay_max»)
 
 abbrev pub startedSet : ExtraDelay → (time : ℕ) → Moment
 startedSet (Auto tag) time = Never
 startedSet (Ms delay) time = At time
 
-pub record AsStarted (kind : ExtraDelay) (time maximum : ℕ) (slot : Slot) : Type 0 where
+pub record AsStarted (kind : ExtraDelay) (time : ℕ) (policy : DelayPolicy) (slot : Slot) : Type 0 where
   pub config : slot .config .«extra_delay» ≡ kind
   pub state : slot .state ≡ Unrouted
   pub route : slot .route ≡ Nowhere
@@ -88,7 +89,7 @@ pub record AsStarted (kind : ExtraDelay) (time maximum : ℕ) (slot : Slot) : Ty
   pub reopens : slot .reopens ≡ 0
   pub seconds : slot .«lag_seconds» ≡ 0
   pub last-lag : slot .«last_lag» ≡ 0
-  pub delay : slot .delay ≡ startedDelay kind maximum
+  pub delay : slot .delay ≡ startedDelay kind policy
   pub proposed : slot .proposed ≡ Nothing
   pub hold : slot .hold ≡ freshHold
   pub changes : slot .«delay_changes» ≡ 0
@@ -97,11 +98,11 @@ pub record AsStarted (kind : ExtraDelay) (time maximum : ℕ) (slot : Slot) : Ty
   pub last-set : slot .«last_set» ≡ startedSet kind time
   pub last-input : slot .«last_input» ≡ Never
 
-pub as-started : (kind : ExtraDelay) (time maximum : ℕ) → AsStarted kind time maximum (startedSlot kind time maximum emptySlot)
+pub as-started : (kind : ExtraDelay) (time : ℕ) (policy : DelayPolicy) → AsStarted kind time policy (startedSlot kind time policy emptySlot)
 unfolding emptySlot
-as-started (Auto tag) time maximum =
+as-started (Auto tag) time policy =
     record { config = refl; state = refl; route = refl; inode = refl; head = refl; head-changed = refl; reopens = refl; seconds = refl; last-lag = refl; delay = refl; proposed = refl; hold = refl; changes = refl; lates = refl; late-before = refl; last-set = refl; last-input = refl }
-as-started (Ms delay) time maximum =
+as-started (Ms delay) time policy =
     record { config = refl; state = refl; route = refl; inode = refl; head = refl; head-changed = refl; reopens = refl; seconds = refl; last-lag = refl; delay = refl; proposed = refl; hold = refl; changes = refl; lates = refl; late-before = refl; last-set = refl; last-input = refl }
 
 -- ---- what it leaves
@@ -124,9 +125,9 @@ module _ (settings : Settings) (kinds : List ExtraDelay) (bytes delays : List �
   unfolding blankFor blank
   loaded-count = subst (λ (z : Inputs). settings .count ≤ z .count) (sym loaded-settings) (omega arith)
 
-  loaded-maximum : loaded settings bytes delays .policy .«delay_max» ≡ settings .«delay_max»
-  unfolding blankFor blank policyOf
-  loaded-maximum = ap (λ (z : Inputs). z .policy .«delay_max») loaded-settings
+  loaded-policy : loaded settings bytes delays .policy ≡ policyOf settings
+  unfolding blankFor blank
+  loaded-policy = ap (λ (z : Inputs). z .policy) loaded-settings
 
   loaded-slot : (i : ℕ) → slotAt (loaded settings bytes delays) i ≡ emptySlot
   unfolding slotAt
@@ -167,21 +168,21 @@ module _ (settings : Settings) (kinds : List ExtraDelay) (bytes delays : List �
       (record { place = r .place; known = r .known; holds = r .holds; has = r .has })
 
   -- the words: SetDelay for each manual input in order, nothing else
-  pub new-words : started settings kinds bytes delays time l .words ≡ manualWords (settings .count) kinds (settings .«delay_max»)
+  pub new-words : started settings kinds bytes delays time l .words ≡ manualWords (settings .count) kinds (policyOf settings)
   unfolding started
-  new-words = below-words kinds time (loaded settings bytes delays) (loaded-checked .sized) (settings .count) few ∙ ap (manualWords (settings .count) kinds) loaded-maximum
+  new-words = below-words kinds time (loaded settings bytes delays) (loaded-checked .sized) (settings .count) few ∙ ap (manualWords (settings .count) kinds) loaded-policy
 
   -- ---- each input
   module _ (i : ℕ) (there : i < settings .count) where
-    pub new-slot : slotAt (started settings kinds bytes delays time l .inputs) i ≡ startedSlot (kindAt kinds i) time (settings .«delay_max») emptySlot
+    pub new-slot : slotAt (started settings kinds bytes delays time l .inputs) i ≡ startedSlot (kindAt kinds i) time (policyOf settings) emptySlot
     unfolding started
     new-slot =
         below-slot kinds time (loaded settings bytes delays) (loaded-checked .sized) (settings .count) few i there
-        ∙ ap (λ (m : ℕ). startedSlot (kindAt kinds i) time m (slotAt (loaded settings bytes delays) i)) loaded-maximum
-        ∙ ap (startedSlot (kindAt kinds i) time (settings .«delay_max»)) (loaded-slot i)
+        ∙ ap (λ (p : DelayPolicy). startedSlot (kindAt kinds i) time p (slotAt (loaded settings bytes delays) i)) loaded-policy
+        ∙ ap (startedSlot (kindAt kinds i) time (policyOf settings)) (loaded-slot i)
 
-    pub new-started : AsStarted (kindAt kinds i) time (settings .«delay_max») (slotAt (started settings kinds bytes delays time l .inputs) i)
-    new-started = subst (AsStarted (kindAt kinds i) time (settings .«delay_max»)) (sym new-slot) (as-started (kindAt kinds i) time (settings .«delay_max»))
+    pub new-started : AsStarted (kindAt kinds i) time (policyOf settings) (slotAt (started settings kinds bytes delays time l .inputs) i)
+    new-started = subst (AsStarted (kindAt kinds i) time (policyOf settings)) (sym new-slot) (as-started (kindAt kinds i) time (policyOf settings))
 
     -- its window and its hold are fresh, over zeros
     pub new-window : windowOf (started settings kinds bytes delays time l .inputs) (started settings kinds bytes delays time l .lists) i ≡ fresh (bucketsIn (blankFor settings)) (settings .width)

@@ -116,11 +116,11 @@ module _ (s : Inputs) (i time : ℕ) where
     unfolding startedOne
     started-auto e = did-by (ap (λ (x : ExtraDelay). startedOne i x time s) e) (did-quiet (is-made ∙ ap (λ (x : ExtraDelay). madeAt i x time s) e))
 
-    pub started-manual : {delay : Float} {samples least : ℕ} {sent : Sent} {after : List ℕ} → kind ≡ Ms delay → samples ≡ samplesOf delay → least ≡ min samples (s .policy .«delay_max»)
+    pub started-manual : {delay : Float} {samples least : ℕ} {sent : Sent} {after : List ℕ} → kind ≡ Ms delay → samples ≡ samplesOf (s .policy .rate) delay → least ≡ min samples (s .policy .«delay_max»)
         → Did 3 (setDelayOf all i least time) sent before after used → Did 3 (startedOne i kind time s) sent before after used
     unfolding startedOne
     started-manual {delay} {samples} {least} e f g d =
-        did-by (ap (λ (x : ExtraDelay). startedOne i x time s) e ∙ sym (ap (λ (z : Inputs). setDelayOf z i (min (samplesOf delay) (s .policy .«delay_max»)) time) (is-made ∙ ap (λ (x : ExtraDelay). madeAt i x time s) e)) ∙ sym (ap (λ (n : ℕ). setDelayOf all i n time) (g ∙ ap (λ (n : ℕ). min n (s .policy .«delay_max»)) f))) d
+        did-by (ap (λ (x : ExtraDelay). startedOne i x time s) e ∙ sym (ap (λ (z : Inputs). setDelayOf z i (min (samplesOf (s .policy .rate) delay) (s .policy .«delay_max»)) time) (is-made ∙ ap (λ (x : ExtraDelay). madeAt i x time s) e)) ∙ sym (ap (λ (n : ℕ). setDelayOf all i n time) (g ∙ ap (λ (n : ℕ). min n (s .policy .«delay_max»)) f))) d
 
 -- the first i inputs are started
 pub record Starting (kinds : List ExtraDelay) (time count : ℕ) (s : Inputs) (before : List ℕ) (i : ℕ) (so-far : Inputs) (used : ℕ) (after : List ℕ) : Type 0 where

@@ -22,12 +22,12 @@ use Rattle.rules_calls.specs.NewChecks.{settingsNumber, newNumber, margi
 module _ (settings : Settings) (bytes delays : ℕ) (l : Lists) (words : ℕ) where
   settings-refused : (settingsNumber settings bytes delays l words 0 ≡ 0 → ⊥) → (rest : ℕ) → settingsNumber settings bytes delays l words rest ≡ settingsNumber settings bytes delays l words 0
   unfolding settingsNumber
-  settings-refused h rest = same-refusal 1 _ (same-ranges _ _ _ (same-refusal 3 _ (same-refusal 4 _ (same-refusal 5 _ (same-refusal 5 _ (same-refusal 5 _ (λ none. absurd (none refl)))))))) h
+  settings-refused h rest = same-refusal 1 _ (same-ranges _ _ _ _ (same-refusal 3 _ (same-refusal 4 _ (same-refusal 5 _ (same-refusal 5 _ (same-refusal 5 _ (λ none. absurd (none refl)))))))) h
 
   -- number 0 says that each of them held, and that those after them gave 0
   pub settings-asked : (rest : ℕ) → settingsNumber settings bytes delays l words rest ≡ 0
       → (inputsAllowed (settings .count) ≡ true)
-      × Ranged (settings .«read_offset») (settings .«delay_max») (settings .width)
+      × Ranged (settings .rate) (settings .«read_offset») (settings .«delay_max») (settings .width)
       × (pausesAllowed (policyOf settings) (settings .stall) ≡ true)
       × (marginFits settings ≡ true)
       × (listsFit (settings .count) (bucketsIn (blankFor settings)) l ≡ true)
@@ -37,7 +37,7 @@ module _ (settings : Settings) (bytes delays : ℕ) (l : Lists) (words : ℕ) wh
   unfolding settingsNumber
   settings-asked rest h =
       let a = asked 0 _ _ h in
-      let b = ranges-told _ _ _ _ (a .1) in
+      let b = ranges-told _ _ _ _ _ (a .1) in
       let c = asked 2 _ _ (b .1) in
       let d = asked 3 _ _ (c .1) in
       let e = asked 4 _ _ (d .1) in
@@ -49,7 +49,7 @@ module _ (settings : Settings) (bytes delays : ℕ) (l : Lists) (words : ℕ) wh
   unfolding settingsNumber
   settings-passed h rest =
       let a = settings-asked 0 h in
-      yes-ask 1 _ (a .0) ∙ ranges-passed _ _ _ (a .1) _ ∙ yes-ask 3 _ (a .2) ∙ yes-ask 4 _ (a .3) ∙ yes-ask 5 _ (a .4) ∙ yes-ask 5 _ (a .5) ∙ yes-ask 5 _ (a .6)
+      yes-ask 1 _ (a .0) ∙ ranges-passed _ _ _ _ (a .1) _ ∙ yes-ask 3 _ (a .2) ∙ yes-ask 4 _ (a .3) ∙ yes-ask 5 _ (a .4) ∙ yes-ask 5 _ (a .5) ∙ yes-ask 5 _ (a .6)
 
 -- ---- 8 and 9 after them
 module _ (settings : Settings) (bytes delays : List ℕ) (time : ℕ) (l : Lists) (words : ℕ) where

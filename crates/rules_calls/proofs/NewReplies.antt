@@ -44,28 +44,28 @@ module _ (settings : Settings) (bytes delays : ℕ) (l : Lists) (words : ℕ) wh
 
   module _ (one : inputsAllowed (settings .count) ≡ true) where
     -- the number of 2, 17 and 18
-    pub refused-ranges : {n : ℕ} → n ≡ rangesNumber (settings .«read_offset») (settings .«delay_max») (settings .width) 0 → (n ≡ 0 → ⊥) → n ≡ settingsNumber settings bytes delays l words 0
+    pub refused-ranges : {n : ℕ} → n ≡ rangesNumber (settings .rate) (settings .«read_offset») (settings .«delay_max») (settings .width) 0 → (n ≡ 0 → ⊥) → n ≡ settingsNumber settings bytes delays l words 0
     unfolding settingsNumber
-    refused-ranges e h = sym (yes-ask 1 _ one ∙ ranges-stop _ _ _ e h _)
+    refused-ranges e h = sym (yes-ask 1 _ one ∙ ranges-stop _ _ _ _ e h _)
 
-    module _ (ranged : Ranged (settings .«read_offset») (settings .«delay_max») (settings .width)) {policy : DelayPolicy} (is-policy : policy ≡ policyOf settings) where
+    module _ (ranged : Ranged (settings .rate) (settings .«read_offset») (settings .«delay_max») (settings .width)) {policy : DelayPolicy} (is-policy : policy ≡ policyOf settings) where
       three-is : {b : Bool} → pausesAllowed policy (settings .stall) ≡ b → pausesAllowed (policyOf settings) (settings .stall) ≡ b
       three-is h = ap (λ (p : DelayPolicy). pausesAllowed p (settings .stall)) (sym is-policy) ∙ h
 
       pub refused-three : pausesAllowed policy (settings .stall) ≡ false → 3 ≡ settingsNumber settings bytes delays l words 0
       unfolding settingsNumber
-      refused-three h = sym (yes-ask 1 _ one ∙ ranges-passed _ _ _ ranged _ ∙ no-ask 3 _ (three-is h))
+      refused-three h = sym (yes-ask 1 _ one ∙ ranges-passed _ _ _ _ ranged _ ∙ no-ask 3 _ (three-is h))
 
       module _ (three : pausesAllowed policy (settings .stall) ≡ true) where
         pub refused-four : marginFits settings ≡ false → 4 ≡ settingsNumber settings bytes delays l words 0
         unfolding settingsNumber
-        refused-four h = sym (yes-ask 1 _ one ∙ ranges-passed _ _ _ ranged _ ∙ yes-ask 3 _ (three-is three) ∙ no-ask 4 _ h)
+        refused-four h = sym (yes-ask 1 _ one ∙ ranges-passed _ _ _ _ ranged _ ∙ yes-ask 3 _ (three-is three) ∙ no-ask 4 _ h)
 
         pub count-asked : settings .count ≤ 16
         unfolding inputsAllowed
         count-asked = leb-true _ _ (both-true _ _ one .1)
 
-        module _ (four : marginFits settings ≡ true) {buckets : ℕ} (is-buckets : buckets ≡ bucketsOf (settings .«read_offset») (settings .«delay_max») (settings .width)) where
+        module _ (four : marginFits settings ≡ true) {buckets : ℕ} (is-buckets : buckets ≡ bucketsOf (settings .rate) (settings .«read_offset») (settings .«delay_max») (settings .width)) where
           pub lists-asked : (settings .count ≤ 16) × (buckets ≤ bucketsLimit)
           lists-asked = (count-asked, rw is-buckets (ranged .buckets-most))
 
@@ -75,17 +75,17 @@ module _ (settings : Settings) (bytes delays : ℕ) (l : Lists) (words : ℕ) wh
 
           pub refused-lists : listsFit (settings .count) buckets l ≡ false → 5 ≡ settingsNumber settings bytes delays l words 0
           unfolding settingsNumber
-          refused-lists h = sym (yes-ask 1 _ one ∙ ranges-passed _ _ _ ranged _ ∙ yes-ask 3 _ (three-is three) ∙ yes-ask 4 _ four ∙ no-ask 5 _ (five-is h))
+          refused-lists h = sym (yes-ask 1 _ one ∙ ranges-passed _ _ _ _ ranged _ ∙ yes-ask 3 _ (three-is three) ∙ yes-ask 4 _ four ∙ no-ask 5 _ (five-is h))
 
           module _ (five : listsFit (settings .count) buckets l ≡ true) where
             pub refused-words : outputFits (settings .count) (Words words) ≡ false → 5 ≡ settingsNumber settings bytes delays l words 0
             unfolding settingsNumber
-            refused-words h = sym (yes-ask 1 _ one ∙ ranges-passed _ _ _ ranged _ ∙ yes-ask 3 _ (three-is three) ∙ yes-ask 4 _ four ∙ yes-ask 5 _ (five-is five) ∙ no-ask 5 _ h)
+            refused-words h = sym (yes-ask 1 _ one ∙ ranges-passed _ _ _ _ ranged _ ∙ yes-ask 3 _ (three-is three) ∙ yes-ask 4 _ four ∙ yes-ask 5 _ (five-is five) ∙ no-ask 5 _ h)
 
             module _ (fit : outputFits (settings .count) (Words words) ≡ true) where
               passed-words : (rest : ℕ) → settingsNumber settings bytes delays l words rest ≡ ask 5 (eqb bytes (delays * 16)) rest
               unfolding settingsNumber
-              passed-words rest = yes-ask 1 _ one ∙ ranges-passed _ _ _ ranged _ ∙ yes-ask 3 _ (three-is three) ∙ yes-ask 4 _ four ∙ yes-ask 5 _ (five-is five) ∙ yes-ask 5 _ fit
+              passed-words rest = yes-ask 1 _ one ∙ ranges-passed _ _ _ _ ranged _ ∙ yes-ask 3 _ (three-is three) ∙ yes-ask 4 _ four ∙ yes-ask 5 _ (five-is five) ∙ yes-ask 5 _ fit
 
               pub refused-bytes : eqb bytes (delays * 16) ≡ false → 5 ≡ settingsNumber settings bytes delays l words 0
               refused-bytes h = sym (passed-words 0 ∙ no-ask 5 _ h)

@@ -7,6 +7,7 @@ use native.Mathlib.Nat.{eq-or-lt-of-le, le-of-suc-le-suc}
 use native.Mathlib.Omega.{arith}
 use Rattle.base.specs.Limits.{timeLimit}
 use Rattle.doubles.specs.Doubles.{samplesOf}
+use Rattle.policy.specs.declared.DelayPolicy.{DelayPolicy}
 use Rattle.rules_record.specs.declared.ExtraDelay.{ExtraDelay}
 use Rattle.rules_record.specs.declared.ExtraDelay.the-variants.{Auto, Ms}
 use Rattle.rules_record.specs.declared.Slot.{Slot}
@@ -27,23 +28,23 @@ use Rattle.rules_record.proofs.FlowCases.{unremembered}
 use Rattle.rules_routing.proofs.SetDelayKeeps.{stored-keeps}
 use Rattle.rules_calls.specs.NewStart.{kindAt, madeAt, startedOne, startedBelow}
 
--- the slot of an input that was not in use, with this kind and this maximum
+-- the slot of an input that was not in use, with this kind and this policy
 abbrev pub madeSlot : ExtraDelay → (time : ℕ) → Slot → Slot
 madeSlot kind time slot = withHead (withConfig slot (record { «extra_delay» = kind })) 0 time
 
-abbrev pub startedSlot : ExtraDelay → (time maximum : ℕ) → Slot → Slot
-startedSlot (Auto tag) time maximum slot = madeSlot (Auto tag) time slot
-startedSlot (Ms delay) time maximum slot = withDelay (madeSlot (Ms delay) time slot) (min (samplesOf delay) maximum) time
+abbrev pub startedSlot : ExtraDelay → (time : ℕ) (policy : DelayPolicy) → Slot → Slot
+startedSlot (Auto tag) time policy slot = madeSlot (Auto tag) time slot
+startedSlot (Ms delay) time policy slot = withDelay (madeSlot (Ms delay) time slot) (min (samplesOf (policy .rate) delay) (policy .«delay_max»)) time
 
 -- the words for it
-abbrev pub startedWords : (i : ℕ) → ExtraDelay → (maximum : ℕ) → List ℕ
-startedWords i (Auto tag) maximum = []
-startedWords i (Ms delay) maximum = setDelay i (min (samplesOf delay) maximum)
+abbrev pub startedWords : (i : ℕ) → ExtraDelay → (policy : DelayPolicy) → List ℕ
+startedWords i (Auto tag) policy = []
+startedWords i (Ms delay) policy = setDelay i (min (samplesOf (policy .rate) delay) (policy .«delay_max»))
 
 -- "for each Ms input in order", of the first n inputs
-unfoldable pub manualWords : (n : ℕ) → List ExtraDelay → (maximum : ℕ) → List ℕ
-manualWords zero kinds maximum = []
-manualWords (suc n) kinds maximum = manualWords n kinds maximum ++ startedWords n (kindAt kinds n) maximum
+unfoldable pub manualWords : (n : ℕ) → List ExtraDelay → (policy : DelayPolicy) → List ℕ
+manualWords zero kinds policy = []
+manualWords (suc n) kinds policy = manualWords n kinds policy ++ startedWords n (kindAt kinds n) policy
 
 -- ---- one input
 module _ (s : Inputs) (i time : ℕ) (low : i < 16) (sized : Sized s) where
@@ -53,24 +54,24 @@ module _ (s : Inputs) (i time : ℕ) (low : i < 16) (sized : Sized s) where
   made-sized : (kind : ExtraDelay) → Sized (madeAt i kind time s)
   made-sized kind = sized-put s i (madeSlot kind time (slotAt s i)) sized
 
-  pub one-slot : (kind : ExtraDelay) → slotAt (startedOne i kind time s .inputs) i ≡ startedSlot kind time (s .policy .«delay_max») (slotAt s i)
+  pub one-slot : (kind : ExtraDelay) → slotAt (startedOne i kind time s .inputs) i ≡ startedSlot kind time (s .policy) (slotAt s i)
   unfolding startedOne setDelayOf sendFirst quiet
   one-slot (Auto tag) = made-slot (Auto tag)
   one-slot (Ms delay) =
-      stored-same (madeAt i (Ms delay) time s) i (min (samplesOf delay) (s .policy .«delay_max»)) time low (made-sized (Ms delay))
-      ∙ ap (λ (x : Slot). withDelay x (min (samplesOf delay) (s .policy .«delay_max»)) time) (made-slot (Ms delay))
+      stored-same (madeAt i (Ms delay) time s) i (min (samplesOf (s .policy .rate) delay) (s .policy .«delay_max»)) time low (made-sized (Ms delay))
+      ∙ ap (λ (x : Slot). withDelay x (min (samplesOf (s .policy .rate) delay) (s .policy .«delay_max»)) time) (made-slot (Ms delay))
 
   pub one-other : (kind : ExtraDelay) (j : ℕ) → (j ≡ i → ⊥) → slotAt (startedOne i kind time s .inputs) j ≡ slotAt s j
   unfolding startedOne setDelayOf sendFirst quiet
   one-other (Auto tag) j apart = slot-other s i (madeSlot (Auto tag) time (slotAt s i)) j apart
   one-other (Ms delay) j apart =
-      stored-other (madeAt i (Ms delay) time s) i (min (samplesOf delay) (s .policy .«delay_max»)) time j apart
+      stored-other (madeAt i (Ms delay) time s) i (min (samplesOf (s .policy .rate) delay) (s .policy .«delay_max»)) time j apart
       ∙ slot-other s i (madeSlot (Ms delay) time (slotAt s i)) j apart
 
   pub one-sized : (kind : ExtraDelay) → Sized (startedOne i kind time s .inputs)
   unfolding startedOne setDelayOf sendFirst quiet
   one-sized (Auto tag) = made-sized (Auto tag)
-  one-sized (Ms delay) = stored-sized (madeAt i (Ms delay) time s) i (min (samplesOf delay) (s .policy .«delay_max»)) time (made-sized (Ms delay))
+  one-sized (Ms delay) = stored-sized (madeAt i (Ms delay) time s) i (min (samplesOf (s .policy .rate) delay) (s .policy .«delay_max»)) time (made-sized (Ms delay))
 
   -- only slots change: a manual delay is not remembered
   pub one-rest : (kind : ExtraDelay) → startedOne i kind time s .inputs ≡ withSlots s (startedOne i kind time s .inputs .slots)
@@ -79,7 +80,7 @@ module _ (s : Inputs) (i time : ℕ) (low : i < 16) (sized : Sized s) where
   one-rest (Ms delay) = stays ∙ rest ∙ ap (λ (x : Inputs). withSlots s (x .slots)) (sym stays)
     where
       samples : ℕ
-      samples = min (samplesOf delay) (s .policy .«delay_max»)
+      samples = min (samplesOf (s .policy .rate) delay) (s .policy .«delay_max»)
 
       made : Inputs
       made = madeAt i (Ms delay) time s
@@ -93,7 +94,7 @@ module _ (s : Inputs) (i time : ℕ) (low : i < 16) (sized : Sized s) where
       rest : there ≡ withSlots s (there .slots)
       rest = put-rest made i _ ∙ ap (λ (x : Inputs). withSlots x (there .slots)) (put-rest s i _)
 
-  pub one-words : (kind : ExtraDelay) → startedOne i kind time s .words ≡ startedWords i kind (s .policy .«delay_max»)
+  pub one-words : (kind : ExtraDelay) → startedOne i kind time s .words ≡ startedWords i kind (s .policy)
   unfolding startedOne setDelayOf sendFirst quiet
   one-words (Auto tag) = refl
   one-words (Ms delay) = refl
@@ -113,9 +114,9 @@ module _ (s : Inputs) (l : Lists) (i time : ℕ) (c : Checked s l) (h : i < s .c
   one-keeps (Auto tag) = made-keeps (Auto tag)
   one-keeps (Ms delay) =
       let rest = put-rest s i (madeSlot (Ms delay) time (slotAt s i)) in
-      stored-keeps (madeAt i (Ms delay) time s) l i (min (samplesOf delay) (s .policy .«delay_max»)) time (made-keeps (Ms delay))
+      stored-keeps (madeAt i (Ms delay) time s) l i (min (samplesOf (s .policy .rate) delay) (s .policy .«delay_max»)) time (made-keeps (Ms delay))
       (subst (λ (z : Inputs). i < z .count) (sym rest) h)
-      (subst (λ (z : Inputs). min (samplesOf delay) (s .policy .«delay_max») ≤ z .policy .«delay_max») (sym rest) (omega arith))
+      (subst (λ (z : Inputs). min (samplesOf (s .policy .rate) delay) (s .policy .«delay_max») ≤ z .policy .«delay_max») (sym rest) (omega arith))
       soon
 
 -- ---- the first n inputs
@@ -133,8 +134,8 @@ module _ (kinds : List ExtraDelay) (time : ℕ) (s : Inputs) (sized : Sized s) w
       one-rest (startedBelow n kinds time s .inputs) n time (omega arith) (below-sized n (omega arith)) (kindAt kinds n)
       ∙ ap (λ (z : Inputs). withSlots z (startedBelow (suc n) kinds time s .inputs .slots)) (below-rest n (omega arith))
 
-  below-maximum : (n : ℕ) → n ≤ 16 → startedBelow n kinds time s .inputs .policy .«delay_max» ≡ s .policy .«delay_max»
-  below-maximum n few = ap (λ (z : Inputs). z .policy .«delay_max») (below-rest n few)
+  below-policy : (n : ℕ) → n ≤ 16 → startedBelow n kinds time s .inputs .policy ≡ s .policy
+  below-policy n few = ap (λ (z : Inputs). z .policy) (below-rest n few)
 
   -- the slots after them stay
   pub below-later : (n : ℕ) → n ≤ 16 → (i : ℕ) → n ≤ i → slotAt (startedBelow n kinds time s .inputs) i ≡ slotAt s i
@@ -145,7 +146,7 @@ module _ (kinds : List ExtraDelay) (time : ℕ) (s : Inputs) (sized : Sized s) w
       ∙ below-later n (omega arith) i (omega arith)
 
   -- the slot of each of them
-  pub below-slot : (n : ℕ) → n ≤ 16 → (i : ℕ) → i < n → slotAt (startedBelow n kinds time s .inputs) i ≡ startedSlot (kindAt kinds i) time (s .policy .«delay_max») (slotAt s i)
+  pub below-slot : (n : ℕ) → n ≤ 16 → (i : ℕ) → i < n → slotAt (startedBelow n kinds time s .inputs) i ≡ startedSlot (kindAt kinds i) time (s .policy) (slotAt s i)
   unfolding startedBelow sendFirst quiet
   below-slot zero few i h = absurd (omega arith)
   below-slot (suc n) few i h = ⊎-elim (λ e. here e) (λ k. there k (below-slot n (omega arith) i k)) (eq-or-lt-of-le (le-of-suc-le-suc h))
@@ -153,25 +154,25 @@ module _ (kinds : List ExtraDelay) (time : ℕ) (s : Inputs) (sized : Sized s) w
       before : Inputs
       before = startedBelow n kinds time s .inputs
 
-      here : i ≡ n → slotAt (startedOne n (kindAt kinds n) time before .inputs) i ≡ startedSlot (kindAt kinds i) time (s .policy .«delay_max») (slotAt s i)
+      here : i ≡ n → slotAt (startedOne n (kindAt kinds n) time before .inputs) i ≡ startedSlot (kindAt kinds i) time (s .policy) (slotAt s i)
       here e =
           rw e
           (one-slot before n time (omega arith) (below-sized n (omega arith)) (kindAt kinds n)
-          ∙ ap (λ (m : ℕ). startedSlot (kindAt kinds n) time m (slotAt before n)) (below-maximum n (omega arith))
-          ∙ ap (startedSlot (kindAt kinds n) time (s .policy .«delay_max»)) (below-later n (omega arith) n (omega arith)))
+          ∙ ap (λ (p : DelayPolicy). startedSlot (kindAt kinds n) time p (slotAt before n)) (below-policy n (omega arith))
+          ∙ ap (startedSlot (kindAt kinds n) time (s .policy)) (below-later n (omega arith) n (omega arith)))
 
-      there : i < n → slotAt before i ≡ startedSlot (kindAt kinds i) time (s .policy .«delay_max») (slotAt s i) → slotAt (startedOne n (kindAt kinds n) time before .inputs) i ≡ startedSlot (kindAt kinds i) time (s .policy .«delay_max») (slotAt s i)
+      there : i < n → slotAt before i ≡ startedSlot (kindAt kinds i) time (s .policy) (slotAt s i) → slotAt (startedOne n (kindAt kinds n) time before .inputs) i ≡ startedSlot (kindAt kinds i) time (s .policy) (slotAt s i)
       there k e = one-other before n time (omega arith) (below-sized n (omega arith)) (kindAt kinds n) i (λ q. omega arith) ∙ e
 
   -- the words: SetDelay for each manual one, in their order
-  pub below-words : (n : ℕ) → n ≤ 16 → startedBelow n kinds time s .words ≡ manualWords n kinds (s .policy .«delay_max»)
+  pub below-words : (n : ℕ) → n ≤ 16 → startedBelow n kinds time s .words ≡ manualWords n kinds (s .policy)
   unfolding startedBelow sendFirst quiet manualWords
   below-words zero few = refl
   below-words (suc n) few =
       ap (λ (words : List ℕ). words ++ startedOne n (kindAt kinds n) time (startedBelow n kinds time s .inputs) .words) (below-words n (omega arith))
-      ∙ ap (λ (words : List ℕ). manualWords n kinds (s .policy .«delay_max») ++ words)
+      ∙ ap (λ (words : List ℕ). manualWords n kinds (s .policy) ++ words)
       (one-words (startedBelow n kinds time s .inputs) n time (omega arith) (below-sized n (omega arith)) (kindAt kinds n)
-      ∙ ap (startedWords n (kindAt kinds n)) (below-maximum n (omega arith)))
+      ∙ ap (startedWords n (kindAt kinds n)) (below-policy n (omega arith)))
 
   pub below-keeps : (l : Lists) → Checked s l → time ≤ timeLimit → (n : ℕ) → n ≤ s .count → Checked (startedBelow n kinds time s .inputs) l
   unfolding startedBelow sendFirst quiet

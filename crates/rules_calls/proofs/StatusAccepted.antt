@@ -98,18 +98,18 @@ module _ (hold time : ℕ) where
 abbrev noLimit : ℕ
 noLimit = 4294967295
 
-module _ (w : Window) where
-  pub arrival-shown : Sound w → (b : ℕ) → Holds noLimit w b → (lag : ArrivalLag) × (arrivalIn w ≡ Arrival.Of lag)
+module _ (rate : ℕ) (w : Window) where
+  pub arrival-shown : Sound w → (b : ℕ) → Holds noLimit w b → (lag : ArrivalLag) × (arrivalIn rate w ≡ Arrival.Of lag)
   unfolding arrivalIn
   arrival-shown sound b h =
       let half = found 500 (omega arith) in
       let high = found 990 (omega arith) in
       let highest = found 999 (omega arith) in
-      (record { p50 = msOf (half .0); p99 = msOf (high .0); p999 = msOf (highest .0) }, sym (all-there _ _ _ (half .1) (high .1) (highest .1) refl refl refl))
+      (record { p50 = msOf rate (half .0); p99 = msOf rate (high .0); p999 = msOf rate (highest .0) }, sym (all-there _ _ _ _ (half .1) (high .1) (highest .1) refl refl refl))
     where
       found : (k : ℕ) → k ≤ 1000 → (e : ℕ) × (quantileOf (thousandths k) w ≡ Quantile.End e)
       found k few = quantile-exists (thousandths k) noLimit w (sound-placeable (thousandths k) noLimit w sound (thousandths-in k few)) b h
 
-  pub arrival-none : totalUpto noLimit w ≡ 0 → arrivalIn w ≡ Arrival.None
+  pub arrival-none : totalUpto noLimit w ≡ 0 → arrivalIn rate w ≡ Arrival.None
   unfolding arrivalIn quantileIn
-  arrival-none none = ap (λ (x : Quantile). arrivalOf x (quantileOf (thousandths 990) w) (quantileOf (thousandths 999) w)) (yes-pick _ _ (eq-eqb _ _ none))
+  arrival-none none = ap (λ (x : Quantile). arrivalOf rate x (quantileOf (thousandths 990) w) (quantileOf (thousandths 999) w)) (yes-pick _ _ (eq-eqb _ _ none))

@@ -28,53 +28,53 @@ use Rattle.rules_calls.specs.Status.{sourceOf, arrivalBy, arrivalWith, a
 
 -- ---- the three quantiles, all or none
 -- the other arm of `let .. else`: a quantile whose tag is not that of an end
-pub none-first : (half high highest : Quantile) → OneOf (1 ∷ 2 ∷ []) (tagOf the-type half) → Arrival.None ≡ arrivalOf half high highest
-none-first (Quantile.End end) high highest k = absurd (⊎-elim (λ e. omega arith) (λ e. omega arith) k)
-none-first Quantile.None high highest k = refl
-none-first (Quantile.Refused number) high highest k = refl
+pub none-first : (rate : ℕ) (half high highest : Quantile) → OneOf (1 ∷ 2 ∷ []) (tagOf the-type half) → Arrival.None ≡ arrivalOf rate half high highest
+none-first rate (Quantile.End end) high highest k = absurd (⊎-elim (λ e. omega arith) (λ e. omega arith) k)
+none-first rate Quantile.None high highest k = refl
+none-first rate (Quantile.Refused number) high highest k = refl
 
-none-with : (p50 : ℕ) (high highest : Quantile) → OneOf (1 ∷ 2 ∷ []) (tagOf the-type high) → Arrival.None ≡ arrivalWith p50 high highest
-none-with p50 (Quantile.End end) highest k = absurd (⊎-elim (λ e. omega arith) (λ e. omega arith) k)
-none-with p50 Quantile.None highest k = refl
-none-with p50 (Quantile.Refused number) highest k = refl
+none-with : (rate p50 : ℕ) (high highest : Quantile) → OneOf (1 ∷ 2 ∷ []) (tagOf the-type high) → Arrival.None ≡ arrivalWith rate p50 high highest
+none-with rate p50 (Quantile.End end) highest k = absurd (⊎-elim (λ e. omega arith) (λ e. omega arith) k)
+none-with rate p50 Quantile.None highest k = refl
+none-with rate p50 (Quantile.Refused number) highest k = refl
 
-none-by : (p50 p99 : ℕ) (highest : Quantile) → OneOf (1 ∷ 2 ∷ []) (tagOf the-type highest) → Arrival.None ≡ arrivalBy p50 p99 highest
-none-by p50 p99 (Quantile.End end) k = absurd (⊎-elim (λ e. omega arith) (λ e. omega arith) k)
-none-by p50 p99 Quantile.None k = refl
-none-by p50 p99 (Quantile.Refused number) k = refl
+none-by : (rate p50 p99 : ℕ) (highest : Quantile) → OneOf (1 ∷ 2 ∷ []) (tagOf the-type highest) → Arrival.None ≡ arrivalBy rate p50 p99 highest
+none-by rate p50 p99 (Quantile.End end) k = absurd (⊎-elim (λ e. omega arith) (λ e. omega arith) k)
+none-by rate p50 p99 Quantile.None k = refl
+none-by rate p50 p99 (Quantile.Refused number) k = refl
 
-module _ (half high highest : Quantile) {p50 : ℕ} (is-half : half ≡ Quantile.End p50) where
-  half-there : arrivalOf half high highest ≡ arrivalWith p50 high highest
-  half-there = ap (λ (q : Quantile). arrivalOf q high highest) is-half
+module _ (rate : ℕ) (half high highest : Quantile) {p50 : ℕ} (is-half : half ≡ Quantile.End p50) where
+  half-there : arrivalOf rate half high highest ≡ arrivalWith rate p50 high highest
+  half-there = ap (λ (q : Quantile). arrivalOf rate q high highest) is-half
 
-  pub none-second : OneOf (1 ∷ 2 ∷ []) (tagOf the-type high) → Arrival.None ≡ arrivalOf half high highest
-  none-second k = none-with p50 high highest k ∙ sym half-there
+  pub none-second : OneOf (1 ∷ 2 ∷ []) (tagOf the-type high) → Arrival.None ≡ arrivalOf rate half high highest
+  none-second k = none-with rate p50 high highest k ∙ sym half-there
 
   module _ {p99 : ℕ} (is-high : high ≡ Quantile.End p99) where
-    high-there : arrivalOf half high highest ≡ arrivalBy p50 p99 highest
-    high-there = half-there ∙ ap (λ (q : Quantile). arrivalWith p50 q highest) is-high
+    high-there : arrivalOf rate half high highest ≡ arrivalBy rate p50 p99 highest
+    high-there = half-there ∙ ap (λ (q : Quantile). arrivalWith rate p50 q highest) is-high
 
-    pub none-third : OneOf (1 ∷ 2 ∷ []) (tagOf the-type highest) → Arrival.None ≡ arrivalOf half high highest
-    none-third k = none-by p50 p99 highest k ∙ sym high-there
+    pub none-third : OneOf (1 ∷ 2 ∷ []) (tagOf the-type highest) → Arrival.None ≡ arrivalOf rate half high highest
+    none-third k = none-by rate p50 p99 highest k ∙ sym high-there
 
-    pub all-there : {p999 : ℕ} {x y z : Float} → highest ≡ Quantile.End p999 → x ≡ msOf p50 → y ≡ msOf p99 → z ≡ msOf p999
-        → Arrival.Of (record { p50 = x; p99 = y; p999 = z }) ≡ arrivalOf half high highest
+    pub all-there : {p999 : ℕ} {x y z : Float} → highest ≡ Quantile.End p999 → x ≡ msOf rate p50 → y ≡ msOf rate p99 → z ≡ msOf rate p999
+        → Arrival.Of (record { p50 = x; p99 = y; p999 = z }) ≡ arrivalOf rate half high highest
     all-there is-highest is-x is-y is-z =
         (λ t. Arrival.Of (record { p50 = is-x t; p99 = is-y t; p999 = is-z t }))
-        ∙ sym (high-there ∙ ap (λ (q : Quantile). arrivalBy p50 p99 q) is-highest)
+        ∙ sym (high-there ∙ ap (λ (q : Quantile). arrivalBy rate p50 p99 q) is-highest)
 
-pub arrival-by : (w : Window) {a b c : Float} {half high highest : Quantile} → half ≡ quantileOf a w → a ≡ thousandths 500 → high ≡ quantileOf b w → b ≡ thousandths 990 → highest ≡ quantileOf c w → c ≡ thousandths 999 → arrivalOf half high highest ≡ arrivalIn w
+pub arrival-by : (rate : ℕ) (w : Window) {a b c : Float} {half high highest : Quantile} → half ≡ quantileOf a w → a ≡ thousandths 500 → high ≡ quantileOf b w → b ≡ thousandths 990 → highest ≡ quantileOf c w → c ≡ thousandths 999 → arrivalOf rate half high highest ≡ arrivalIn rate w
 unfolding arrivalIn
-arrival-by w is-half half-at is-high high-at is-highest highest-at =
-    (λ t. arrivalOf (is-half t) (is-high t) (is-highest t))
-    ∙ (λ t. arrivalOf (quantileOf (half-at t) w) (quantileOf (high-at t) w) (quantileOf (highest-at t) w))
+arrival-by rate w is-half half-at is-high high-at is-highest highest-at =
+    (λ t. arrivalOf rate (is-half t) (is-high t) (is-highest t))
+    ∙ (λ t. arrivalOf rate (quantileOf (half-at t) w) (quantileOf (high-at t) w) (quantileOf (highest-at t) w))
 
 -- .. of the row of sums alone: "Past the checks, quantiles read only this row"
-pub arrival-row : (w : Window) {sums : List ℕ} → sums ≡ columnSums w → arrivalIn (asOneSecond (w .buckets) (w .width) sums) ≡ arrivalIn w
+pub arrival-row : (rate : ℕ) (w : Window) {sums : List ℕ} → sums ≡ columnSums w → arrivalIn rate (asOneSecond (w .buckets) (w .width) sums) ≡ arrivalIn rate w
 unfolding arrivalIn
-arrival-row w own =
-    ap (λ (row : List ℕ). arrivalIn (asOneSecond (w .buckets) (w .width) row)) own
-    ∙ (λ t. arrivalOf (same-quantile w 4294967295 (thousandths 500) t) (same-quantile w 4294967295 (thousandths 990) t) (same-quantile w 4294967295 (thousandths 999) t))
+arrival-row rate w own =
+    ap (λ (row : List ℕ). arrivalIn rate (asOneSecond (w .buckets) (w .width) row)) own
+    ∙ (λ t. arrivalOf rate (same-quantile w 4294967295 (thousandths 500) t) (same-quantile w 4294967295 (thousandths 990) t) (same-quantile w 4294967295 (thousandths 999) t))
 
 -- ---- the route
 pub source-there : (s : Inputs) {to : Routed} {route : Route} {flow : Flow} → to ≡ To route → flow ≡ flowAt s (route .flow) → From (record { flow = flow; domain = route .domain }) ≡ sourceOf s to

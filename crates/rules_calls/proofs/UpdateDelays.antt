@@ -37,13 +37,13 @@ module _ (s : Inputs) (i time : ℕ) (low : i < 16) (sized : Sized s) where
 
   module _ (l : Lists) where
     -- ---- `update` with Ms: the delay in the slot is the samples that are sent
-    pub manual-slot : (delay : Float) → slotAt (updated i (Ms delay) time s l .inputs) i ≡ withDelay (kindStored (slotAt s i) (Ms delay)) (samplesOf delay) time
+    pub manual-slot : (delay : Float) → slotAt (updated i (Ms delay) time s l .inputs) i ≡ withDelay (kindStored (slotAt s i) (Ms delay)) (samplesOf (s .policy .rate) delay) time
     unfolding updated
-    manual-slot delay = set-slot (kindStored (slotAt s i) (Ms delay)) (samplesOf delay)
+    manual-slot delay = set-slot (kindStored (slotAt s i) (Ms delay)) (samplesOf (s .policy .rate) delay)
 
-    pub manual-words : (delay : Float) → updated i (Ms delay) time s l .words ≡ setDelay i (samplesOf delay)
+    pub manual-words : (delay : Float) → updated i (Ms delay) time s l .words ≡ setDelay i (samplesOf (s .policy .rate) delay)
     unfolding updated
-    manual-words delay = set-words (kindStored (slotAt s i) (Ms delay)) (samplesOf delay)
+    manual-words delay = set-words (kindStored (slotAt s i) (Ms delay)) (samplesOf (s .policy .rate) delay)
 
     -- .. and no table changes: nothing is remembered
     pub manual-unremembered : (delay : Float) → updated i (Ms delay) time s l .inputs ≡ withSlots s (updated i (Ms delay) time s l .inputs .slots)
@@ -54,10 +54,10 @@ module _ (s : Inputs) (i time : ℕ) (low : i < 16) (sized : Sized s) where
         slot = kindStored (slotAt s i) (Ms delay)
 
         there : Inputs
-        there = putSlot (putSlot s i slot) i (withDelay (slotAt (putSlot s i slot) i) (samplesOf delay) time)
+        there = putSlot (putSlot s i slot) i (withDelay (slotAt (putSlot s i slot) i) (samplesOf (s .policy .rate) delay) time)
 
-        stays : rememberedBy (slotAt (putSlot s i slot) i .route) (isAuto (slotAt (putSlot s i slot) i .config .«extra_delay»)) there (samplesOf delay) ≡ there
-        stays = unremembered (slotAt (putSlot s i slot) i .route) _ there (samplesOf delay) (ap (λ (x : Slot). isAuto (x .config .«extra_delay»)) (slot-same s i slot low (sized .slots)))
+        stays : rememberedBy (slotAt (putSlot s i slot) i .route) (isAuto (slotAt (putSlot s i slot) i .config .«extra_delay»)) there (samplesOf (s .policy .rate) delay) ≡ there
+        stays = unremembered (slotAt (putSlot s i slot) i .route) _ there (samplesOf (s .policy .rate) delay) (ap (λ (x : Slot). isAuto (x .config .«extra_delay»)) (slot-same s i slot low (sized .slots)))
 
         rest : there ≡ withSlots s (there .slots)
         rest = put-rest (putSlot s i slot) i _ ∙ ap (λ (x : Inputs). withSlots x (there .slots)) (put-rest s i slot)

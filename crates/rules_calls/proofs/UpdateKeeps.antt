@@ -6,12 +6,16 @@ use mathlib.Core.List.{List}
 use lib.Dec.{T}
 use lib.Ieee.{Float}
 use lib.ListN.{length}
+use native.Mathlib.Omega.{arith}
 use borrow.Author.Tests.{leb-true}
 use Rattle.base.specs.Limits.{timeLimit, counterLimit, samplesLimit}
 use Rattle.base.proofs.Choices.{asked, accepted-all}
 use Rattle.base.proofs.Points.{both-true}
+use Rattle.rates.specs.Rates.{Rated}
+use Rattle.rates.proofs.Told.{rated-some, rated-few}
 use Rattle.doubles.specs.Doubles.{samplesOf}
 use Rattle.doubles.proofs.Delays.{manual-fits}
+use Rattle.policy.specs.declared.DelayPolicy.{DelayPolicy}
 use Rattle.rules_record.specs.declared.ExtraDelay.{ExtraDelay}
 use Rattle.rules_record.specs.declared.ExtraDelay.the-variants.{Auto, Ms}
 use Rattle.rules_record.specs.declared.Proposal.{Proposal}
@@ -37,11 +41,11 @@ use Rattle.rules_calls.specs.UpdateReply.{updateReply, confirmReply}
 use Rattle.rules_record.proofs.Numbers.{input-told}
 
 -- "Is a manual delay from 0 to `ms`(maximum)?": then its samples are at most maximum
-pub manual-most : (delay : Float) (maximum : ℕ) → maximum ≤ samplesLimit → manualFits delay maximum ≡ true → samplesOf delay ≤ maximum
+pub manual-most : (delay : Float) (policy : DelayPolicy) → Rated (policy .rate) → policy .«delay_max» ≤ samplesLimit → manualFits delay policy ≡ true → samplesOf (policy .rate) delay ≤ policy .«delay_max»
 unfolding manualFits
-manual-most delay maximum most fits =
+manual-most delay policy rated most fits =
     let both = both-true _ _ fits in
-    manual-fits delay maximum most (subst T (sym (both .0)) tt) (subst T (sym (both .1)) tt)
+    manual-fits (policy .rate) (rated-some _ rated) (omega (arith, rated-few _ rated)) delay (policy .«delay_max») (omega arith) (subst T (sym (both .0)) tt) (subst T (sym (both .1)) tt)
 
 module _ (s : Inputs) (l : Lists) (i : ℕ) (c : Checked s l) (h : i < s .count) where
   old : WholeSlot (s .policy .«delay_max») (s .«flow_count») (slotAt s i)
@@ -66,10 +70,10 @@ module _ (s : Inputs) (l : Lists) (i : ℕ) (c : Checked s l) (h : i < s .count)
   cleared-slot kind =
       record { delay = old .delay; proposed = refl; route = old .route; reopens = old .reopens; changes = old .changes; lates = old .lates; head = old .head; set = old .set; opened = old .opened }
 
-  pub updated-keeps : (kind : ExtraDelay) (time : ℕ) → kindFits kind (s .policy .«delay_max») ≡ true → time ≤ timeLimit → Checked (updated i kind time s l .inputs) (updated i kind time s l .lists)
+  pub updated-keeps : (kind : ExtraDelay) (time : ℕ) → kindFits kind (s .policy) ≡ true → time ≤ timeLimit → Checked (updated i kind time s l .inputs) (updated i kind time s l .lists)
   unfolding updated cleared
   updated-keeps (Ms delay) time fits soon =
-      set-keeps (kindStored (slotAt s i) (Ms delay)) (kind-slot (Ms delay)) refl refl (samplesOf delay) time (manual-most delay _ (c .fitting .allowed .sound .maximum) fits) soon
+      set-keeps (kindStored (slotAt s i) (Ms delay)) (kind-slot (Ms delay)) refl refl (samplesOf (s .policy .rate) delay) time (manual-most delay _ (c .fitting .allowed .rated) (c .fitting .allowed .sound .maximum) fits) soon
   updated-keeps (Auto tag) time fits soon = cleared-keeps s l i (clearedSlot (kindStored (slotAt s i) (Auto tag))) c h (cleared-slot (Auto tag)) refl refl
 
   -- ---- `confirm_delay`

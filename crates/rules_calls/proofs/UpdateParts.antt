@@ -17,6 +17,7 @@ use Rattle.rules_record.specs.declared.Inputs.{Inputs}
 use Rattle.rules_record.specs.Slots.{withConfig, withProposed, withDelayChanges}
 use Rattle.rules_record.specs.Inputs.{putSlot}
 use Rattle.rules_record.specs.declared.Sent.{Sent}
+use Rattle.policy.specs.declared.DelayPolicy.{DelayPolicy}
 use Rattle.rules_record.specs.Commands.{Did}
 use Rattle.rules_routing.specs.SetDelay.{setDelayOf}
 use Rattle.rules_calls.specs.declared.DelaySetting.{DelaySetting}
@@ -25,11 +26,11 @@ use Rattle.rules_calls.specs.Update.{kindStored, delaySet, kindOf}
 use Rattle.rules_calls.specs.ConfirmDelay.{taken}
 
 -- ---- check 12
-pub kind-manual : (maximum : ℕ) {kind : ExtraDelay} {delay : Float} {fits : Bool} → kind ≡ Ms delay → fits ≡ manualFits delay maximum → fits ≡ kindFits kind maximum
-kind-manual maximum e h = h ∙ sym (ap (λ (x : ExtraDelay). kindFits x maximum) e)
+pub kind-manual : (policy : DelayPolicy) {kind : ExtraDelay} {delay : Float} {fits : Bool} → kind ≡ Ms delay → fits ≡ manualFits delay policy → fits ≡ kindFits kind policy
+kind-manual policy e h = h ∙ sym (ap (λ (x : ExtraDelay). kindFits x policy) e)
 
-pub kind-asked : (setting : DelaySetting) (maximum : ℕ) {kind : ExtraDelay} {fits : Bool} → kind ≡ kindOf setting → fits ≡ kindFits kind maximum → fits ≡ kindFits (kindOf setting) maximum
-kind-asked setting maximum e h = h ∙ ap (λ (x : ExtraDelay). kindFits x maximum) e
+pub kind-asked : (setting : DelaySetting) (policy : DelayPolicy) {kind : ExtraDelay} {fits : Bool} → kind ≡ kindOf setting → fits ≡ kindFits kind policy → fits ≡ kindFits (kindOf setting) policy
+kind-asked setting policy e h = h ∙ ap (λ (x : ExtraDelay). kindFits x policy) e
 
 -- ---- the slot
 pub kind-by : (slot : Slot) (kind : ExtraDelay) {stored r : Slot} → stored ≡ withConfig slot (record { «extra_delay» = kind }) → r ≡ withProposed stored Nothing → r ≡ kindStored slot kind

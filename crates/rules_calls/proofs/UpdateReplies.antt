@@ -66,7 +66,7 @@ module _ (s : Inputs) (l : Lists) (commands : List ℕ) (input : ℕ) (setting :
               ∙ (λ t. cleared input (kindStored (is-at t) (is-auto t)) s l)
               ∙ ap (λ (x : ExtraDelay). updated input x time s l) (sym is-auto ∙ is-kind)
 
-      pub update-manual : {delay : Float} {samples : ℕ} → kind ≡ Ms delay → samples ≡ samplesOf delay → (all ≡ delaySet input slot samples time s .inputs) × (after ≡ padded (length commands) (delaySet input slot samples time s .words))
+      pub update-manual : {delay : Float} {samples : ℕ} → kind ≡ Ms delay → samples ≡ samplesOf (s .policy .rate) delay → (all ≡ delaySet input slot samples time s .inputs) × (after ≡ padded (length commands) (delaySet input slot samples time s .words))
           → _≡_ {A = Reply} (record { number = n; inputs = all; lists = l; commands = after }) (updateReply s l commands input setting time)
       unfolding updateReply updated
       update-manual {delay} {samples} is-ms is-samples is-set =

@@ -1,4 +1,4 @@
--- The checks of `new`, in their order: document 01's, with document 02's 17 and 18 straight after 2. Assumes nothing.
+-- The checks of `new`, in their order: document 01's, with document 02's 23 straight after 1, and 17 and 18 straight after 2. Assumes nothing.
 use Prim.Native.Nat.{ℕ, _*_}
 use mathlib.Core.Bool.{Bool}
 use mathlib.Core.List.{List}
@@ -19,12 +19,12 @@ use Rattle.rules_calls.specs.NewLoading.{loadFits}
 unfoldable pub marginFits : Settings → Bool
 marginFits settings = both (leb (settings .margin) samplesLimit) (percentAllowed (settings .percent))
 
--- 1 2 17 18 3 4 5, with so many flow bytes, loaded delays and words of commands: the number of the first that says no,
+-- 1 23 2 17 18 3 4 5, with so many flow bytes, loaded delays and words of commands: the number of the first that says no,
 -- or the number that the checks after them give
 unfoldable pub settingsNumber : (settings : Settings) (bytes delays : ℕ) (l : Lists) (words rest : ℕ) → ℕ
 settingsNumber settings bytes delays l words rest =
     ask 1 (inputsAllowed (settings .count))
-    (rangesNumber (settings .«read_offset») (settings .«delay_max») (settings .width)
+    (rangesNumber (settings .rate) (settings .«read_offset») (settings .«delay_max») (settings .width)
     (ask 3 (pausesAllowed (policyOf settings) (settings .stall))
     (ask 4 (marginFits settings)
     (ask 5 (listsFit (settings .count) (bucketsIn (blankFor settings)) l)
@@ -32,7 +32,7 @@ settingsNumber settings bytes delays l words rest =
     -- "for `new`, 16 flow bytes to each loaded delay, of any number"
     (ask 5 (eqb bytes (delays * 16)) rest))))))
 
--- 1 2 17 18 3 4 5 8 9
+-- 1 23 2 17 18 3 4 5 8 9
 unfoldable pub newNumber : (settings : Settings) (bytes delays : List ℕ) (time : ℕ) (l : Lists) (words : ℕ) → ℕ
 newNumber settings bytes delays time l words =
     settingsNumber settings (length bytes) (length delays) l words

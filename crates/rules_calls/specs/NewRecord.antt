@@ -21,6 +21,7 @@ policyOf settings = record {
   window = settings .window;
   margin = settings .margin;
   «margin_share» = shareOfPercent (settings .percent);
+  rate = settings .rate;
 }
 
 -- every place of the three tables is unused
@@ -44,7 +45,7 @@ blankFor settings = blank (settings .count) (policyOf settings) (settings .width
 
 -- the zero value of a refusal
 unfoldable pub noPolicy : DelayPolicy
-noPolicy = record { «read_offset» = 0; «delay_max» = 0; hold = 0; window = 0; margin = 0; «margin_share» = fin false 0 (pos 0) }
+noPolicy = record { «read_offset» = 0; «delay_max» = 0; hold = 0; window = 0; margin = 0; «margin_share» = fin false 0 (pos 0); rate = 0 }
 
 unfoldable pub noInputs : Inputs
 noInputs = blank 0 noPolicy 0 0 false

@@ -28,7 +28,7 @@ madeAt i kind time s = putSlot s i (withHead (withConfig (slotAt s i) (record { 
 -- "A Ms input then gets `set_delay` with the smaller of `samples` and maximum"
 unfoldable pub startedOne : (i : ℕ) → ExtraDelay → (time : ℕ) (s : Inputs) → Done
 startedOne i (Auto tag) time s = quiet (madeAt i (Auto tag) time s)
-startedOne i (Ms delay) time s = setDelayOf (madeAt i (Ms delay) time s) i (min (samplesOf delay) (s .policy .«delay_max»)) time
+startedOne i (Ms delay) time s = setDelayOf (madeAt i (Ms delay) time s) i (min (samplesOf (s .policy .rate) delay) (s .policy .«delay_max»)) time
 
 -- what the second step does after the first: "Commands stand in sending order"
 abbrev pub thenDone : (done : Done) (next : (Inputs → Done)) → Done

@@ -48,37 +48,37 @@ unfoldable pub channelsShown : (state : State) (channels : ℕ) → ℕ
 channelsShown state channels = pick (isUnrouted state) 0 channels
 
 -- "`ms` .. of the proposal"
-abbrev pub proposedMs : Proposal → Milliseconds
-proposedMs Proposal.Nothing = Milliseconds.None
-proposedMs (Proposal.Pending delay) = Milliseconds.Of (msOf delay)
+abbrev pub proposedMs : (rate : ℕ) → Proposal → Milliseconds
+proposedMs rate Proposal.Nothing = Milliseconds.None
+proposedMs rate (Proposal.Pending delay) = Milliseconds.Of (msOf rate delay)
 
 -- "of the quantiles 0.5, 0.99 and 0.999 .. (all three or none)"
-abbrev pub arrivalBy : (p50 p99 : ℕ) → Quantile → Arrival
-arrivalBy p50 p99 (Quantile.End p999) = Arrival.Of (record { p50 = msOf p50; p99 = msOf p99; p999 = msOf p999 })
-arrivalBy p50 p99 Quantile.None = Arrival.None
-arrivalBy p50 p99 (Quantile.Refused number) = Arrival.None
+abbrev pub arrivalBy : (rate p50 p99 : ℕ) → Quantile → Arrival
+arrivalBy rate p50 p99 (Quantile.End p999) = Arrival.Of (record { p50 = msOf rate p50; p99 = msOf rate p99; p999 = msOf rate p999 })
+arrivalBy rate p50 p99 Quantile.None = Arrival.None
+arrivalBy rate p50 p99 (Quantile.Refused number) = Arrival.None
 
-abbrev pub arrivalWith : (p50 : ℕ) → Quantile → (highest : Quantile) → Arrival
-arrivalWith p50 (Quantile.End p99) highest = arrivalBy p50 p99 highest
-arrivalWith p50 Quantile.None highest = Arrival.None
-arrivalWith p50 (Quantile.Refused number) highest = Arrival.None
+abbrev pub arrivalWith : (rate p50 : ℕ) → Quantile → (highest : Quantile) → Arrival
+arrivalWith rate p50 (Quantile.End p99) highest = arrivalBy rate p50 p99 highest
+arrivalWith rate p50 Quantile.None highest = Arrival.None
+arrivalWith rate p50 (Quantile.Refused number) highest = Arrival.None
 
-abbrev pub arrivalOf : Quantile → (high highest : Quantile) → Arrival
-arrivalOf (Quantile.End p50) high highest = arrivalWith p50 high highest
-arrivalOf Quantile.None high highest = Arrival.None
-arrivalOf (Quantile.Refused number) high highest = Arrival.None
+abbrev pub arrivalOf : (rate : ℕ) → Quantile → (high highest : Quantile) → Arrival
+arrivalOf rate (Quantile.End p50) high highest = arrivalWith rate p50 high highest
+arrivalOf rate Quantile.None high highest = Arrival.None
+arrivalOf rate (Quantile.Refused number) high highest = Arrival.None
 
 -- "without limit"
-unfoldable pub arrivalIn : Window → Arrival
-arrivalIn w = arrivalOf (quantileOf (thousandths 500) w) (quantileOf (thousandths 990) w) (quantileOf (thousandths 999) w)
+unfoldable pub arrivalIn : (rate : ℕ) → Window → Arrival
+arrivalIn rate w = arrivalOf rate (quantileOf (thousandths 500) w) (quantileOf (thousandths 990) w) (quantileOf (thousandths 999) w)
 
 -- "of the greatest peak if automatic"; the peaks stand first in the input's 600 lags
-abbrev pub lagMs : Lag → Milliseconds
-lagMs Lag.None = Milliseconds.None
-lagMs (Lag.Of lag) = Milliseconds.Of (msOf lag)
+abbrev pub lagMs : (rate : ℕ) → Lag → Milliseconds
+lagMs rate Lag.None = Milliseconds.None
+lagMs rate (Lag.Of lag) = Milliseconds.Of (msOf rate lag)
 
-unfoldable pub worstMs : (slot : Slot) (lags : List ℕ) → Milliseconds
-worstMs slot lags = pick (isAuto (slot .config .«extra_delay»)) (lagMs (worstOf (take (slot .hold .peaks) lags))) Milliseconds.None
+unfoldable pub worstMs : (rate : ℕ) (slot : Slot) (lags : List ℕ) → Milliseconds
+worstMs rate slot lags = pick (isAuto (slot .config .«extra_delay»)) (lagMs rate (worstOf (take (slot .hold .peaks) lags))) Milliseconds.None
 
 -- the status of input i, whose slot this is
 unfoldable pub statusFor : (s : Inputs) (l : Lists) (i applied channels : ℕ) (slot : Slot) → InputStatus
@@ -89,12 +89,12 @@ statusFor s l i applied channels slot =
       source = sourceOf s (slot .route);
       channels = channelsShown (slot .state) channels;
       «extra_delay» = slot .config .«extra_delay»;
-      «extra_delay_ms» = msOf applied;
-      «effective_delay_ms» = msOf (s .policy .«read_offset» + applied);
-      «proposed_delay_ms» = proposedMs (slot .proposed);
-      «lag_ms» = msOf (slot .«last_lag»);
-      «arrival_lag_ms» = arrivalIn (windowFor s l i slot);
-      «worst_lag_ms» = worstMs slot (part (i * 600) 600 (l .peaks));
+      «extra_delay_ms» = msOf (s .policy .rate) applied;
+      «effective_delay_ms» = msOf (s .policy .rate) (s .policy .«read_offset» + applied);
+      «proposed_delay_ms» = proposedMs (s .policy .rate) (slot .proposed);
+      «lag_ms» = msOf (s .policy .rate) (slot .«last_lag»);
+      «arrival_lag_ms» = arrivalIn (s .policy .rate) (windowFor s l i slot);
+      «worst_lag_ms» = worstMs (s .policy .rate) slot (part (i * 600) 600 (l .peaks));
       «delay_changes» = slot .«delay_changes»;
       «late_events» = slot .«late_events»;
       reopens = slot .reopens;

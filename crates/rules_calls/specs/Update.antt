@@ -33,5 +33,5 @@ delaySet i slot delay time s = setDelayOf (putSlot s i slot) i delay time
 -- "`update` with Ms: the kind is stored, the proposal goes, `set_delay` of `samples`. With Auto: the kind is stored, the proposal goes,
 -- window and hold are cleared, the delay stays."
 unfoldable pub updated : (i : ℕ) → ExtraDelay → (time : ℕ) (s : Inputs) (l : Lists) → Effect
-updated i (Ms delay) time s l = beside l (delaySet i (kindStored (slotAt s i) (Ms delay)) (samplesOf delay) time s)
+updated i (Ms delay) time s l = beside l (delaySet i (kindStored (slotAt s i) (Ms delay)) (samplesOf (s .policy .rate) delay) time s)
 updated i (Auto tag) time s l = cleared i (kindStored (slotAt s i) (Auto tag)) s l

@@ -76,6 +76,8 @@ pub enum DelaySetting {
 // What a supervisor is set to. Times are in nanoseconds, the margin's share is a percent.
 pub struct Settings {
     pub count: usize,
+    // The samples of a second: 48,000 or 96,000.
+    pub rate: u32,
     pub read_offset: u32,
     pub delay_max: u32,
     pub width: u32,

@@ -54,7 +54,7 @@ module _ (i : ℕ) (input : i < 16) (time : ℕ) where
   -- ---- `update`
   pub tells-updated : (kind : ExtraDelay) (s : Inputs) (l : Lists) → Sized s → TellsEffect time s (updated i kind time s l)
   unfolding updated
-  tells-updated (Ms delay) s l h = tells-delay-set (kindStored (slotAt s i) (Ms delay)) (samplesOf delay) s h refl
+  tells-updated (Ms delay) s l h = tells-delay-set (kindStored (slotAt s i) (Ms delay)) (samplesOf (s .policy .rate) delay) s h refl
   tells-updated (Auto tag) s l h = tells-cleared (kindStored (slotAt s i) (Auto tag)) s l h refl
 
   -- ---- `confirm_delay`

@@ -51,7 +51,7 @@ unfolding startedOne quiet
 tells-started-one i input (Auto tag) time s h = tells-put i input s h time _ refl
 tells-started-one i input (Ms delay) time s h =
     let f : Tells time s (madeAt i (Ms delay) time s) [] = tells-put i input s h time _ refl in
-    tells-then f (tells-set i input (madeAt i (Ms delay) time s) (f .sized) time (min (samplesOf delay) (s .policy .«delay_max»)))
+    tells-then f (tells-set i input (madeAt i (Ms delay) time s) (f .sized) time (min (samplesOf (s .policy .rate) delay) (s .policy .«delay_max»)))
 
 pub tells-started-below : (n : ℕ) → n ≤ 16 → (kinds : List ExtraDelay) (time : ℕ) (s : Inputs) → Sized s → TellsDone time s (startedBelow n kinds time s)
 unfolding startedBelow quiet

@@ -42,7 +42,7 @@ use Rattle.third_demand.proofs.Opened.{base-opened, window-opened, hold
 
 -- ---- the calls
 abbrev small : Settings
-small = record { count = 1; «read_offset» = 480; «delay_max» = 4800; width = 480; hold = 0; window = nanos; stall = 600 * nanos; margin = 96; percent = fin false 25 (pos 1); confirm = false }
+small = record { count = 1; rate = 48_000; «read_offset» = 480; «delay_max» = 4800; width = 480; hold = 0; window = nanos; stall = 600 * nanos; margin = 96; percent = fin false 25 (pos 1); confirm = false }
 
 -- one input on automatic; 23 buckets a second
 abbrev night : Night
@@ -190,6 +190,7 @@ floor-here =
     (omega arith) (computed .late-taken) (computed .late-runs) (computed .late-lag) (omega arith)
 
 ceiling-here : delayOf 0 night (opens ∷ tickAt 0 4000 ∷ tickAt 5 480 ∷ later) ≤ needOf (policyIn night) (bucketEnd (policyIn night) 480 480) + 47
+unfolding policyOf
 ceiling-here =
     third-demand .ceiling night (opens ∷ tickAt 0 4000 ∷ []) looks (480 ∷ []) (5 * nanos) 0 480 later
     (record {

@@ -31,7 +31,7 @@ abbrev startedView : Settings → ExtraDelay → InputView
 startedView settings kind = record {
   window = freshView (policyOf settings) (settings .width) .window;
   held = freshView (policyOf settings) (settings .width) .held;
-  delay = startedDelay kind (settings .«delay_max»);
+  delay = startedDelay kind (policyOf settings);
 }
 
 -- no window and no hold has the time of `new`, so its events are those of time 0: nothing happens to an automatic input; "A Ms input then gets `set_delay` with the smaller of `samples` and maximum"
@@ -40,7 +40,7 @@ started-lifted : (settings : Settings) (kind : ExtraDelay) (view : InputView) �
 unfolding freshView history after policyOf
 started-lifted settings (Auto tag) view is-view = lifted-none (policyOf settings) 0 (freshView (policyOf settings) (settings .width)) view is-view
 started-lifted settings (Ms delay) view is-view = record {
-  events = sets 0 (startedDelay (Ms delay) (settings .«delay_max»)) ∷ [];
+  events = sets 0 (startedDelay (Ms delay) (policyOf settings)) ∷ [];
   leads = sym is-view;
   lawful = λ before first. (first, omega arith, omega arith, tt, tt);
   clocked = λ before first. omega arith;

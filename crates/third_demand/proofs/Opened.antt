@@ -7,6 +7,7 @@ use Rattle.base.specs.Choice.{both, ask}
 use Rattle.base.specs.Lists.{padded, blankFrom, sum, all, listed, sumFrom}
 use Rattle.base.specs.Rows.{apart, upTo}
 use Rattle.base.specs.First as firsts
+use Rattle.rates.specs.Rates.{rateAllowed}
 use Rattle.buckets.specs.Ranges.{reachesAllowed, widthAllowed, bucketsOf, bucketsFew, rangesNumber}
 use Rattle.doubles.specs.Doubles.{halfAway, ceilOf}
 use Rattle.doubles.specs.Quantile as quantiles
@@ -58,7 +59,7 @@ use Rattle.rules_tick.specs.TickReply.{tickReply}
 
 -- of base, doubles and policy
 unfoldable pub base-opened : ℕ
-unfolding any both ask padded blankFrom sum all listed sumFrom apart upTo firsts.first halfAway ceilOf quantiles.targetOf shareOf needOf reachesAllowed widthAllowed bucketsFew rangesNumber timesAllowed marginsAllowed shareOfPercent percentAllowed round mul div ofInt le
+unfolding any both ask padded blankFrom sum all listed sumFrom apart upTo firsts.first halfAway ceilOf quantiles.targetOf shareOf needOf rateAllowed reachesAllowed widthAllowed bucketsFew rangesNumber timesAllowed marginsAllowed shareOfPercent percentAllowed round mul div ofInt le
 base-opened = 0
 
 -- of a window

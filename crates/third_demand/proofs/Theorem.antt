@@ -1,5 +1,5 @@
 -- The third demand is met, given the laws of one call and of `new`. Assumes nothing.
-use Prim.Native.Nat.{ℕ, suc, _+_, _*_, _≤_, _<_}
+use Prim.Native.Nat.{ℕ, suc, _+_, _-_, _*_, _≤_, _<_}
 use mathlib.Core.Bool.{Bool, true, false}
 use mathlib.Core.Path.{_≡_, refl, sym, ap, subst, _∙_}
 use mathlib.Core.List.{List, [], _∷_, _++_}
@@ -21,6 +21,7 @@ use Rattle.rules_calls.specs.NewRecord.{policyOf, blankFor, blank}
 use Rattle.rules_tick.specs.declared.Look.{Look}
 use Rattle.rules_tick.specs.Looks.{lagsOf}
 use Rattle.sent_delays.specs.Last.{lastDelay}
+use Rattle.delay_hold.specs.Next.{oneMillisecond}
 use Rattle.history.specs.View.{Rules, rulesOf, InputView, Tick, tickOf}
 use Rattle.history.specs.Events.{Event, freshView, history, Lawful, clock}
 use Rattle.history.specs.Events as events
@@ -81,6 +82,7 @@ module _ (laws : (settings : Settings) → settings .confirm ≡ false → Laws 
         let e : s ≡ _ = birth .good .sure .same in
         let a = subst (λ (x : Inputs). checks.Allowed (x .count) (x .policy) (x .width) (x .stall)) e (birth .good .sure .checked .fitting .allowed) in
         record {
+          rated = a .rated;
           sound = a .sound;
           hold-most = a .hold-most;
           window-least = a .window-least;
@@ -190,9 +192,9 @@ module _ (laws : (settings : Settings) → settings .confirm ≡ false → Laws 
 
           ceiling-here :
               first + (30 * nanos + policyOf settings .window + 3 * policyOf settings .hold) ≤ ending first (after (leftBy night calls) call) later →
-              slotAt (run (after (leftBy night calls) call) later .inputs) i .delay ≤ needOf (policyOf settings) (bucketEnd (policyOf settings) (settings .width) L) + 47
+              slotAt (run (after (leftBy night calls) call) later .inputs) i .delay ≤ needOf (policyOf settings) (bucketEnd (policyOf settings) (settings .width) L) + (oneMillisecond (policyOf settings) - 1)
           ceiling-here long =
-              subst (λ (x : InputView). x .delay ≤ needOf (policyOf settings) (bucketEnd (policyOf settings) (settings .width) L) + 47) all-leads
+              subst (λ (x : InputView). x .delay ≤ needOf (policyOf settings) (bucketEnd (policyOf settings) (settings .width) L) + (oneMillisecond (policyOf settings) - 1)) all-leads
               (ceiling-after (policyOf settings) (settings .width) allowed past tick (steady .passed) L all-lawful refl (in-it .lagged) (in-it .none-above) (steady .stretch)
               (subst (λ (x : ℕ). first + (30 * nanos + policyOf settings .window + 3 * policyOf settings .hold) ≤ x) (sym (steady .ends)) long))
 

@@ -54,13 +54,13 @@ module _ (s : Inputs) (l : Lists) (i time : ℕ) (sized : Sized s) (low : i < 16
   stored-lates (Auto tag) = ap (λ (x : Slot). x .«late_events») (auto-slot s i time low sized l tag)
 
   -- with Ms the delay is set, with Auto window and hold are cleared and the delay stays
-  own-lifted : Fitting s l → i < s .count → time ≤ timeLimit → (kind : ExtraDelay) → kindFits kind (s .policy .«delay_max») ≡ true → SameSettings s (updated i kind time s l .inputs)
+  own-lifted : Fitting s l → i < s .count → time ≤ timeLimit → (kind : ExtraDelay) → kindFits kind (s .policy) ≡ true → SameSettings s (updated i kind time s l .inputs)
       → Lifted (s .policy) time (viewOf s l i) (viewOf (updated i kind time s l .inputs) (updated i kind time s l .lists) i)
   unfolding history after updated cleared
   own-lifted f h soon (Ms delay) fits same = record {
-    events = sets time (samplesOf delay) ∷ [];
+    events = sets time (samplesOf (s .policy .rate) delay) ∷ [];
     leads = sym (view-own s (updated i (Ms delay) time s l .inputs) same l i _ (manual-slot s i time low sized l delay));
-    lawful = λ before first. (first, soon, manual-most delay (s .policy .«delay_max») (f .allowed .sound .maximum) fits, tt, tt);
+    lawful = λ before first. (first, soon, manual-most delay (s .policy) (f .allowed .rated) (f .allowed .sound .maximum) fits, tt, tt);
     clocked = λ before first. omega arith;
   }
   own-lifted f h soon (Auto tag) fits same = record {
@@ -82,7 +82,7 @@ module _ (s : Inputs) (l : Lists) (commands : List ℕ) (input : ℕ) (setting :
   unfolding updateReply
   update-reply = accepted-new _ _ _ accepted
 
-  told : Fitting s l × (input < s .count) × (input < 16) × (time ≤ timeLimit) × (kindFits (kindOf setting) (s .policy .«delay_max») ≡ true)
+  told : Fitting s l × (input < s .count) × (input < 16) × (time ≤ timeLimit) × (kindFits (kindOf setting) (s .policy) ≡ true)
   unfolding updateNumber manualNumber
   told =
       let t = input-told s l (length commands) input time _ accepted in

@@ -1,5 +1,5 @@
 -- The mission's third demand, sentence by sentence. Assumes nothing.
-use Prim.Native.Nat.{ℕ, _+_, _*_, _≤_, _<_}
+use Prim.Native.Nat.{ℕ, _+_, _-_, _*_, _≤_, _<_}
 use mathlib.Core.Bool.{true, false}
 use mathlib.Core.Path.{_≡_}
 use mathlib.Core.List.{List, [], _∷_, _++_}
@@ -8,6 +8,7 @@ use Rattle.base.specs.Limits.{nanos, timeLimit}
 use Rattle.base.specs.Choice.{accepted}
 use Rattle.policy.specs.declared.DelayPolicy.{DelayPolicy}
 use Rattle.policy.specs.Need.{needOf}
+use Rattle.delay_hold.specs.Next.{oneMillisecond}
 use Rattle.delay_hold.specs.declared.Lag.the-variants.{Of}
 use Rattle.rules_record.specs.Inputs.{slotAt}
 use Rattle.rules_record.specs.Checks.{ownNumber}
@@ -95,7 +96,7 @@ ending before r [] = before
 ending before r (call ∷ calls) = ending (lastTick before r call) (after r call) calls
 
 -- "After each of them that comes 30 s + window + 3 holds or more after the first, its delay is at most the need at the end of L's bucket (the end
--- that `quantile_upto` answers), plus 47."
+-- that `quantile_upto` answers), plus 47." Document 02, §9: "The 47 of the promised ceiling becomes one millisecond less one sample."
 abbrev pub Ceiling : Type 0
 Ceiling =
     (night : Night) (calls : List Call) (looks : List Look) (lags : List ℕ) (first i L : ℕ) (later : List Call) →
@@ -105,7 +106,7 @@ Ceiling =
     InStretch i L first looks lags first (after (leftBy night calls) (ticks looks lags first)) →
     Stretch i L first (after (leftBy night calls) (ticks looks lags first)) later →
     first + (30 * nanos + policyIn night .window + 3 * policyIn night .hold) ≤ ending first (after (leftBy night calls) (ticks looks lags first)) later →
-    delayOf i night (calls ++ (ticks looks lags first ∷ later)) ≤ needOf (policyIn night) (bucketEnd (policyIn night) (night .settings .width) L) + 47
+    delayOf i night (calls ++ (ticks looks lags first ∷ later)) ≤ needOf (policyIn night) (bucketEnd (policyIn night) (night .settings .width) L) + (oneMillisecond (policyIn night) - 1)
 
 -- the third demand, "one claim about its list"
 pub record ThirdDemand : Type 0 where

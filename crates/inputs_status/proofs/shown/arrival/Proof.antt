@@ -24,7 +24,7 @@ arrival-of-requires : tie.Need-arrival-of-requires
 arrival-of-requires c κs = search needs
 
 returns : tie.Need-returns
-returns c = c .arrival-of .ensures ∙ arrival-by (asOneSecond (c .before .before .before .before .before .args .window .buckets) (c .before .before .before .before .before .args .window .width) (part (c .before .before .before .before .before .args .i * c .before .before .before .before .before .args .window .buckets) (c .before .before .before .before .before .args .window .buckets) (c .before .before .before .before .before .args .sums .now))) (c .before .before .before .quantile-upto .ensures) half-is (c .before .before .quantile-upto2 .ensures) high-is (c .before .quantile-upto3 .ensures) highest-is
+returns c = c .arrival-of .ensures ∙ arrival-by _ (asOneSecond (c .before .before .before .before .before .args .window .buckets) (c .before .before .before .before .before .args .window .width) (part (c .before .before .before .before .before .args .i * c .before .before .before .before .before .args .window .buckets) (c .before .before .before .before .before .args .window .buckets) (c .before .before .before .before .before .args .sums .now))) (c .before .before .before .quantile-upto .ensures) half-is (c .before .before .quantile-upto2 .ensures) high-is (c .before .quantile-upto3 .ensures) highest-is
 
 pub arrival-spec : {M : Type 1} → statement M
 arrival-spec =

@@ -19,7 +19,7 @@ ms-requires : tie.Need-ms-requires
 ms-requires c κs = search needs
 
 returns-2 : tie.Need-returns-2
-returns-2 c = ap Of (c .ms .ensures) ∙ sym (ap lagMs (c .before .before .lag .given .1))
+returns-2 c = ap Of (c .ms .ensures) ∙ sym (ap (lagMs _) (c .before .before .lag .given .1))
 
 pub lag-ms-spec : {M : Type 1} → statement M
 lag-ms-spec = tie.close (tie.spec enum-known-lag enum-told returns ms-requires returns-2)

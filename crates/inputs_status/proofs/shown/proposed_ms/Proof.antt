@@ -19,7 +19,7 @@ ms-requires : tie.Need-ms-requires
 ms-requires c κs = search needs
 
 returns-2 : tie.Need-returns-2
-returns-2 c = ap Of (c .ms .ensures) ∙ sym (ap proposedMs (c .before .before .proposed .given .1))
+returns-2 c = ap Of (c .ms .ensures) ∙ sym (ap (proposedMs _) (c .before .before .proposed .given .1))
 
 pub proposed-ms-spec : {M : Type 1} → statement M
 proposed-ms-spec = tie.close (tie.spec enum-known-proposed enum-told returns ms-requires returns-2)

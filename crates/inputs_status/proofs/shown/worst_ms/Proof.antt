@@ -22,7 +22,7 @@ lag-ms-requires c κs = search needs
 
 returns-2 : tie.Need-returns-2
 unfolding worstMs
-returns-2 c = c .lag-ms .ensures ∙ ap lagMs (c .before .worst .ensures) ∙ sym (yes-pick _ _ (told-yes _ _ (c .before .before .before .before .automatic .ensures) (c .before .before .before .if1 .left)))
+returns-2 c = c .lag-ms .ensures ∙ ap (lagMs _) (c .before .worst .ensures) ∙ sym (yes-pick _ _ (told-yes _ _ (c .before .before .before .before .automatic .ensures) (c .before .before .before .if1 .left)))
 
 pub worst-ms-spec : {M : Type 1} → statement M
 worst-ms-spec =
