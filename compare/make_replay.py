@@ -16,6 +16,7 @@ import sys
 
 sys.dont_write_bytecode = True
 from replay import alone, desk, files, settled, sums, supervisor
+from replay import alone, files, recording, settled, sums, supervisor
 from replay.words import LINES, SECTIONS
 
 HERE = pathlib.Path(__file__).resolve().parent
@@ -32,6 +33,7 @@ def main():
     settled.calls()
     sums.supervised()
     desk.calls()
+    recording.calls()
     if sys.argv[1:] == ["--print"]:
         print("\n".join(LINES))
         return

@@ -21,6 +21,9 @@ import sys
 HERE = pathlib.Path(__file__).resolve().parent
 SECOND = 1_000_000_000
 INPUTS = 4
+# The night begins on a Monday at 22:00; a recording runs from 23:05 to 23:30.
+BEGINS = 22 * 60
+WEEK = "1385:1410" + 6 * " 0:0"
 
 
 def bits(x):
@@ -60,6 +63,7 @@ class Night:
         self.lines = []
         self.now = 0  # seconds from the start of the night
         self.noise = Noise()
+        self.minute = None  # the minute of the week that the calls were told last
         self.world = [Input(380), Input(540), Input(400), Input(300)]
 
     def say(self, line):
@@ -113,6 +117,10 @@ class Night:
 
     def tick(self, step):
         self.now += step
+        minute = BEGINS + self.now // 60
+        if minute != self.minute:
+            self.minute = minute
+            self.say(f"minute {minute}")
         for w in self.world:
             if w.inode is not None and w.writing:
                 w.head += 48_000 * step
@@ -150,6 +158,9 @@ def night():
     a, b, c, d = n.world
     n.say("status 0 0 2")  # before `new` there is nothing to ask: a bad line
     n.say("new 0 17 480 4800 48 30000000000 10000000000 5000000000 96 4049000000000000 0" + 17 * " A" + " 0")  # refusal 1
+    n.say("week 1440:0" + 6 * " 0:0")  # a setting line is never refused
+    n.new()  # refusal 22: a minute beyond its range
+    n.say("week " + WEEK)
     n.new()
     n.tick(1)
 
@@ -174,7 +185,8 @@ def night():
     n.route(0, "a1")  # an equal route does nothing
     n.quiet(time(1, 10))
 
-    # A spike: for 40 s one lag in a tick comes up to 2,500 samples late; then nothing.
+    # A spike: for 40 s one lag in a tick comes up to 2,500 samples late; then nothing. A recording
+    # runs, and the lowering waits for its end.
     n.seconds(time(1, 10, 5))
     a.spike = 2500
     n.seconds(time(1, 10, 45))

@@ -21,6 +21,9 @@ PATCHES = [
     ("        let inode = mxlio::flow_inode(&route.domain, route.flow);",
      "        let inode = mxlio::flow_inode_watch(&route.domain, route.flow);", 1,
      "`watch` and `try_open` each get their own scripted inode"),
+    ("        if held(since) && self.last_change.is_none_or(held) {",
+     "        if !crate::recording::inside() && held(since) && self.last_change.is_none_or(held) {", 1,
+     "document 02, 7: inside a recording window a due lowering waits; without one the test is the Rust's"),
     ("std::fs::read_to_string(path)", "crate::shim::read_to_string(path)", 2,
      "remembered delays come from the script"),
 ]

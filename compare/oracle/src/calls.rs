@@ -8,6 +8,7 @@ use std::collections::BTreeMap;
 use std::fmt::Write;
 
 mod files;
+mod recording;
 mod sums;
 
 pub struct Calls {
@@ -15,6 +16,8 @@ pub struct Calls {
     pub checked: Checked,
     /// The lines of the session at hand and their expected answers.
     pub lines: Vec<(String, String)>,
+    /// The session at hand has recording windows.
+    recording: bool,
 }
 
 /// The arguments of `new`.
@@ -131,6 +134,7 @@ impl Calls {
             r: Random::new(seed),
             checked: Checked::new(),
             lines: Vec::new(),
+            recording: false,
         }
     }
 
@@ -147,6 +151,16 @@ impl Calls {
         match family {
             "supervisor" => self.supervisor(),
             "alone" => self.alone(),
+            "recording" => {
+                self.recording = true;
+                if self.r.chance(80) {
+                    self.supervisor();
+                } else {
+                    self.holds();
+                }
+                self.recording = false;
+                self.no_recording();
+            }
             _ if self.r.chance(60) => self.supervisor(),
             _ => self.alone(),
         }
@@ -354,14 +368,26 @@ impl Calls {
         let mut new = self.settings();
         let full = self.r.chance(30) && length * new.n <= 600;
         self.call(format!("full {}", u8::from(full)));
+        if self.recording {
+            self.week();
+        }
         while !self.call(new.line()) {
             new = self.settings();
+            if self.recording {
+                self.week();
+            }
         }
         new.loaded.truncate(6);
         let mut manner = self.manner(&new);
         let mut now = new.now;
         for _ in 0..length {
             now = self.step(now, &manner);
+            if self.recording && self.r.chance(15) {
+                self.minute();
+            }
+            if self.recording && self.r.chance(1) {
+                self.week();
+            }
             if self.r.chance(manner.refusals) {
                 self.refused(now, &mut manner);
             }
@@ -1017,6 +1043,10 @@ impl Calls {
         for _ in 0..self.r.pick(&[10, 40, 200, 700]) {
             let s = SECOND;
             now = now.saturating_add(self.r.pick(&[0, 1, s / 10, s - 1, s, s, s + 1, 5 * s - 1, 5 * s, hold.min(60 * s)]));
+            if self.recording && self.r.chance(20) {
+                let open = self.r.below(2);
+                self.call(format!("open {open}"));
+            }
             if self.r.chance(1) {
                 now = now.saturating_sub(self.r.pick(&[1, s, 11 * s]));
             }

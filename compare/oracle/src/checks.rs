@@ -5,6 +5,7 @@
 use crate::driver::Driver;
 use crate::files;
 use crate::inputs::probe::{self, HoldFields, Second};
+use crate::recording::{minute_fits, week_fits, Week};
 use std::collections::BTreeSet;
 use std::sync::atomic::{AtomicBool, Ordering::Relaxed};
 
@@ -175,6 +176,7 @@ pub struct Settings {
     pub window: u64,
     pub stall: u64,
     pub confirm: bool,
+    pub week: Week,
 }
 impl Settings {
     pub fn limit(&self) -> u32 {
@@ -330,6 +332,21 @@ impl Checked {
                 w.bit()?;
                 w.end()
             }
+            // Setting lines are never refused: any number that fits its word may stand in them.
+            "week" => {
+                for _ in 0..7 {
+                    pair(w.word()?, ':', small, small)?;
+                }
+                w.end()
+            }
+            "minute" => {
+                w.u32()?;
+                w.end()
+            }
+            "open" => {
+                w.bit()?;
+                w.end()
+            }
             "dump" => w.end().and(self.made()),
             "put" => self.put(w),
             "new" => self.new_supervisor(w, short),
@@ -387,7 +404,7 @@ impl Checked {
         ask(7, input < self.settings.n as u64)
     }
 
-    /// 5 and 6 of a supervisor (1 to 4, 17 and 18 hold of a record that `new` made).
+    /// 5 and 6 of a supervisor (1 to 4, 17, 18 and 22 of its week hold of a record that `new` made).
     fn record(&self, short: bool) -> Read<()> {
         self.made()?;
         ask(5, !short)?;
@@ -426,9 +443,11 @@ impl Checked {
         ask(4, margins(margin, percent))?;
         ask(5, !short)?;
         ask(8, now <= LATEST)?;
+        ask(22, week_fits(&self.driver.week))?;
         ask(9, flows.len() <= 64)?;
         let n = n as usize;
-        self.settings = Settings { n, offset, max, w: bucket, hold, window, stall, confirm };
+        let week = self.driver.week;
+        self.settings = Settings { n, offset, max, w: bucket, hold, window, stall, confirm, week };
         self.flows = flows;
         self.crafted = [false; 16];
         self.wrong_sums = Default::default();
@@ -494,6 +513,7 @@ impl Checked {
         }
         self.record(short)?;
         ask(8, now <= LATEST)?;
+        ask(22, minute_fits(self.driver.minute))?;
         ask(10, fits && counts.iter().sum::<u64>() == lags)?;
         for (i, count) in counts.into_iter().enumerate() {
             let stays = |start: u64| now.saturating_sub(start) < SECOND;

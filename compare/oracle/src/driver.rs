@@ -6,6 +6,7 @@ use crate::files;
 use crate::inputs::probe::{self, bits, opt, Hold, HoldFields, Policy, Window};
 use crate::inputs::{AutoTag, ExtraDelay, InputConfig, Inputs, Route};
 use crate::mxlio::{self, Api, World};
+use crate::recording::{self, Week};
 use crate::schedule::Schedule;
 use crate::shim::{self, Instant};
 use std::fmt::Write;
@@ -26,6 +27,12 @@ pub struct Driver {
     /// W of the supervisor, and of the window alone.
     widths: (u32, u32),
     full: bool,
+    /// What setting lines set: the week of the next `new`, the minute of the next tick, whether `next` is told of a window.
+    pub week: Week,
+    pub minute: u32,
+    open: bool,
+    /// The week of the supervisor.
+    stored: Week,
     pub out: String,
 }
 
@@ -94,6 +101,10 @@ impl Driver {
             schedule: Schedule::default(),
             widths: (4, 4),
             full: false,
+            week: [(0, 0); 7],
+            minute: 0,
+            open: false,
+            stored: [(0, 0); 7],
             out: String::new(),
         }
     }
@@ -113,6 +124,21 @@ impl Driver {
         match name {
             "full" => {
                 self.full = num::<u8>(w) != 0;
+                self.out.push_str("ok");
+            }
+            "week" => {
+                for day in &mut self.week {
+                    let (opens, closes) = w.next().expect("a day").split_once(':').expect("opening:closing");
+                    *day = (parse(opens), parse(closes));
+                }
+                self.out.push_str("ok");
+            }
+            "minute" => {
+                self.minute = num(w);
+                self.out.push_str("ok");
+            }
+            "open" => {
+                self.open = num::<u8>(w) != 0;
                 self.out.push_str("ok");
             }
             "new" => self.new_supervisor(w),
@@ -186,6 +212,7 @@ impl Driver {
         let mut engine = Engine::new(n);
         let inputs = Inputs::new(Api, &mut engine, &config, saved);
         self.sup = Some((inputs, engine, hold));
+        self.stored = self.week;
         self.out.push_str("ok");
         self.show(None, self.full);
     }
@@ -330,7 +357,7 @@ impl Driver {
         if dry {
             engine.lags.iter_mut().for_each(|l| l.queue.clear());
         } else {
-            inputs.tick(engine);
+            recording::during(recording::open(&self.stored, self.minute), || inputs.tick(engine));
         }
         let saved = u8::from(shim::SAVED.load(Relaxed));
         write!(self.out, "ok {saved}").unwrap();
@@ -436,7 +463,7 @@ impl Driver {
                 let p999 = maybe(w.next().unwrap());
                 let lag = maybe(w.next().unwrap());
                 let (current, now) = (num(w), num(w));
-                opt(out, self.hold.next(p999, lag, current, &policy, now));
+                opt(out, recording::during(self.open, || self.hold.next(p999, lag, current, &policy, now)));
                 self.hold.show(out, true);
             }
             "dread1" => {

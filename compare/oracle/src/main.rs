@@ -18,6 +18,7 @@ mod files;
 mod inputs;
 mod mxlio;
 mod random;
+mod recording;
 #[path = "gen/schedule.rs"]
 mod schedule;
 mod shim;

@@ -52,7 +52,7 @@ abbrev pub fresh : Held
 fresh = hold.newReply (replicate 600 7) (replicate 600 7) .held
 
 abbrev pub firstNext : (p999 largest : Lag) (current : ℕ) → Answer
-firstNext p999 largest current = hold.nextReply settings 48 fresh p999 largest current 3_600_000_000_000 .answer
+firstNext p999 largest current = hold.nextReply settings 48 fresh p999 largest current 3_600_000_000_000 false .answer
 
 pub record Fifteen : Type 0 where
   -- "`ms(48)` = 1"

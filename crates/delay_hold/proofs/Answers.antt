@@ -1,6 +1,7 @@
 -- Document 01's five answers of `next` as far as current 48, computed on the definition of the call. Assumes nothing.
 -- a fresh hold, W 48, 48,000 samples a second, one hour after the clock's start
 use Prim.Native.Nat.{ℕ}
+use mathlib.Core.Bool.{false}
 use mathlib.Core.Path.{_≡_, refl}
 use mathlib.Core.List.{[], _∷_}
 use lib.ListN.{replicate}
@@ -29,7 +30,7 @@ abbrev pub fresh : Held
 fresh = held freshHold (replicate mostPeaks 0) (replicate mostPeaks 0)
 
 abbrev pub first : Lag → Lag → ℕ → Answer
-first p999 largest current = nextReply examplePolicy 48 fresh p999 largest current 3_600_000_000_000 .answer
+first p999 largest current = nextReply examplePolicy 48 fresh p999 largest current 3_600_000_000_000 false .answer
 
 -- "Current 0: lag 485 gives 104, lag 480 none, lag 5281 none. p999 480, no lag: current 47 raises to 96, 48 does not"
 pub answers : first None (Of 485) 0 ∷ first None (Of 480) 0 ∷ first None (Of 5281) 0 ∷ first (Of 480) None 47 ∷ first (Of 480) None 48 ∷ [] ≡ Changed 104 ∷ Kept ∷ Kept ∷ Changed 96 ∷ Kept ∷ []

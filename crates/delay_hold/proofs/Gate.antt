@@ -1,6 +1,6 @@
 -- The checks of `new` and `next` as facts, and what each call leaves for each number. Assumes nothing.
 use Prim.Native.Nat.{ℕ, zero, suc, _≤_, _<_, _^_}
-use mathlib.Core.Bool.{true, false}
+use mathlib.Core.Bool.{Bool, true, false, not}
 use mathlib.Core.Path.{_≡_, refl, sym, ap, _∙_}
 use mathlib.Core.List.{List}
 use native.Mathlib.Omega.{arith}
@@ -22,7 +22,7 @@ use Rattle.delay_hold.specs.declared.Answer.the-variants.{Kept, Changed,
 use Rattle.delay_hold.specs.declared.DelayHold.{DelayHold}
 use Rattle.delay_hold.specs.declared.Next.{Next}
 use Rattle.delay_hold.specs.Step4Peaks.{mostPeaks}
-use Rattle.delay_hold.specs.Next.{Held, held, Decided, decided, nextOf, oneMillisecond, alwaysLower, freshHold, clearedHold}
+use Rattle.delay_hold.specs.Next.{Held, held, Decided, decided, nextOf, oneMillisecond, freshHold, clearedHold}
 use Rattle.delay_hold.specs.Whole.{peakMost}
 use Rattle.delay_hold.specs.Checks.{listsFit, newNumber, NewReply, newReply, settingsNumber, heldNumber, nextNumber, nextAnswer, numberOf, valueOf, leftHold, replyOf, nextReply, AskedFor, Asked}
 
@@ -122,11 +122,11 @@ module _ (policy : DelayPolicy) (width : ℕ) (s : Held) (p999 : Lag) (current t
   accepted-asked h = record { width = width; asked = accepted-facts h .0 }
 
   -- ---- what next leaves
-  module _ (largest : Lag) where
+  module _ (largest : Lag) (inWindow : Bool) where
     abbrev decision-of : Decided
-    decision-of = nextOf (oneMillisecond policy) alwaysLower policy s p999 largest current time
+    decision-of = nextOf (oneMillisecond policy) (not inWindow) policy s p999 largest current time
 
-    next-by : {n : ℕ} → nextNumber policy width s p999 current time ≡ n → replyOf n s decision-of ≡ nextReply policy width s p999 largest current time
+    next-by : {n : ℕ} → nextNumber policy width s p999 current time ≡ n → replyOf n s decision-of ≡ nextReply policy width s p999 largest current time inWindow
     unfolding nextReply
     next-by e = ap (λ (n : ℕ). replyOf n s decision-of) (sym e)
 
@@ -134,21 +134,21 @@ module _ (policy : DelayPolicy) (width : ℕ) (s : Held) (p999 : Lag) (current t
     refused-by zero h = absurd (h refl)
     refused-by (suc n) h = refl
 
-    pub next-refused : (n : ℕ) → n ≡ nextNumber policy width s p999 current time → (n ≡ 0 → ⊥) → record { answer = Refused n; held = s } ≡ nextReply policy width s p999 largest current time
+    pub next-refused : (n : ℕ) → n ≡ nextNumber policy width s p999 current time → (n ≡ 0 → ⊥) → record { answer = Refused n; held = s } ≡ nextReply policy width s p999 largest current time inWindow
     next-refused n e h = refused-by n h ∙ next-by {n = n} (sym e)
 
     module _ (n : ℕ) (zero-is : n ≡ nextNumber policy width s p999 current time) (n-is : n ≡ 0) (r : Next) (ts ls : List ℕ) (done : decided r ts ls ≡ decision-of) where
-      next-done : replyOf 0 s (decided r ts ls) ≡ nextReply policy width s p999 largest current time
+      next-done : replyOf 0 s (decided r ts ls) ≡ nextReply policy width s p999 largest current time inWindow
       next-done = ap (replyOf 0 s) done ∙ next-by {n = 0} (sym zero-is ∙ n-is)
 
-      pub next-kept : r .change ≡ Keep → leftHold Kept (r .hold) ts ls ≡ nextReply policy width s p999 largest current time
+      pub next-kept : r .change ≡ Keep → leftHold Kept (r .hold) ts ls ≡ nextReply policy width s p999 largest current time inWindow
       next-kept e = ap (λ (c : Change). leftHold (nextAnswer 0 c) (r .hold) ts ls) (sym e) ∙ next-done
 
-      pub next-changed : (d : ℕ) → r .change ≡ To d → leftHold (Changed d) (r .hold) ts ls ≡ nextReply policy width s p999 largest current time
+      pub next-changed : (d : ℕ) → r .change ≡ To d → leftHold (Changed d) (r .hold) ts ls ≡ nextReply policy width s p999 largest current time inWindow
       next-changed d e = ap (λ (c : Change). leftHold (nextAnswer 0 c) (r .hold) ts ls) (sym e) ∙ next-done
 
     -- the answer has document 01's number, and changes nothing where that is not 0
-    pub reply-number : numberOf (nextReply policy width s p999 largest current time .answer) ≡ nextNumber policy width s p999 current time
+    pub reply-number : numberOf (nextReply policy width s p999 largest current time inWindow .answer) ≡ nextNumber policy width s p999 current time
     unfolding nextReply
     reply-number = by-answer (nextNumber policy width s p999 current time) (decision-of .change)
       where
@@ -157,7 +157,7 @@ module _ (policy : DelayPolicy) (width : ℕ) (s : Held) (p999 : Lag) (current t
         by-answer zero (To d) = refl
         by-answer (suc n) c = refl
 
-    pub reply-value : valueOf (nextReply policy width s p999 largest current time .answer) ≡ accepted (nextNumber policy width s p999 current time) Keep (decision-of .change)
+    pub reply-value : valueOf (nextReply policy width s p999 largest current time inWindow .answer) ≡ accepted (nextNumber policy width s p999 current time) Keep (decision-of .change)
     unfolding nextReply
     reply-value = by-answer (nextNumber policy width s p999 current time) (decision-of .change)
       where

@@ -2,7 +2,7 @@
 -- a change, if it is one, is to at most the maximum
 use Prim.Native.Nat.{ℕ, zero, suc, _+_, _-_, _≤_, _<_, max}
 use mathlib.Core.Path.{_≡_, refl, sym, subst, _∙_}
-use mathlib.Core.Bool.{Bool, true, false}
+use mathlib.Core.Bool.{Bool, true, false, not}
 use mathlib.Core.List.{List}
 use native.Mathlib.Omega.{arith}
 use borrow.Author.Tests.{leb-true, le-leb}
@@ -31,7 +31,7 @@ use Rattle.delay_hold.specs.Steps1To3.{startedAt, inStartup, seedLeft, l
 use Rattle.delay_hold.specs.Step4Peaks.{largerLag, timesAfter, lagsAfter, mostPeaks}
 use Rattle.delay_hold.specs.Step4InPlace.{Placed}
 use Rattle.delay_hold.specs.Steps5To8.{timerMet, needFor, decide}
-use Rattle.delay_hold.specs.Next.{Held, held, timesIn, lagsIn, windowNow, timesNow, lagsNow, holdBefore, decision, nextOf, delayAfter, oneMillisecond, alwaysLower}
+use Rattle.delay_hold.specs.Next.{Held, held, timesIn, lagsIn, windowNow, timesNow, lagsNow, holdBefore, decision, nextOf, delayAfter, oneMillisecond}
 use Rattle.base.specs.Rows.{spanOf}
 use Rattle.delay_hold.specs.Whole.{peakMost, momentTimely, seedFits, seedTimely, timerFits, wholeHold}
 use Rattle.delay_hold.specs.Checks.{lagUpTo, AskedFor, nextNumber, nextReply}
@@ -278,10 +278,10 @@ module _ (millisecond : ℕ) (mayLower : Bool) (width : ℕ) (policy : DelayPoli
 
 -- an accepted call, whatever its answer, leaves the hold whole
 pub accepted-keeps-whole :
-    (policy : DelayPolicy) (width : ℕ) (s : Held) (p999 largest : Lag) (current time : ℕ) →
+    (policy : DelayPolicy) (width : ℕ) (s : Held) (p999 largest : Lag) (current time : ℕ) (inWindow : Bool) →
     nextNumber policy width s p999 current time ≡ 0 →
-    wholeHold policy width (nextReply policy width s p999 largest current time .held) ≡ true
+    wholeHold policy width (nextReply policy width s p999 largest current time inWindow .held) ≡ true
 unfolding nextReply
-accepted-keeps-whole policy width s p999 largest current time z =
+accepted-keeps-whole policy width s p999 largest current time inWindow z =
     let f = accepted-facts policy width s p999 current time z in
-    rw z (next-keeps-whole (oneMillisecond policy) alwaysLower width policy s p999 largest current time (f .0) (f .1))
+    rw z (next-keeps-whole (oneMillisecond policy) (not inWindow) width policy s p999 largest current time (f .0) (f .1))

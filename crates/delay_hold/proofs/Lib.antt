@@ -11,3 +11,4 @@ pub mod Covers
 pub mod Later
 pub mod Marks
 pub mod Answers
+pub mod Waiting

@@ -1,7 +1,7 @@
 -- The checks of `new` and of `next` alone (document 01's, with document 02's 23, 17 and 18), the answers, and what each call leaves. Assumes nothing.
 use Prim.Native.Nat.{ℕ, zero, suc, _≤_}
 use mathlib.Core.Path.{_≡_}
-use mathlib.Core.Bool.{Bool, true}
+use mathlib.Core.Bool.{Bool, true, not}
 use mathlib.Core.List.{List}
 use lib.Dec.{leb, eqb}
 use lib.ListN.{length}
@@ -20,7 +20,7 @@ use Rattle.delay_hold.specs.declared.Answer.the-variants.{Kept, Changed,
 use Rattle.delay_hold.specs.declared.DelayHold.{DelayHold}
 use Rattle.delay_hold.specs.declared.NewHold.{NewHold}
 use Rattle.delay_hold.specs.Step4Peaks.{mostPeaks}
-use Rattle.delay_hold.specs.Next.{Held, held, Decided, nextOf, freshHold, clearedHold, oneMillisecond, alwaysLower}
+use Rattle.delay_hold.specs.Next.{Held, held, Decided, nextOf, freshHold, clearedHold, oneMillisecond}
 use Rattle.delay_hold.specs.Whole.{peakMost, wholeHold}
 
 -- ---- making a hold
@@ -100,9 +100,10 @@ leftHold r h times lags = record { answer = r; held = held h times lags }
 abbrev pub replyOf : (number : ℕ) (s : Held) (d : Decided) → Reply
 replyOf number s d = record { answer = nextAnswer number (d .change); held = accepted number s (d .held) }
 
-unfoldable pub nextReply : (policy : DelayPolicy) (width : ℕ) (s : Held) (p999 largest : Lag) (current time : ℕ) → Reply
-nextReply policy width s p999 largest current time =
-    replyOf (nextNumber policy width s p999 current time) s (nextOf (oneMillisecond policy) alwaysLower policy s p999 largest current time)
+-- document 02, §7: "`next` alone is told if a window is open": a due lowering then waits; no check concerns it
+unfoldable pub nextReply : (policy : DelayPolicy) (width : ℕ) (s : Held) (p999 largest : Lag) (current time : ℕ) (inWindow : Bool) → Reply
+nextReply policy width s p999 largest current time inWindow =
+    replyOf (nextNumber policy width s p999 current time) s (nextOf (oneMillisecond policy) (not inWindow) policy s p999 largest current time)
 
 -- ---- what `core::next` asks: what the checks say, but for the time
 pub record AskedFor (width : ℕ) (policy : DelayPolicy) (s : Held) (p999 : Lag) (current : ℕ) : Type 0 where

@@ -1,7 +1,7 @@
 -- Document 01, "DelayHold": steps 1 to 8 in their order, on a hold with its two lent lists of 600; and what is left of it. Assumes nothing.
 -- What each step does stands in Steps1To3, Step4Peaks and Steps5To8.
 use Prim.Native.Nat.{ℕ}
-use mathlib.Core.Bool.{Bool, true, false}
+use mathlib.Core.Bool.{Bool, false}
 use mathlib.Core.List.{List}
 use lib.ListN.{length, take, replicate}
 use Rattle.base.specs.Lists.{padded}
@@ -21,10 +21,6 @@ use Rattle.delay_hold.specs.Steps5To8.{decide, timerOff}
 -- document 02, §9: "One millisecond of samples replaces the 48 of the timer rule and of the seed rule"
 abbrev pub oneMillisecond : (policy : DelayPolicy) → ℕ
 oneMillisecond policy = millisecond (policy .rate)
-
--- a due lowering never waits
-abbrev pub alwaysLower : Bool
-alwaysLower = true
 
 -- a hold with its two lent lists: the times and the lags of its peaks, oldest first, unused places zero
 pub record Held : Type 0 where

@@ -1,5 +1,6 @@
 -- Document 01, "DelayHold", steps 5 to 8: whether the delay changes, and to what. Assumes nothing.
--- `millisecond` is document 01's 48 samples, at another rate as many as it has in a millisecond; `mayLower` says whether a due lowering happens at this call or waits.
+-- `millisecond` is document 01's 48 samples, at another rate as many as it has in a millisecond. `mayLower` says whether a due lowering happens at this call or waits (document 02, §7: "the timer and
+-- its highest need go on"); a raise never waits.
 use Prim.Native.Nat.{ℕ, _+_, _-_, _/_, max}
 use mathlib.Core.Bool.{Bool, true, false, not, _&&_, _||_}
 use lib.Dec.{ltb, leb}
@@ -83,7 +84,8 @@ abbrev pub heldSince : Moment → (hold time : ℕ) → Bool
 heldSince Never hold time = true
 heldSince (At t) hold time = leb hold (time - t)
 
--- 8. "Once it and the last change (if any) are at least hold old: timer off, lower to that highest."
+-- 8. "Once it and the last change (if any) are at least hold old: timer off, lower to that highest." Where a recording runs, "a due lowering waits:
+-- the timer and its highest need go on"
 unfoldable pub lowering : (mayLower : Bool) (h : DelayHold) (need hold time : ℕ) → Next
 lowering mayLower h need hold time =
     let timer : LowerTimer = timerMet (h .lower) need time in

@@ -19,8 +19,6 @@ use super::steps_1_to_3::in_startup;
 use base::most;
 use policy::DelayPolicy;
 
-// A lowering that is due happens at once.
-pub const ALWAYS_LOWER: bool = true;
 
 // A fresh hold.
 pub fn fresh() -> DelayHold

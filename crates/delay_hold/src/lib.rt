@@ -199,7 +199,8 @@ impl DelayHold {
 
     // `next` by value: the new delay for an input with delay `current`, or that it stays, with the hold and the lists after it.
     // `p999` is the arrival lag's 99.9th percentile (none before a second of lags), `max_lag` the highest lag of the
-    // blocks since the last call, `width` the bucket width. A refusal leaves hold and lists as they were.
+    // blocks since the last call, `width` the bucket width. Inside a recording window (`in_window`) a lowering that is due waits. A refusal leaves hold and
+    // lists as they were.
     pub fn decide_next(
         self,
         times: &mut [u64],
@@ -210,8 +211,9 @@ impl DelayHold {
         policy: DelayPolicy,
         width: u32,
         time: u64,
+        in_window: bool,
     ) -> Answered
-        ensures { λ r. ⌜ leftHold (r .answer) (r .hold) (now (times .exit)) (now (lags .exit)) ≡ nextReply policy width (held self (now (times .entry)) (now (lags .entry))) p999 «max_lag» current time ⌝ }
+        ensures { λ r. ⌜ leftHold (r .answer) (r .hold) (now (times .exit)) (now (lags .exit)) ≡ nextReply policy width (held self (now (times .entry)) (now (lags .entry))) p999 «max_lag» current time «in_window» ⌝ }
     {
         let number = self.next_number(times, lags, p999, current, policy, width, time);
         if number != 0 {
@@ -229,7 +231,7 @@ impl DelayHold {
             current,
             policy,
             time,
-            core::ALWAYS_LOWER,
+            !in_window,
         );
         let hold = next.hold;
         let change = next.change;
@@ -256,8 +258,9 @@ impl DelayHold {
         policy: DelayPolicy,
         width: u32,
         time: u64,
+        in_window: bool,
     ) -> Answer
-        ensures { λ r. ⌜ leftHold r (now (self .exit)) (now (times .exit)) (now (lags .exit)) ≡ nextReply policy width (held (now (self .entry)) (now (times .entry)) (now (lags .entry))) p999 «max_lag» current time ⌝ }
+        ensures { λ r. ⌜ leftHold r (now (self .exit)) (now (times .exit)) (now (lags .exit)) ≡ nextReply policy width (held (now (self .entry)) (now (times .entry)) (now (lags .entry))) p999 «max_lag» current time «in_window» ⌝ }
     {
         let n = DelayHold::decide_next(
             *self,
@@ -269,6 +272,7 @@ impl DelayHold {
             policy,
             width,
             time,
+            in_window,
         );
         *self = n.hold;
         n.answer

@@ -1,5 +1,6 @@
 -- An accepted file given to `new`: its flows have room, and stand in the table in the file's order. Assumes nothing.
 use Prim.Native.Nat.{ℕ, _+_, _*_, _/_, _%_, _<_}
+use mathlib.Core.Bool.{true}
 use mathlib.Core.Path.{_≡_, refl, sym, ap, ap₂, _∙_}
 use mathlib.Core.List.{List}
 use native.Mathlib.Omega.{arith}
@@ -7,7 +8,8 @@ use lib.ListN.{length, getD, take}
 use lib.Seq.{getD-take}
 use borrow.Author.Tests.{eq-eqb}
 use Rattle.base.specs.Lists.{padded, listed}
-use Rattle.base.proofs.Choices.{lt-yes, accepted-all, accepted-new}
+use Rattle.base.proofs.Choices.{lt-yes, accepted-all, accepted-new, yes-ask}
+use Rattle.recording.specs.Recording.{weekFits}
 use Rattle.base.proofs.Listed.{listed-length, listed-padded}
 use Rattle.base.proofs.Pads.{take-padded}
 use Rattle.base.proofs.Tests.{not-both}
@@ -159,12 +161,17 @@ module _ (version head : ℕ) (file : List ℕ) {places delays-lent : ℕ} (r : 
             none = λ k m. ap (λ (x : FlowEntry). x .remembered) (new-checked settings kinds bytes delays time l words h .whole .flows .unused k (omega (arith, count)));
           }
 
+      -- its week is that of the settings
+      fresh-week : weekFits (fresh .week) ≡ true
+      unfolding blankFor blank
+      fresh-week = ap (λ (z : Inputs). weekFits (z .week)) (new-rest settings kinds bytes delays time l words h) ∙ accepted-of settings l words bytes delays time h .3
+
       -- and its file is written
       pub comes-back : (rate : ℕ) → AllBytes file → Rated head rate file → (out : List ℕ) → length out ≡ head + 1280
           → writeReply version head rate fresh left out ≡ record { number = 0; length = length file; file = padded (head + 1280) file }
       comes-back rate small rated out long =
           write-reply-accepted version head rate fresh left out
-          (of-checked fresh left (Bytes (length out) (head + 1280)) (new-checked settings kinds bytes delays time l words h) (eq-eqb _ _ long) 0)
+          (of-checked fresh left (Bytes (length out) (head + 1280)) (new-checked settings kinds bytes delays time l words h) (eq-eqb _ _ long) _ ∙ yes-ask 22 0 fresh-week)
           ∙ (λ t. record { number = 0; length = so-long t; file = padded (head + 1280) (written t) })
         where
           so-long : head + heldCount (fresh .flows) * 20 ≡ length file

@@ -149,7 +149,7 @@ module _ (s : Inputs) (l : Lists) (whole : Whole s l) where
 -- ---- what the writer leaves
 module _ (version head rate : ℕ) (s : Inputs) (l : Lists) (out : List ℕ) (z : writeNumber head s l (length out) ≡ 0) where
   pub whole-written : Whole s l
-  whole-written = settings-told s l (Bytes (length out) (head + 1280)) 0 z .0 .whole
+  whole-written = settings-told s l (Bytes (length out) (head + 1280)) _ z .0 .whole
 
   -- up to the answered length it is the file of the table
   pub file-left : fileWritten (writeReply version head rate s l out) ≡ tableFile version head rate (s .flows)

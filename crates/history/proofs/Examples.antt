@@ -3,7 +3,7 @@
 use Prim.Native.Nat.{ℕ, zero, suc, _+_, _*_, _≤_}
 use mathlib.Core.Logic.{inl}
 use mathlib.Core.Path.{_≡_, refl}
-use mathlib.Core.Bool.{false}
+use mathlib.Core.Bool.{false, true}
 use mathlib.Core.List.{List, [], _∷_, _++_}
 use native.Mathlib.Omega.{arith}
 use lib.IntN.{negsuc}
@@ -33,12 +33,12 @@ abbrev small : DelayPolicy
 small = record { «read_offset» = 480; «delay_max» = 4800; hold = 0; window = nanos; margin = 96; «margin_share» = fin false 1 (negsuc 0); rate = 48_000 }
 
 abbrev late : Tick
-late = tickOf 0 (4000 ∷ [])
+late = tickOf 0 (4000 ∷ []) true
 
 -- n ticks from t on, 5 s apart
 abbrev calm : ℕ → ℕ → List Tick
 calm zero t = []
-calm (suc n) t = tickOf t (480 ∷ []) ∷ calm n (t + 5 * nanos)
+calm (suc n) t = tickOf t (480 ∷ []) true ∷ calm n (t + 5 * nanos)
 
 -- the delay after the late tick and n calm ones
 abbrev after-calm : ℕ → ℕ
@@ -56,7 +56,7 @@ brief = record { «read_offset» = 480; «delay_max» = 4800; hold = 1; window =
 
 -- a tick with one lag, at so many seconds
 abbrev tickAt : (second lag : ℕ) → Tick
-tickAt second lag = tickOf (second * nanos) (lag ∷ [])
+tickAt second lag = tickOf (second * nanos) (lag ∷ []) true
 
 -- a lag of 4,000, one of 2,000 a second later, then 480 from that time on, 20 s long: the delay is still the need of 2,000's bucket, far above that of 480's
 slow : delayOf brief 480 (runningTicks (tickAt 0 4000 ∷ tickAt 1 2000 ∷ tickAt 1 480 ∷ tickAt 6 480 ∷ tickAt 11 480 ∷ tickAt 16 480 ∷ tickAt 21 480 ∷ [])) ∷ needOf brief (bucketEnd brief 480 480) ∷ [] ≡ 2976 ∷ 816 ∷ []
@@ -91,7 +91,7 @@ allowed =
     }
 
 abbrev first : Tick
-first = tickOf (5 * nanos) (480 ∷ [])
+first = tickOf (5 * nanos) (480 ∷ []) true
 
 accepted : Accepted small 480 (runningTicks (late ∷ []) ++ runningTicks (first ∷ calm 7 (10 * nanos)))
 unfolding history after freshView tickedView p999Of thousandths pushedAll pushed laid counted dropped opened inUse padded fresh bucketsOf newestOf

@@ -6,7 +6,7 @@ use mathlib.Core.List.{List}
 use Rattle.policy.specs.declared.DelayPolicy.{DelayPolicy}
 use Rattle.rules_window.specs.Window.{Window, pushedAll}
 use Rattle.delay_hold.specs.Step4Peaks.{worstOf}
-use Rattle.delay_hold.specs.Next.{Held, Decided, nextOf, delayAfter, oneMillisecond, alwaysLower}
+use Rattle.delay_hold.specs.Next.{Held, Decided, nextOf, delayAfter, oneMillisecond}
 use Rattle.rules_tick.specs.AutoDelay.{p999Of}
 
 -- what all calls of a list keep: the policy of `new` and the samples of a millisecond
@@ -33,9 +33,8 @@ pub record Tick : Type 0 where
   pub lags : List ℕ
   pub mayLower : Bool
 
--- document 01's: a due lowering never waits
-abbrev pub tickOf : (time : ℕ) (lags : List ℕ) → Tick
-tickOf time lags = record { time = time; lags = lags; mayLower = alwaysLower }
+abbrev pub tickOf : (time : ℕ) (lags : List ℕ) (mayLower : Bool) → Tick
+tickOf time lags mayLower = record { time = time; lags = lags; mayLower = mayLower }
 
 -- what `next` decides at a tick, after its lags are pushed: "current is .. the delay"
 abbrev pub decidedAt : (rules : Rules) (view : InputView) (tick : Tick) → Decided

@@ -19,7 +19,7 @@ use Rattle.delay_hold.specs.declared.Change.the-variants.{Keep, To}
 use Rattle.delay_hold.specs.declared.DelayHold.{DelayHold}
 use Rattle.delay_hold.specs.declared.Answer.the-variants.{Refused}
 use Rattle.delay_hold.specs.Steps5To8.{timerOff}
-use Rattle.delay_hold.specs.Next.{Held, held, Decided, nextOf, freshHold, oneMillisecond, alwaysLower}
+use Rattle.delay_hold.specs.Next.{Held, held, Decided, nextOf, freshHold, oneMillisecond}
 use Rattle.delay_hold.specs.Checks.{newReply, nextNumber, nextReply}
 
 abbrev pub settingsAt : (rate : ℕ) → DelayPolicy
@@ -42,14 +42,14 @@ timing since highest = record { on = true; since = since; highest = highest }
 
 -- steps 1 to 8 on a hold without peaks, or with these
 abbrev pub nextWith : (h : DelayHold) (times lags : List ℕ) (p999 largest : Lag) (current time : ℕ) → Decided
-nextWith h times lags p999 largest current time = nextOf (oneMillisecond settings) alwaysLower settings (held h times lags) p999 largest current time
+nextWith h times lags p999 largest current time = nextOf (oneMillisecond settings) true settings (held h times lags) p999 largest current time
 
 abbrev pub next : (h : DelayHold) (p999 largest : Lag) (current time : ℕ) → Decided
 next h p999 largest current time = nextWith h [] [] p999 largest current time
 
 -- the same without peaks at 96,000
 abbrev pub nextAt96000 : (h : DelayHold) (p999 largest : Lag) (current time : ℕ) → Decided
-nextAt96000 h p999 largest current time = nextOf (oneMillisecond (settingsAt 96_000)) alwaysLower (settingsAt 96_000) (held h [] []) p999 largest current time
+nextAt96000 h p999 largest current time = nextOf (oneMillisecond (settingsAt 96_000)) true (settingsAt 96_000) (held h [] []) p999 largest current time
 
 -- 600 places with these numbers first
 abbrev pub places : (first : List ℕ) (rest : ℕ) → List ℕ
@@ -230,7 +230,7 @@ PeaksSpanLessThanWindow =
 
 -- "a no ends it with that number, .. record and buffers unchanged": p999 480 would be a peak
 abbrev pub RefusalLeavesTheLists : Type 0
-RefusalLeavesTheLists = nextReply settings 48 fresh (Of 480) None 4801 1_000_000_000 ≡ record { answer = Refused 15; held = fresh }
+RefusalLeavesTheLists = nextReply settings 48 fresh (Of 480) None 4801 1_000_000_000 false ≡ record { answer = Refused 15; held = fresh }
 
 -- "the making of a window or hold, which writes every lent place"
 abbrev pub NewZeroesBothLists : Type 0

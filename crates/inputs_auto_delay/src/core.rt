@@ -56,7 +56,7 @@ pub fn late_event(policy: DelayPolicy, slot: Slot, applied: u32, max_lag: Lag) -
     inputs_slots::with_late(slot, steps::late_events(slot, late), late)
 }
 
-// The automatic delay of input i decides on the largest lag of the tick. Of its window it reads the starts and the row of sums alone.
+// The automatic delay of input i decides on the largest lag of the tick; a lowering that is due waits where it may not happen now. Of its window it reads the starts and the row of sums alone.
 pub fn auto_delay(
     inputs: Inputs,
     i: usize,
@@ -68,10 +68,11 @@ pub fn auto_delay(
     peaks: &mut [u32],
     commands: &mut [u32],
     used: usize,
+    may_lower: bool,
 ) -> Sent
     requires { ⌜ AutoAsked inputs i (now starts) (now sums) (now times) (now peaks) ⌝ }
     requires { ⌜ used + 3 ≤ length (now commands) ⌝ }
-    ensures { λ r. ⌜ ((totals counts : List ℕ) → OwnSums inputs (lists (now (starts .entry)) totals counts (now (sums .entry)) (now (times .entry)) (now (peaks .entry))) i (slotAt inputs i) → Effected 3 (autoDelayed i «max_lag» time inputs (lists (now (starts .entry)) totals counts (now (sums .entry)) (now (times .entry)) (now (peaks .entry)))) r (lists (now (starts .entry)) totals counts (now (sums .entry)) (now (times .exit)) (now (peaks .exit))) (now (commands .entry)) (now (commands .exit)) used) ⌝ }
+    ensures { λ r. ⌜ ((totals counts : List ℕ) → OwnSums inputs (lists (now (starts .entry)) totals counts (now (sums .entry)) (now (times .entry)) (now (peaks .entry))) i (slotAt inputs i) → Effected 3 (autoDelayed i «max_lag» time «may_lower» inputs (lists (now (starts .entry)) totals counts (now (sums .entry)) (now (times .entry)) (now (peaks .entry)))) r (lists (now (starts .entry)) totals counts (now (sums .entry)) (now (times .exit)) (now (peaks .exit))) (now (commands .entry)) (now (commands .exit)) used) ⌝ }
 {
     let slot = inputs_slots::slot_at(inputs, i);
     let state = slot.state;
@@ -88,7 +89,18 @@ pub fn auto_delay(
     if !inputs_slots::automatic(slot) {
         return Sent { inputs, used };
     }
-    let next = steps::next_for(inputs, slot, i, max_lag, time, starts, sums, times, peaks);
+    let next = steps::next_for(
+        inputs,
+        slot,
+        i,
+        max_lag,
+        time,
+        starts,
+        sums,
+        times,
+        peaks,
+        may_lower,
+    );
     let hold = next.hold;
     let change = next.change;
     let decided = inputs_slots::with_hold(slot, hold);

@@ -112,7 +112,7 @@ fn current(slot: Slot) -> u32
     delay
 }
 
-// What the hold of input i, whose slot this is, decides.
+// What the hold of input i, whose slot this is, decides; a lowering that is due waits where it may not happen now.
 pub(crate) fn next_for(
     inputs: Inputs,
     slot: Slot,
@@ -123,9 +123,10 @@ pub(crate) fn next_for(
     sums: &[u64],
     times: &mut [u64],
     peaks: &mut [u32],
+    may_lower: bool,
 ) -> Next
     requires { ⌜ (slot ≡ slotAt inputs i) × AutoAsked inputs i (now starts) (now sums) (now times) (now peaks) ⌝ }
-    ensures { λ r. ⌜ ((totals counts : List ℕ) → OwnSums inputs (lists (now (starts .entry)) totals counts (now (sums .entry)) (now (times .entry)) (now (peaks .entry))) i (slotAt inputs i) → Answered i (nextFor i «max_lag» time inputs (lists (now (starts .entry)) totals counts (now (sums .entry)) (now (times .entry)) (now (peaks .entry)))) r (lists (now (starts .entry)) totals counts (now (sums .entry)) (now (times .entry)) (now (peaks .entry))) (lists (now (starts .entry)) totals counts (now (sums .entry)) (now (times .exit)) (now (peaks .exit)))) ⌝ }
+    ensures { λ r. ⌜ ((totals counts : List ℕ) → OwnSums inputs (lists (now (starts .entry)) totals counts (now (sums .entry)) (now (times .entry)) (now (peaks .entry))) i (slotAt inputs i) → Answered i (nextFor i «max_lag» time «may_lower» inputs (lists (now (starts .entry)) totals counts (now (sums .entry)) (now (times .entry)) (now (peaks .entry)))) r (lists (now (starts .entry)) totals counts (now (sums .entry)) (now (times .entry)) (now (peaks .entry))) (lists (now (starts .entry)) totals counts (now (sums .entry)) (now (times .exit)) (now (peaks .exit)))) ⌝ }
 {
     let policy = inputs.policy;
     let hold = slot.hold;
@@ -141,7 +142,7 @@ pub(crate) fn next_for(
         current(slot),
         policy,
         time,
-        delay_hold::core::ALWAYS_LOWER,
+        may_lower,
     )
 }
 

@@ -105,7 +105,7 @@ pub fn checks(
     first_refused(inputs, starts, totals, counts, sums, times, peaks, output)
 }
 
-// The number of the first of checks 1 to 8 that says no, or 0, of a call on one input that takes so many words of commands.
+// The number of the first of checks 1 to 8 and 22 that says no, or 0, of a call on one input that takes so many words of commands.
 pub fn input_checks(
     inputs: Inputs,
     input: usize,
@@ -138,6 +138,10 @@ pub fn input_checks(
     }
     if base::TIME_LIMIT < time {
         return 8;
+    }
+    let week = inputs.week;
+    if !recording::week_fits(week) {
+        return 22;
     }
     0
 }

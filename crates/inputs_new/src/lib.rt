@@ -2,6 +2,9 @@
 ghost use mathlib.Core.Path.{_≡_};
 ghost use Prim.Native.Nat.{_*_};
 ghost use lib.Dec.{eqb};
+ghost use Rattle.base.specs.Choice.{ask};
+ghost use Rattle.base.specs.Limits.{timely};
+ghost use Rattle.recording.specs.Recording.{weekFits};
 ghost use Rattle.rules_record.specs.Lent.{lists};
 ghost use Rattle.rules_record.specs.Reply.{leftInputs};
 ghost use Rattle.rules_calls.specs.NewRecord.{policyOf, blank, blankFor, noInputs};
@@ -9,6 +12,7 @@ ghost use Rattle.rules_calls.specs.NewStart.{zeroedLists};
 ghost use Rattle.rules_calls.specs.NewChecks.{marginFits, settingsNumber};
 ghost use Rattle.rules_calls.specs.NewReply.{newReply};
 use policy::DelayPolicy;
+use recording::Week;
 use rules_calls::Settings;
 use rules_record::ExtraDelay;
 use rules_record::Flow;
@@ -38,8 +42,15 @@ fn policy_of(settings: Settings) -> DelayPolicy
 }
 
 // Every place of the three tables is unused.
-fn blank(count: usize, policy: DelayPolicy, width: u32, stall: u64, confirm: bool) -> Inputs
-    ensures { λ r. ⌜ r ≡ blank count policy width stall confirm ⌝ }
+fn blank(
+    count: usize,
+    policy: DelayPolicy,
+    width: u32,
+    stall: u64,
+    confirm: bool,
+    week: Week,
+) -> Inputs
+    ensures { λ r. ⌜ r ≡ blank count policy width stall confirm week ⌝ }
 {
     let slot = inputs_slots::empty_slot();
     let slots = [slot; 16];
@@ -61,6 +72,7 @@ fn blank(count: usize, policy: DelayPolicy, width: u32, stall: u64, confirm: boo
         unsaved: false,
         instances,
         instance_count: 0,
+        week,
     }
 }
 
@@ -68,12 +80,14 @@ fn blank_for(settings: Settings) -> Inputs
     ensures { λ r. ⌜ r ≡ blankFor settings ⌝ }
 {
     let policy = policy_of(settings);
+    let week = settings.week;
     blank(
         settings.count,
         policy,
         settings.width,
         settings.stall,
         settings.confirm,
+        week,
     )
 }
 
@@ -90,7 +104,8 @@ fn no_inputs() -> Inputs
         margin_share: 0.0,
         rate: 0,
     };
-    blank(0, policy, 0, 0, false)
+    let week = recording::no_windows();
+    blank(0, policy, 0, 0, false, week)
 }
 
 // ---- the checks
@@ -178,6 +193,19 @@ fn settings_number(
     0
 }
 
+// The number of the first of checks 8 and 22 that says no, or 0.
+fn time_number(time: u64, week: Week) -> u32
+    ensures { λ r. ⌜ r ≡ ask 8 (timely time) (ask 22 (weekFits week) 0) ⌝ }
+{
+    if base::TIME_LIMIT < time {
+        return 8;
+    }
+    if !recording::week_fits(week) {
+        return 22;
+    }
+    0
+}
+
 // ---- the call
 fn zero_lists(
     starts: &mut [u64],
@@ -233,10 +261,12 @@ pub fn new(
             inputs: none,
         };
     }
-    if base::TIME_LIMIT < time {
+    let week = settings.week;
+    let early = time_number(time, week);
+    if early != 0 {
         let none = no_inputs();
         return InputsAnswer {
-            number: 8,
+            number: early,
             inputs: none,
         };
     }

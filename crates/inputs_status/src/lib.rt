@@ -77,6 +77,10 @@ fn status_number(
     if number != 0 {
         return number;
     }
+    let week = inputs.week;
+    if !recording::week_fits(week) {
+        return 22;
+    }
     let policy = inputs.policy;
     if policy.delay_max < applied {
         return 10;
@@ -104,6 +108,10 @@ fn channels_number(
     if number != 0 {
         return number;
     }
+    let week = inputs.week;
+    if !recording::week_fits(week) {
+        return 22;
+    }
     if CHANNELS < channels {
         return 10;
     }
@@ -129,6 +137,10 @@ fn settled_number(
     }
     if base::TIME_LIMIT < time {
         return 8;
+    }
+    let week = inputs.week;
+    if !recording::week_fits(week) {
+        return 22;
     }
     0
 }

@@ -10,7 +10,7 @@ use rules_record::Inputs;
 use rules_record::Sent;
 use rules_tick::Look;
 
-// All inputs in order.
+// All inputs in order; a lowering that is due waits where it may not happen now.
 pub(crate) fn tick_inputs(
     inputs: Inputs,
     looks: [Look; 16],
@@ -23,10 +23,11 @@ pub(crate) fn tick_inputs(
     times: &mut [u64],
     peaks: &mut [u32],
     commands: &mut [u32],
+    may_lower: bool,
 ) -> Sent
     requires { ⌜ InputsAsked inputs (lists (now starts) (now totals) (now counts) (now sums) (now times) (now peaks)) looks (now lags) time ⌝ }
     requires { ⌜ inputs .count * 9 ≤ length (now commands) ⌝ }
-    ensures { λ r. ⌜ Effected (inputs .count * 9) (tickedBelow (inputs .count) looks (now (lags .entry)) time inputs (lists (now (starts .entry)) (now (totals .entry)) (now (counts .entry)) (now (sums .entry)) (now (times .entry)) (now (peaks .entry)))) r (lists (now (starts .exit)) (now (totals .exit)) (now (counts .exit)) (now (sums .exit)) (now (times .exit)) (now (peaks .exit))) (now (commands .entry)) (now (commands .exit)) 0 ⌝ }
+    ensures { λ r. ⌜ Effected (inputs .count * 9) (tickedBelow (inputs .count) looks (now (lags .entry)) time «may_lower» inputs (lists (now (starts .entry)) (now (totals .entry)) (now (counts .entry)) (now (sums .entry)) (now (times .entry)) (now (peaks .entry)))) r (lists (now (starts .exit)) (now (totals .exit)) (now (counts .exit)) (now (sums .exit)) (now (times .exit)) (now (peaks .exit))) (now (commands .entry)) (now (commands .exit)) 0 ⌝ }
 {
     let mut all = inputs;
     let mut used: usize = 0;
@@ -49,6 +50,7 @@ pub(crate) fn tick_inputs(
             peaks,
             commands,
             used,
+            may_lower,
         );
         let after = sent.inputs;
         all = after;

@@ -14,7 +14,7 @@ pub use rules_tick::TickAnswer;
 mod each;
 mod fits;
 
-// The number of the first of checks 1 to 6, 8, 10 and 11 that says no, or 0. The record's tables have their places, as in every value of its type.
+// The number of the first of checks 1 to 6, 8, 22, 10 and 11 that says no, or 0. The record's tables have their places, as in every value of its type.
 fn tick_number(
     inputs: Inputs,
     looks: [Look; 16],
@@ -27,8 +27,9 @@ fn tick_number(
     times: &[u64],
     peaks: &[u32],
     words: usize,
+    minute: u32,
 ) -> u32
-    ensures { λ r. ⌜ r ≡ tickNumber inputs (lists (now (starts .entry)) (now (totals .entry)) (now (counts .entry)) (now (sums .entry)) (now (times .entry)) (now (peaks .entry))) words looks (now (lags .entry)) time ⌝ }
+    ensures { λ r. ⌜ r ≡ tickNumber inputs (lists (now (starts .entry)) (now (totals .entry)) (now (counts .entry)) (now (sums .entry)) (now (times .entry)) (now (peaks .entry))) words looks (now (lags .entry)) time minute ⌝ }
     ensures { λ _. ⌜ Sized inputs ⌝ }
 {
     let number = inputs_checks::checks(
@@ -47,6 +48,13 @@ fn tick_number(
     if base::TIME_LIMIT < time {
         return 8;
     }
+    let week = inputs.week;
+    if !recording::week_fits(week) {
+        return 22;
+    }
+    if !recording::minute_fits(minute) {
+        return 22;
+    }
     if !fits::looks_fit(inputs, looks) {
         return 10;
     }
@@ -59,7 +67,7 @@ fn tick_number(
     0
 }
 
-// All inputs in order: their lags arrive, they open or watch, and their automatic delays decide. Then the instances that no input reads go, and the unsaved mark is reported and cleared. The lags of input 0 stand first.
+// All inputs in order: their lags arrive, they open or watch, and their automatic delays decide. Then the instances that no input reads go, and the unsaved mark is reported and cleared. The lags of input 0 stand first. Inside a recording window, by the minute of the week, a lowering that is due waits.
 pub fn tick(
     inputs: Inputs,
     looks: [Look; 16],
@@ -72,8 +80,9 @@ pub fn tick(
     times: &mut [u64],
     peaks: &mut [u32],
     commands: &mut [u32],
+    minute: u32,
 ) -> TickAnswer
-    ensures { λ r. ⌜ told r (lists (now (starts .exit)) (now (totals .exit)) (now (counts .exit)) (now (sums .exit)) (now (times .exit)) (now (peaks .exit))) (now (commands .exit)) ≡ tickLeaves inputs (lists (now (starts .entry)) (now (totals .entry)) (now (counts .entry)) (now (sums .entry)) (now (times .entry)) (now (peaks .entry))) (now (commands .entry)) looks (now (lags .entry)) time ⌝ }
+    ensures { λ r. ⌜ told r (lists (now (starts .exit)) (now (totals .exit)) (now (counts .exit)) (now (sums .exit)) (now (times .exit)) (now (peaks .exit))) (now (commands .exit)) ≡ tickLeaves inputs (lists (now (starts .entry)) (now (totals .entry)) (now (counts .entry)) (now (sums .entry)) (now (times .entry)) (now (peaks .entry))) (now (commands .entry)) looks (now (lags .entry)) time minute ⌝ }
 {
     let number = tick_number(
         inputs,
@@ -87,6 +96,7 @@ pub fn tick(
         times,
         peaks,
         commands.len(),
+        minute,
     );
     if number != 0 {
         return TickAnswer {
@@ -95,6 +105,8 @@ pub fn tick(
             unsaved: false,
         };
     }
+    let week = inputs.week;
+    let may_lower = !recording::open_at(week, minute);
     base::zero_u32(commands);
     let sent = each::tick_inputs(
         inputs,
@@ -108,6 +120,7 @@ pub fn tick(
         times,
         peaks,
         commands,
+        may_lower,
     );
     let all = sent.inputs;
     let kept = inputs_instances::prune_instances(all, Extra::Nothing);

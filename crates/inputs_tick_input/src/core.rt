@@ -89,7 +89,7 @@ fn moves(slot: Slot, look: Look) -> bool
     }
 }
 
-// Input i: its lags arrive, a late event counts, it opens or watches, and its automatic delay decides.
+// Input i: its lags arrive, a late event counts, it opens or watches, and its automatic delay decides, which may lower it now or not.
 pub fn tick_input(
     inputs: Inputs,
     i: usize,
@@ -104,11 +104,12 @@ pub fn tick_input(
     peaks: &mut [u32],
     commands: &mut [u32],
     used: usize,
+    may_lower: bool,
 ) -> Sent
     requires { ⌜ Sized inputs × (time ≤ timeLimit) ⌝ }
     requires { ⌜ InputAsked inputs (lists (now starts) (now totals) (now counts) (now sums) (now times) (now peaks)) i look (length (now lags)) time ⌝ }
     requires { ⌜ used + 9 ≤ length (now commands) ⌝ }
-    ensures { λ r. ⌜ Effected 9 (tickedInput i look (now (lags .entry)) time inputs (lists (now (starts .entry)) (now (totals .entry)) (now (counts .entry)) (now (sums .entry)) (now (times .entry)) (now (peaks .entry)))) r (lists (now (starts .exit)) (now (totals .exit)) (now (counts .exit)) (now (sums .exit)) (now (times .exit)) (now (peaks .exit))) (now (commands .entry)) (now (commands .exit)) used ⌝ }
+    ensures { λ r. ⌜ Effected 9 (tickedInput i look (now (lags .entry)) time «may_lower» inputs (lists (now (starts .entry)) (now (totals .entry)) (now (counts .entry)) (now (sums .entry)) (now (times .entry)) (now (peaks .entry)))) r (lists (now (starts .exit)) (now (totals .exit)) (now (counts .exit)) (now (sums .exit)) (now (times .exit)) (now (peaks .exit))) (now (commands .entry)) (now (commands .exit)) used ⌝ }
 {
     let arrived = inputs_auto_delay::core::arrive(
         inputs,
@@ -147,6 +148,7 @@ pub fn tick_input(
             peaks,
             commands,
             used,
+            may_lower,
         );
     }
     let seen = look_at(before, i, look, time, commands, used);
@@ -162,5 +164,6 @@ pub fn tick_input(
         peaks,
         commands,
         seen.used,
+        may_lower,
     )
 }

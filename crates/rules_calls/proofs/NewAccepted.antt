@@ -6,6 +6,7 @@ use mathlib.Core.List.{List}
 use native.Mathlib.Omega.{arith}
 use lib.ListN.{length, getD, replicate}
 use borrow.Author.Tests.{leb-true, eqb-true}
+use Rattle.recording.specs.Recording.{weekFits}
 use Rattle.base.specs.Limits.{timeLimit}
 use Rattle.base.proofs.Points.{both-true}
 use Rattle.doubles.specs.Doubles.{samplesOf}
@@ -65,10 +66,10 @@ module _ (settings : Settings) (l : Lists) (words : ℕ) where
       )
 
   pub accepted-of : (bytes delays : List ℕ) (time : ℕ) → newNumber settings bytes delays time l words ≡ 0
-      → Fit settings (length bytes) (length delays) l words × (time ≤ timeLimit) × (loadFits (length delays) bytes delays (blankFor settings) ≡ true)
+      → Fit settings (length bytes) (length delays) l words × (time ≤ timeLimit) × (loadFits (length delays) bytes delays (blankFor settings) ≡ true) × (weekFits (settings .week) ≡ true)
   accepted-of bytes delays time h =
       let told = number-told settings bytes delays time l words h in
-      (fit-of (length bytes) (length delays) 0 (told .0) .0, told .1, told .2)
+      (fit-of (length bytes) (length delays) 0 (told .0) .0, told .1, told .2, told .3)
 
 -- ---- an input as it starts
 abbrev pub startedDelay : ExtraDelay → (policy : DelayPolicy) → ℕ

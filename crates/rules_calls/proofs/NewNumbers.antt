@@ -6,7 +6,9 @@ use mathlib.Core.List.{List}
 use lib.ListN.{length}
 use lib.Dec.{eqb}
 use borrow.Author.Tests.{leb-true, lt-leb, le-leb}
-use Rattle.base.specs.Limits.{timeLimit}
+use Rattle.base.specs.Choice.{ask}
+use Rattle.base.specs.Limits.{timeLimit, timely}
+use Rattle.recording.specs.Recording.{weekFits}
 use Rattle.base.proofs.Choices.{yes-ask, no-ask, asked, same-refusal, by-zero}
 use Rattle.buckets.specs.Ranges.{Ranged}
 use Rattle.buckets.proofs.Told.{ranges-told, ranges-passed, same-ranges}
@@ -51,33 +53,43 @@ module _ (settings : Settings) (bytes delays : ℕ) (l : Lists) (words : ℕ) wh
       let a = settings-asked 0 h in
       yes-ask 1 _ (a .0) ∙ ranges-passed _ _ _ _ (a .1) _ ∙ yes-ask 3 _ (a .2) ∙ yes-ask 4 _ (a .3) ∙ yes-ask 5 _ (a .4) ∙ yes-ask 5 _ (a .5) ∙ yes-ask 5 _ (a .6)
 
--- ---- 8 and 9 after them
+-- ---- 8, 22 and 9 after them
 module _ (settings : Settings) (bytes delays : List ℕ) (time : ℕ) (l : Lists) (words : ℕ) where
   pub number-refused : (settingsNumber settings (length bytes) (length delays) l words 0 ≡ 0 → ⊥) → newNumber settings bytes delays time l words ≡ settingsNumber settings (length bytes) (length delays) l words 0
   unfolding newNumber
   number-refused h = settings-refused settings (length bytes) (length delays) l words h _
 
   module _ (passed : settingsNumber settings (length bytes) (length delays) l words 0 ≡ 0) where
-    -- a late call gets 8, whether its flows have room or not
+    -- 8 and 22 are asked before 9
+    pub number-early : (ask 8 (timely time) (ask 22 (weekFits (settings .week)) 0) ≡ 0 → ⊥) → newNumber settings bytes delays time l words ≡ ask 8 (timely time) (ask 22 (weekFits (settings .week)) 0)
+    unfolding newNumber
+    number-early h = settings-passed settings (length bytes) (length delays) l words passed _ ∙ same-refusal 8 (timely time) (same-refusal 22 (weekFits (settings .week)) (λ none. absurd (none refl))) h
+
+    -- a late call gets 8, whether its week fits and its flows have room or not
     pub number-late : timeLimit < time → newNumber settings bytes delays time l words ≡ 8
     unfolding newNumber
     number-late late = settings-passed settings (length bytes) (length delays) l words passed _ ∙ no-ask 8 _ (lt-leb _ _ late)
 
-    pub number-full : time ≤ timeLimit → loadFits (length delays) bytes delays (blankFor settings) ≡ false → newNumber settings bytes delays time l words ≡ 9
+    pub number-week : time ≤ timeLimit → weekFits (settings .week) ≡ false → newNumber settings bytes delays time l words ≡ 22
     unfolding newNumber
-    number-full soon full = settings-passed settings (length bytes) (length delays) l words passed _ ∙ yes-ask 8 _ (le-leb _ _ soon) ∙ no-ask 9 _ full
+    number-week soon bad = settings-passed settings (length bytes) (length delays) l words passed _ ∙ yes-ask 8 _ (le-leb _ _ soon) ∙ no-ask 22 _ bad
 
-    pub number-none : time ≤ timeLimit → loadFits (length delays) bytes delays (blankFor settings) ≡ true → newNumber settings bytes delays time l words ≡ 0
+    pub number-full : time ≤ timeLimit → weekFits (settings .week) ≡ true → loadFits (length delays) bytes delays (blankFor settings) ≡ false → newNumber settings bytes delays time l words ≡ 9
     unfolding newNumber
-    number-none soon fits = settings-passed settings (length bytes) (length delays) l words passed _ ∙ yes-ask 8 _ (le-leb _ _ soon) ∙ yes-ask 9 _ fits
+    number-full soon week full = settings-passed settings (length bytes) (length delays) l words passed _ ∙ yes-ask 8 _ (le-leb _ _ soon) ∙ yes-ask 22 _ week ∙ no-ask 9 _ full
+
+    pub number-none : time ≤ timeLimit → weekFits (settings .week) ≡ true → loadFits (length delays) bytes delays (blankFor settings) ≡ true → newNumber settings bytes delays time l words ≡ 0
+    unfolding newNumber
+    number-none soon week fits = settings-passed settings (length bytes) (length delays) l words passed _ ∙ yes-ask 8 _ (le-leb _ _ soon) ∙ yes-ask 22 _ week ∙ yes-ask 9 _ fits
 
   -- what number 0 says
-  pub number-told : newNumber settings bytes delays time l words ≡ 0 → (settingsNumber settings (length bytes) (length delays) l words 0 ≡ 0) × (time ≤ timeLimit) × (loadFits (length delays) bytes delays (blankFor settings) ≡ true)
+  pub number-told : newNumber settings bytes delays time l words ≡ 0 → (settingsNumber settings (length bytes) (length delays) l words 0 ≡ 0) × (time ≤ timeLimit) × (loadFits (length delays) bytes delays (blankFor settings) ≡ true) × (weekFits (settings .week) ≡ true)
   unfolding newNumber
   number-told h =
       by-zero (settingsNumber settings (length bytes) (length delays) l words 0)
       (λ e.
       let a = asked 7 _ _ (sym (settings-passed settings (length bytes) (length delays) l words e _) ∙ h) in
-      let b = asked 8 _ _ (a .1) in
-      (e, leb-true _ _ (a .0), b .0))
+      let w = asked 21 _ _ (a .1) in
+      let b = asked 8 _ _ (w .1) in
+      (e, leb-true _ _ (a .0), b .0, w .0))
       (λ e. absurd (e (sym (settings-refused settings (length bytes) (length delays) l words e _) ∙ h)))

@@ -11,6 +11,7 @@ use lib.ListN.{length, getD}
 use borrow.Author.Tests.{lt-ltb, eqb-false}
 use Rattle.base.specs.Choice.{ask}
 use Rattle.base.specs.Limits.{timeLimit}
+use Rattle.recording.specs.Recording.{weekFits}
 use Rattle.base.proofs.Choices.{lt-yes, lt-no, pick-all, by-le, by-bool, by-zero}
 use Rattle.base.proofs.Points.{all-intro}
 use Rattle.buckets.specs.Ranges.{rangesNumber}
@@ -27,7 +28,7 @@ use Rattle.rules_calls.specs.declared.Settings.{Settings}
 use Rattle.rules_calls.specs.NewRecord.{blankFor}
 use Rattle.rules_calls.specs.NewLoading.{loadedFlow, loadedOne, loadedBelow, loadFits}
 use Rattle.rules_calls.specs.NewChecks.{settingsNumber, newNumber}
-use Rattle.rules_calls.proofs.NewNumbers.{number-refused, number-late, number-none}
+use Rattle.rules_calls.proofs.NewNumbers.{number-refused, number-late, number-week, number-none}
 use Rattle.rules_calls.proofs.NewLoaded.{entry-flow, entry-delay, kept-recalled, kept-other, kept-flow, loaded-one-rest, loaded-one-keeps}
 
 -- n flows are known, each at its place with its delay
@@ -128,5 +129,8 @@ full-by-nine settings bytes delays time l words nine =
     not-room : settingsNumber settings (length bytes) (length delays) l words 0 ≡ 0 → loadFits (length delays) bytes delays (blankFor settings) ≡ true → ⊥
     not-room passed fits =
         by-le time timeLimit
-        (λ soon. omega (arith, nine, number-none settings bytes delays time l words passed soon fits))
+        (λ soon.
+        by-bool (weekFits (settings .week))
+        (λ week. omega (arith, nine, number-none settings bytes delays time l words passed soon week fits))
+        (λ bad. omega (arith, nine, number-week settings bytes delays time l words passed soon bad)))
         (λ late. omega (arith, nine, number-late settings bytes delays time l words passed late))

@@ -9,9 +9,11 @@ use lib.ListN.{length, replicate, length-replicate}
 use lib.Seq.{sets}
 use borrow.Author.Tests.{leb-true, not-false}
 use Rattle.base.specs.Choice.{ask}
-use Rattle.base.specs.Limits.{timeLimit, bucketsLimit}
+use Rattle.base.specs.Limits.{timeLimit, timely, bucketsLimit}
 use Rattle.base.proofs.All.{told-no, told-yes}
-use Rattle.base.proofs.Choices.{yes-ask, no-ask}
+use Rattle.recording.specs.Recording.{weekFits}
+use Rattle.recording.specs.declared.Week.{Week}
+use Rattle.base.proofs.Choices.{yes-ask, no-ask, asked}
 use Rattle.base.proofs.Points.{both-true}
 use Rattle.base.proofs.Words.{laid}
 use Rattle.buckets.specs.Ranges.{bucketsOf, rangesNumber, Ranged}
@@ -33,7 +35,7 @@ use Rattle.rules_calls.specs.NewLoading.{loadedBelow, loadFits}
 use Rattle.rules_calls.specs.NewStart.{zeroedLists, startedBelow, started}
 use Rattle.rules_calls.specs.NewChecks.{marginFits, settingsNumber, newNumber}
 use Rattle.rules_calls.specs.NewReply.{newReply}
-use Rattle.rules_calls.proofs.NewNumbers.{number-refused, number-late, number-full, number-none}
+use Rattle.rules_calls.proofs.NewNumbers.{number-refused, number-early, number-full, number-none}
 use Rattle.rules_calls.proofs.NewAccepted.{Fit, fit-of}
 
 -- ---- checks 1 to 5
@@ -93,6 +95,12 @@ module _ (settings : Settings) (bytes delays : ℕ) (l : Lists) (words : ℕ) wh
               pub passed-settings : eqb bytes (delays * 16) ≡ true → 0 ≡ settingsNumber settings bytes delays l words 0
               passed-settings h = sym (passed-words 0 ∙ yes-ask 5 _ h)
 
+-- what 8 and 22 let through
+early-told : (time : ℕ) (week : Week) {k : ℕ} → k ≡ ask 8 (timely time) (ask 22 (weekFits week) 0) → k ≡ 0 → (time ≤ timeLimit) × (weekFits week ≡ true)
+early-told time week e z =
+    let eight = asked 7 _ _ (sym e ∙ z) in
+    (leb-true _ _ (eight .0), asked 21 _ _ (eight .1) .0)
+
 -- ---- the call
 module _ (settings : Settings) (kinds : List ExtraDelay) (bytes delays : List ℕ) (time : ℕ) (l : Lists) (commands : List ℕ) {n : ℕ} (is-settings : n ≡ settingsNumber settings (length bytes) (length delays) l (length commands) 0) where
   module _ {none : Inputs} (is-none : none ≡ noInputs) where
@@ -106,14 +114,15 @@ module _ (settings : Settings) (kinds : List ExtraDelay) (bytes delays : List �
     new-refused h = refused-by n (is-settings ∙ sym (number-refused settings bytes delays time l (length commands) (λ e. h (is-settings ∙ e)))) h
 
     module _ (passed : n ≡ 0) where
-      pub new-late : timeLimit < time → _≡_ {A = Reply} (record { number = 8; inputs = none; lists = l; commands = commands }) (newReply settings kinds bytes delays time l commands)
-      new-late late = refused-by 8 (sym (number-late settings bytes delays time l (length commands) (sym is-settings ∙ passed) late)) (λ e. omega arith)
+      pub new-early : {k : ℕ} → k ≡ ask 8 (timely time) (ask 22 (weekFits (settings .week)) 0) → (k ≡ 0 → ⊥) → _≡_ {A = Reply} (record { number = k; inputs = none; lists = l; commands = commands }) (newReply settings kinds bytes delays time l commands)
+      new-early is-early h = refused-by _ (is-early ∙ sym (number-early settings bytes delays time l (length commands) (sym is-settings ∙ passed) (λ e. h (is-early ∙ e)))) h
 
-      pub new-full : time ≤ timeLimit → {s : Inputs} {fits : Bool} → s ≡ blankFor settings → fits ≡ loadFits (length delays) bytes delays s → not fits ≡ true
+      pub new-full : {k : ℕ} → k ≡ ask 8 (timely time) (ask 22 (weekFits (settings .week)) 0) → k ≡ 0 → {s : Inputs} {fits : Bool} → s ≡ blankFor settings → fits ≡ loadFits (length delays) bytes delays s → not fits ≡ true
           → _≡_ {A = Reply} (record { number = 9; inputs = none; lists = l; commands = commands }) (newReply settings kinds bytes delays time l commands)
-      new-full soon is-blank is-fits full =
+      new-full is-early early is-blank is-fits full =
+          let told = early-told time (settings .week) is-early early in
           refused-by 9
-          (sym (number-full settings bytes delays time l (length commands) (sym is-settings ∙ passed) soon (told-no _ _ (is-fits ∙ ap (loadFits (length delays) bytes delays) is-blank) full)))
+          (sym (number-full settings bytes delays time l (length commands) (sym is-settings ∙ passed) (told .0) (told .1) (told-no _ _ (is-fits ∙ ap (loadFits (length delays) bytes delays) is-blank) full)))
           (λ e. omega arith)
 
   module _ (passed : n ≡ 0) where
@@ -126,14 +135,15 @@ module _ (settings : Settings) (kinds : List ExtraDelay) (bytes delays : List �
     pub start-asked : {zeros : List ℕ} → zeros ≡ replicate (length commands) 0 → (settings .count * 3 ≤ length zeros) × (settings .count ≤ 16)
     start-asked e = (rw (e, length-replicate {A = ℕ} (length commands) 0) (omega (arith, fit .commands-long)), fit .allowed .most)
 
-    pub new-done : time ≤ timeLimit → {s all : Inputs} {fits : Bool} → s ≡ blankFor settings → fits ≡ loadFits (length delays) bytes delays s → not fits ≡ false → (fits ≡ true → all ≡ loadedBelow (length delays) bytes delays s)
+    pub new-done : {k : ℕ} → k ≡ ask 8 (timely time) (ask 22 (weekFits (settings .week)) 0) → k ≡ 0 → {s all : Inputs} {fits : Bool} → s ≡ blankFor settings → fits ≡ loadFits (length delays) bytes delays s → not fits ≡ false → (fits ≡ true → all ≡ loadedBelow (length delays) bytes delays s)
         → {m : Lists} {zeros after : List ℕ} {sent : Sent} → m ≡ zeroedLists l → zeros ≡ replicate (length commands) 0 → Did (settings .count * 3) (startedBelow (settings .count) kinds time all) sent zeros after 0
         → _≡_ {A = Reply} (record { number = n; inputs = sent .inputs; lists = m; commands = after }) (newReply settings kinds bytes delays time l commands)
     unfolding newReply started
-    new-done soon {s} {all} {fits} is-blank is-fits room is-loaded {m} {zeros} {after} {sent} is-zeroed is-zeros did =
+    new-done is-early early {s} {all} {fits} is-blank is-fits room is-loaded {m} {zeros} {after} {sent} is-zeroed is-zeros did =
+        let told = early-told time (settings .week) is-early early in
         reply-accepted noInputs l commands (started settings kinds bytes delays time l) _
         (passed
-        ∙ sym (number-none settings bytes delays time l (length commands) (sym is-settings ∙ passed) soon (told-yes _ _ (is-fits ∙ ap (loadFits (length delays) bytes delays) is-blank) room)))
+        ∙ sym (number-none settings bytes delays time l (length commands) (sym is-settings ∙ passed) (told .0) (told .1) (told-yes _ _ (is-fits ∙ ap (loadFits (length delays) bytes delays) is-blank) room)))
         passed
         (beside (zeroedLists l) (startedBelow (settings .count) kinds time all))
         (ap (λ (z : Inputs). beside (zeroedLists l) (startedBelow (settings .count) kinds time z)) (is-loaded (not-false fits room) ∙ ap (loadedBelow (length delays) bytes delays) is-blank))

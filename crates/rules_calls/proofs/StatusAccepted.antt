@@ -5,6 +5,7 @@ use mathlib.Core.Path.{_≡_, refl, sym, ap, _∙_}
 use native.Mathlib.Omega.{arith}
 use borrow.Author.Tests.{leb-true, eqb-true, le-leb, lt-ltb, eq-eqb}
 use Rattle.base.specs.Limits.{timeLimit}
+use Rattle.recording.specs.Recording.{weekFits}
 use Rattle.base.proofs.Choices.{yes-ask, yes-pick, refused-old}
 use Rattle.base.proofs.Points.{both-true, true-both}
 use Rattle.doubles.specs.Doubles.{msOf}
@@ -36,23 +37,23 @@ use Rattle.rules_calls.specs.HasChannels.{hasChannels}
 use Rattle.rules_calls.specs.Settled.{settledSlot}
 use Rattle.rules_calls.proofs.StatusShows.{all-there}
 
--- ---- a record that was checked is never refused by 1 to 6
-module _ (s : Inputs) (l : Lists) (c : Checked s l) (input : ℕ) (h : input < s .count) where
+-- ---- a record that was checked, with a week that 22 lets through, is never refused by 1 to 6 and 22
+module _ (s : Inputs) (l : Lists) (c : Checked s l) (week : weekFits (s .week) ≡ true) (input : ℕ) (h : input < s .count) where
   input-open : (rest : ℕ) → inputNumber s l Absent input rest ≡ rest
   unfolding inputNumber
   input-open rest = of-checked s l Absent c refl _ ∙ yes-ask 7 rest (lt-ltb _ _ h)
 
   pub status-open : (applied channels : ℕ) → applied ≤ s .policy .«delay_max» → channels ≤ 64 → statusNumber s l input applied channels ≡ 0
   unfolding statusNumber
-  status-open applied channels a b = input-open _ ∙ yes-ask 10 _ (le-leb _ _ a) ∙ yes-ask 10 0 (le-leb _ _ b)
+  status-open applied channels a b = input-open _ ∙ yes-ask 22 _ week ∙ yes-ask 10 _ (le-leb _ _ a) ∙ yes-ask 10 0 (le-leb _ _ b)
 
   pub channels-open : (channels : ℕ) → channels ≤ 64 → channelsNumber s l input channels ≡ 0
   unfolding channelsNumber
-  channels-open channels b = input-open _ ∙ yes-ask 10 0 (le-leb _ _ b)
+  channels-open channels b = input-open _ ∙ yes-ask 22 _ week ∙ yes-ask 10 0 (le-leb _ _ b)
 
   pub settled-open : (time : ℕ) → time ≤ timeLimit → settledNumber s l input time ≡ 0
   unfolding settledNumber
-  settled-open time b = input-open _ ∙ yes-ask 8 0 (le-leb _ _ b)
+  settled-open time b = input-open _ ∙ yes-ask 8 _ (le-leb _ _ b) ∙ yes-ask 22 0 week
 
 -- a refused status is the zero status with its number
 pub status-zero : (s : Inputs) (l : Lists) (input applied channels : ℕ) → (statusNumber s l input applied channels ≡ 0 → ⊥) → statusReply s l input applied channels ≡ noStatus (statusNumber s l input applied channels)

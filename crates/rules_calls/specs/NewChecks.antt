@@ -1,4 +1,4 @@
--- The checks of `new`, in their order: document 01's, with document 02's 23 straight after 1, and 17 and 18 straight after 2. Assumes nothing.
+-- The checks of `new`, in their order: document 01's, with document 02's 23 straight after 1, 17 and 18 straight after 2, and 22 straight after 8. Assumes nothing.
 use Prim.Native.Nat.{ℕ, _*_}
 use mathlib.Core.Bool.{Bool}
 use mathlib.Core.List.{List}
@@ -7,6 +7,7 @@ use lib.ListN.{length}
 use Rattle.base.specs.Choice.{both, ask}
 use Rattle.base.specs.Limits.{timely, samplesLimit}
 use Rattle.buckets.specs.Ranges.{rangesNumber}
+use Rattle.recording.specs.Recording.{weekFits}
 use Rattle.policy.specs.Settings.{percentAllowed}
 use Rattle.rules_record.specs.declared.Output.the-variants.{Words}
 use Rattle.rules_record.specs.Lent.{Lists, bucketsIn}
@@ -32,8 +33,8 @@ settingsNumber settings bytes delays l words rest =
     -- "for `new`, 16 flow bytes to each loaded delay, of any number"
     (ask 5 (eqb bytes (delays * 16)) rest))))))
 
--- 1 23 2 17 18 3 4 5 8 9
+-- 1 23 2 17 18 3 4 5 8 22 9
 unfoldable pub newNumber : (settings : Settings) (bytes delays : List ℕ) (time : ℕ) (l : Lists) (words : ℕ) → ℕ
 newNumber settings bytes delays time l words =
     settingsNumber settings (length bytes) (length delays) l words
-    (ask 8 (timely time) (ask 9 (loadFits (length delays) bytes delays (blankFor settings)) 0))
+    (ask 8 (timely time) (ask 22 (weekFits (settings .week)) (ask 9 (loadFits (length delays) bytes delays (blankFor settings)) 0)))

@@ -4,6 +4,8 @@ use Prim.Native.Nat.{ℕ}
 use lib.IntN.{pos}
 use lib.Ieee.{fin}
 use lib.ListN.{replicate}
+use Rattle.recording.specs.declared.Week.{Week}
+use Rattle.recording.specs.Recording.{noWindows}
 use Rattle.policy.specs.declared.DelayPolicy.{DelayPolicy}
 use Rattle.policy.specs.Settings.{shareOfPercent}
 use Rattle.rules_record.specs.declared.Inputs.{Inputs}
@@ -25,8 +27,8 @@ policyOf settings = record {
 }
 
 -- every place of the three tables is unused
-unfoldable pub blank : (count : ℕ) (policy : DelayPolicy) (width stall : ℕ) (confirm : Bool) → Inputs
-blank count policy width stall confirm = record {
+unfoldable pub blank : (count : ℕ) (policy : DelayPolicy) (width stall : ℕ) (confirm : Bool) (week : Week) → Inputs
+blank count policy width stall confirm week = record {
   count = count;
   policy = policy;
   width = width;
@@ -38,14 +40,15 @@ blank count policy width stall confirm = record {
   unsaved = false;
   instances = replicate 18 noKey;
   «instance_count» = 0;
+  week = week;
 }
 
 unfoldable pub blankFor : Settings → Inputs
-blankFor settings = blank (settings .count) (policyOf settings) (settings .width) (settings .stall) (settings .confirm)
+blankFor settings = blank (settings .count) (policyOf settings) (settings .width) (settings .stall) (settings .confirm) (settings .week)
 
 -- the zero value of a refusal
 unfoldable pub noPolicy : DelayPolicy
 noPolicy = record { «read_offset» = 0; «delay_max» = 0; hold = 0; window = 0; margin = 0; «margin_share» = fin false 0 (pos 0); rate = 0 }
 
 unfoldable pub noInputs : Inputs
-noInputs = blank 0 noPolicy 0 0 false
+noInputs = blank 0 noPolicy 0 0 false noWindows

@@ -1,6 +1,7 @@
 // The calls `new`, `route`, `update`, `confirm_delay`, `status`, `has_channels` and `settled`: their rules and laws (document 01, "Supervision"), and what they are given and answer.
 // No code: the code that is proved equal to them stands in the crates inputs_new, inputs_route, inputs_update and inputs_status.
 use rules_record::AutoTag;
+use recording::Week;
 use rules_record::ExtraDelay;
 use rules_record::Flow;
 
@@ -87,4 +88,6 @@ pub struct Settings {
     pub margin: u32,
     pub percent: f64,
     pub confirm: bool,
+    // When recordings run: no delay is lowered then.
+    pub week: Week,
 }

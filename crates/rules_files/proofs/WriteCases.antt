@@ -1,5 +1,6 @@
 -- The writer's bytes and replies, case by case. Assumes nothing.
 use Prim.Native.Nat.{ℕ, _+_, _-_, _*_, _/_, _%_, _≤_, _<_}
+use mathlib.Core.Bool.{true, false}
 use mathlib.Core.Path.{_≡_, refl, sym, ap, _∙_}
 use mathlib.Core.List.{List}
 use native.Mathlib.Omega.{arith}
@@ -8,14 +9,16 @@ use lib.ListN.{length, getD}
 use borrow.Author.Tests.{eqb-true}
 use Rattle.base.specs.Choice.{pick}
 use Rattle.base.specs.Lists.{padded, listed}
-use Rattle.base.proofs.Choices.{lt-yes, lt-no, lt-rule, by-le, refused-old, accepted-new, accepted-all}
+use Rattle.base.proofs.Choices.{yes-ask, no-ask, lt-yes, lt-no, lt-rule, by-le, refused-old, accepted-new, accepted-all}
+use Rattle.recording.specs.Recording.{weekFits}
+use Rattle.rules_record.specs.Checks.{recordNumber}
 use Rattle.base.proofs.Listed.{listed-at}
 use Rattle.rules_record.specs.declared.FlowEntry.{FlowEntry}
 use Rattle.rules_record.specs.declared.Inputs.{Inputs}
 use Rattle.rules_record.specs.declared.Output.the-variants.{Bytes}
 use Rattle.rules_record.specs.Flows.{emptyEntry, entryIn}
 use Rattle.rules_record.specs.Lent.{Lists}
-use Rattle.rules_record.proofs.Checked.{checked-output}
+use Rattle.rules_record.proofs.Checked.{settings-told, number-passed, number-refused}
 use Rattle.rules_files.specs.Files.{headByte, entryByte, fileByte, fileOf}
 use Rattle.rules_files.specs.Table.{delayOf, heldCount, rankedBelow, sortedFlow, sortedDelay}
 use Rattle.rules_files.specs.WriteFile.{tableFile, writeNumber, LeftByWriter, leftWritten, writeReply}
@@ -60,7 +63,19 @@ module _ (version head rate count : ℕ) (entry : FlowEntry) (i : ℕ) (l : i < 
 
 -- ---- the checks
 pub write-long : (head : ℕ) (s : Inputs) (l : Lists) (bytes : ℕ) → writeNumber head s l bytes ≡ 0 → bytes ≡ head + 1280
-write-long head s l bytes h = eqb-true _ _ (checked-output s l (Bytes bytes (head + 1280)) h)
+write-long head s l bytes h = eqb-true _ _ (settings-told s l (Bytes bytes (head + 1280)) _ h .0 .output-fits)
+
+-- 22 after 1 to 6
+module _ (head : ℕ) (s : Inputs) (l : Lists) (bytes : ℕ) {n : ℕ} (is-record : n ≡ recordNumber s l (Bytes bytes (head + 1280)) 0) where
+  pub write-record : (n ≡ 0 → ⊥) → n ≡ writeNumber head s l bytes
+  write-record h = is-record ∙ sym (number-refused s l (Bytes bytes (head + 1280)) (λ e. h (is-record ∙ e)) _)
+
+  module _ (passed : n ≡ 0) where
+    pub write-week : weekFits (s .week) ≡ false → 22 ≡ writeNumber head s l bytes
+    write-week bad = sym (number-passed s l (Bytes bytes (head + 1280)) (sym is-record ∙ passed) _ ∙ no-ask 22 0 bad)
+
+    pub write-passed : weekFits (s .week) ≡ true → 0 ≡ writeNumber head s l bytes
+    write-passed good = sym (number-passed s l (Bytes bytes (head + 1280)) (sym is-record ∙ passed) _ ∙ yes-ask 22 0 good)
 
 -- ---- the replies
 module _ (version head rate : ℕ) (s : Inputs) (l : Lists) (file : List ℕ) where

@@ -2,8 +2,9 @@
 use Prim.Native.Nat.{ℕ, _+_, _*_}
 use mathlib.Core.List.{List}
 use lib.ListN.{length}
-use Rattle.base.specs.Choice.{accepted}
+use Rattle.base.specs.Choice.{ask, accepted}
 use Rattle.base.specs.Lists.{padded}
+use Rattle.recording.specs.Recording.{weekFits}
 use Rattle.rules_record.specs.declared.FlowEntry.{FlowEntry}
 use Rattle.rules_record.specs.declared.Inputs.{Inputs}
 use Rattle.rules_record.specs.declared.Output.the-variants.{Bytes}
@@ -17,9 +18,9 @@ use Rattle.rules_files.specs.Table.{heldCount, sortedFlow, sortedDelay}
 unfoldable pub tableFile : (version head rate : ℕ) (table : List FlowEntry) → List ℕ
 tableFile version head rate table = fileOf version head rate (heldCount table) (sortedFlow table) (sortedDelay table)
 
--- the checks of a call on a whole supervisor; 5: "The writer's list is 1,287 bytes", which are the head and 64 entries
+-- the checks of a call on a whole supervisor, 1 to 6 and 22 of its week; 5: "The writer's list is 1,287 bytes", which are the head and 64 entries
 abbrev pub writeNumber : (head : ℕ) (s : Inputs) (l : Lists) (bytes : ℕ) → ℕ
-writeNumber head s l bytes = recordNumber s l (Bytes bytes (head + 1280)) 0
+writeNumber head s l bytes = recordNumber s l (Bytes bytes (head + 1280)) (ask 22 (weekFits (s .week)) 0)
 
 -- what a writing leaves
 pub record LeftByWriter : Type 0 where

@@ -1,5 +1,5 @@
--- The checks that every call on a whole supervisor asks: document 01's 1 to 8, with document 02's 23 straight after 1, and 17 and 18 straight after 2. Assumes nothing.
--- Where laws and functions speak of checks 1 to 4, 1 to 5 and so on, 23, 17 and 18 are among them: 1 23 2 17 18 3 4 5 6 7 8.
+-- The checks that every call on a whole supervisor asks: document 01's 1 to 8, with document 02's 23 straight after 1, 17 and 18 straight after 2, and 22 straight after 8. Assumes nothing.
+-- Where laws and functions speak of checks 1 to 4, 1 to 5 and so on, 23, 17 and 18 are among them: 1 23 2 17 18 3 4 5 6 7 8 22.
 use Prim.Native.Nat.{ℕ, _*_, _≤_}
 use mathlib.Core.Bool.{Bool, true, _||_}
 use mathlib.Core.Path.{_≡_}
@@ -9,6 +9,7 @@ use Rattle.base.specs.Choice.{both, ask}
 use Rattle.base.specs.Limits.{nanos, spanLimit, timely, widthLimit, bucketsLimit}
 use Rattle.rates.specs.Rates.{Rated}
 use Rattle.buckets.specs.Ranges.{rangesNumber}
+use Rattle.recording.specs.Recording.{weekFits}
 use Rattle.policy.specs.declared.DelayPolicy.{DelayPolicy}
 use Rattle.policy.specs.Settings.{timesAllowed, marginsAllowed, Sound}
 use Rattle.rules_record.specs.declared.Inputs.{Inputs}
@@ -62,9 +63,9 @@ ownNumber number = eqb number 1 || eqb number 23 || eqb number 2 || eqb number 1
 unfoldable pub inputNumber : (s : Inputs) (l : Lists) (output : Output) (input rest : ℕ) → ℕ
 inputNumber s l output input rest = recordNumber s l output (ask 7 (ltb input (s .count)) rest)
 
--- 1 to 7, with so many words of commands, and 8: "Is the time at most 4 times 10^18"
+-- 1 to 7, with so many words of commands, 8: "Is the time at most 4 times 10^18", and 22 of the stored week: "asked straight after 8"
 unfoldable pub timedNumber : (s : Inputs) (l : Lists) (words input time rest : ℕ) → ℕ
-timedNumber s l words input time rest = inputNumber s l (Words words) input (ask 8 (timely time) rest)
+timedNumber s l words input time rest = inputNumber s l (Words words) input (ask 8 (timely time) (ask 22 (weekFits (s .week)) rest))
 
 -- ---- what they let through
 -- what 1 to 4 let through, as facts

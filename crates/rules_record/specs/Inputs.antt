@@ -28,6 +28,7 @@ withSlots s slots = record {
   unsaved = s .unsaved;
   instances = s .instances;
   «instance_count» = s .«instance_count»;
+  week = s .week;
 }
 
 unfoldable pub putSlot : (s : Inputs) (i : ℕ) (slot : Slot) → Inputs
@@ -46,6 +47,7 @@ withFlows s flows count unsaved = record {
   unsaved = unsaved;
   instances = s .instances;
   «instance_count» = s .«instance_count»;
+  week = s .week;
 }
 
 abbrev pub withInstances : (s : Inputs) (instances : List Instance) (count : ℕ) → Inputs
@@ -61,4 +63,5 @@ withInstances s instances count = record {
   unsaved = s .unsaved;
   instances = instances;
   «instance_count» = count;
+  week = s .week;
 }

@@ -3,6 +3,7 @@
 use delay_hold::DelayHold;
 use delay_hold::Moment;
 use policy::DelayPolicy;
+use recording::Week;
 
 pub enum AutoTag {
     Auto,
@@ -114,6 +115,8 @@ pub struct Inputs {
     pub unsaved: bool,
     pub instances: [Instance; 18],
     pub instance_count: usize,
+    // When recordings run: no delay is lowered then.
+    pub week: Week,
 }
 
 // The record after a step, and how many command words are in use.

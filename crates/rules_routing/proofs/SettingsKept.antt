@@ -23,6 +23,7 @@ underSettings s z = record {
   unsaved = z .unsaved;
   instances = z .instances;
   «instance_count» = z .«instance_count»;
+  week = s .week;
 }
 
 -- z has the settings of s
@@ -52,4 +53,5 @@ settings-frame i s z f = λ t. record {
   unsaved = z .unsaved;
   instances = z .instances;
   «instance_count» = z .«instance_count»;
+  week = f .week t;
 }

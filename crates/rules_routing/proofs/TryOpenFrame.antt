@@ -48,6 +48,7 @@ pub record Frame (i : ℕ) (s z : Inputs) : Type 0 where
   pub width : z .width ≡ s .width
   pub stall : z .stall ≡ s .stall
   pub confirm : z .confirm ≡ s .confirm
+  pub week : z .week ≡ s .week
   pub flow-count : z .«flow_count» ≡ s .«flow_count»
   pub others : (j : ℕ) → (j ≡ i → ⊥) → slotAt z j ≡ slotAt s j
   pub sized : Sized s → Sized z
@@ -63,6 +64,7 @@ module _ (i : ℕ) where
     width = refl;
     stall = refl;
     confirm = refl;
+    week = refl;
     flow-count = refl;
     others = λ j apart. refl;
     sized = λ h. h;
@@ -78,6 +80,7 @@ module _ (i : ℕ) where
     width = g .width ∙ f .width;
     stall = g .stall ∙ f .stall;
     confirm = g .confirm ∙ f .confirm;
+    week = g .week ∙ f .week;
     flow-count = g .flow-count ∙ f .flow-count;
     others = λ j apart. g .others j apart ∙ f .others j apart;
     sized = λ h. g .sized (f .sized h);
@@ -97,6 +100,7 @@ module _ (i : ℕ) where
         width = ap (λ (z : Inputs). z .width) e;
         stall = ap (λ (z : Inputs). z .stall) e;
         confirm = ap (λ (z : Inputs). z .confirm) e;
+        week = ap (λ (z : Inputs). z .week) e;
         flow-count = ap (λ (z : Inputs). z .«flow_count») e;
         others = slot-other s i slot;
         sized = sized-put s i slot;
@@ -117,6 +121,7 @@ module _ (i : ℕ) where
         width = ap (λ (z : Inputs). z .width) e;
         stall = ap (λ (z : Inputs). z .stall) e;
         confirm = ap (λ (z : Inputs). z .confirm) e;
+        week = ap (λ (z : Inputs). z .week) e;
         flow-count = ap (λ (z : Inputs). z .«flow_count») e;
         others = stored-other s i delay time;
         sized = stored-sized s i delay time;
@@ -135,6 +140,7 @@ module _ (i : ℕ) where
         width = ap (λ (z : Inputs). z .width) e;
         stall = ap (λ (z : Inputs). z .stall) e;
         confirm = ap (λ (z : Inputs). z .confirm) e;
+        week = ap (λ (z : Inputs). z .week) e;
         flow-count = ap (λ (z : Inputs). z .«flow_count») e;
         others = λ j apart. slot-pruned s extra j;
         sized = pruned-sized s extra;
@@ -156,6 +162,7 @@ module _ (i : ℕ) where
         width = f .width ∙ ap (λ (z : Inputs). z .width) e;
         stall = f .stall ∙ ap (λ (z : Inputs). z .stall) e;
         confirm = f .confirm ∙ ap (λ (z : Inputs). z .confirm) e;
+        week = f .week ∙ ap (λ (z : Inputs). z .week) e;
         flow-count = f .flow-count ∙ ap (λ (z : Inputs). z .«flow_count») e;
         others = λ j apart. f .others j apart ∙ slot-made s key j;
         sized = λ h. f .sized (made-sized s key h);

@@ -26,7 +26,7 @@ use Rattle.rules_tick.specs.declared.Look.{Look}
 use Rattle.rules_tick.specs.Lags.{windowAfter, lastLag, arrived, largestOf}
 use Rattle.rules_tick.specs.LateEvents.{lateEvents}
 use Rattle.rules_tick.specs.AutoDelay.{currentOf, changing, answered}
-use Rattle.rules_tick.specs.Tick.{tickedAll, ticked}
+use Rattle.rules_tick.specs.Tick.{tickedAll, tickedWith}
 
 -- ---- the lags
 -- the largest lag is that of all the tick's lags: "one beyond it [the limit] hides the rest"
@@ -79,13 +79,13 @@ module _ (i delay time : ℕ) (slot : Slot) (s : Inputs) (low : i < 16) (h : Siz
       ∙ ap (λ (x : Slot). x .«delay_changes») (slot-same s i _ low (h .slots))
 
 -- ---- the end of the tick
-module _ (looks : List Look) (lags : List ℕ) (time : ℕ) (s : Inputs) (l : Lists) where
+module _ (looks : List Look) (lags : List ℕ) (time : ℕ) (mayLower : Bool) (s : Inputs) (l : Lists) where
   -- "the unsaved mark is .. cleared"
-  pub mark-cleared : ticked looks lags time s l .inputs .unsaved ≡ false
-  unfolding ticked
+  pub mark-cleared : tickedWith looks lags time mayLower s l .inputs .unsaved ≡ false
+  unfolding tickedWith
   mark-cleared = refl
 
   -- pruning and saving leave the number of flows that are known
-  pub flows-stay-known : ticked looks lags time s l .inputs .«flow_count» ≡ tickedAll looks lags time s l .inputs .«flow_count»
-  unfolding ticked
-  flows-stay-known = ap (λ (z : Inputs). z .«flow_count») (pruned-rest (tickedAll looks lags time s l .inputs) Extra.Nothing)
+  pub flows-stay-known : tickedWith looks lags time mayLower s l .inputs .«flow_count» ≡ tickedAll looks lags time mayLower s l .inputs .«flow_count»
+  unfolding tickedWith
+  flows-stay-known = ap (λ (z : Inputs). z .«flow_count») (pruned-rest (tickedAll looks lags time mayLower s l .inputs) Extra.Nothing)

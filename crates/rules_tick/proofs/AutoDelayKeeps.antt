@@ -1,6 +1,6 @@
 -- What `auto_delay` leaves: the input's hold and its answer, all else as it was, and a checked record checked. Assumes nothing.
 use Prim.Native.Nat.{ℕ, _+_, _<_, _≤_}
-use mathlib.Core.Bool.{true, false}
+use mathlib.Core.Bool.{Bool, true, false}
 use mathlib.Core.Path.{_≡_, refl, sym, ap, subst, _∙_}
 use native.Mathlib.Omega.{arith}
 use borrow.Author.Tests.{le-leb, eqb-true}
@@ -11,7 +11,7 @@ use Rattle.delay_hold.specs.declared.Lag.{Lag}
 use Rattle.delay_hold.specs.declared.Change.{Change}
 use Rattle.delay_hold.specs.declared.Change.the-variants.{Keep, To}
 use Rattle.delay_hold.specs.Steps5To8.{timerOff, withLower}
-use Rattle.delay_hold.specs.Next.{held, Decided, oneMillisecond, alwaysLower}
+use Rattle.delay_hold.specs.Next.{held, Decided, oneMillisecond}
 use Rattle.delay_hold.specs.Whole.{wholeHold}
 use Rattle.delay_hold.specs.Checks.{AskedFor}
 use Rattle.delay_hold.proofs.Keeps.{ChangeFits, next-keeps-whole, next-keeps-lengths, next-change-fits}
@@ -44,7 +44,7 @@ use Rattle.rules_tick.proofs.Interrupts.{interrupt-keeps-whole}
 use Rattle.rules_routing.proofs.SetDelayKeeps.{stored-keeps}
 
 -- ---- what `next` is asked, and what it keeps
-module _ (i : ℕ) (largest : Lag) (time : ℕ) (s : Inputs) (l : Lists) (r : Ready s l i) where
+module _ (i : ℕ) (largest : Lag) (time : ℕ) (mayLower : Bool) (s : Inputs) (l : Lists) (r : Ready s l i) where
   pub next-asked : AskedFor (s .width) (s .policy) (heldOf s l i) (p999Of (s .policy) (windowOf s l i)) (currentOf (slotAt s i))
   next-asked = record {
     rated = r .fitting .allowed .rated;
@@ -60,25 +60,25 @@ module _ (i : ℕ) (largest : Lag) (time : ℕ) (s : Inputs) (l : Lists) (r : Re
   }
 
   module _ (soon : time ≤ timeLimit) where
-    pub next-whole : wholeHold (s .policy) (s .width) (nextFor i largest time s l .held) ≡ true
+    pub next-whole : wholeHold (s .policy) (s .width) (nextFor i largest time mayLower s l .held) ≡ true
     unfolding nextFor
-    next-whole = next-keeps-whole (oneMillisecond (s .policy)) alwaysLower (s .width) (s .policy) (heldOf s l i) _ largest _ time next-asked soon
+    next-whole = next-keeps-whole (oneMillisecond (s .policy)) mayLower (s .width) (s .policy) (heldOf s l i) _ largest _ time next-asked soon
 
-    pub next-long : (length (nextFor i largest time s l .held .times) ≡ 600) × (length (nextFor i largest time s l .held .lags) ≡ 600)
+    pub next-long : (length (nextFor i largest time mayLower s l .held .times) ≡ 600) × (length (nextFor i largest time mayLower s l .held .lags) ≡ 600)
     unfolding nextFor
-    next-long = next-keeps-lengths (oneMillisecond (s .policy)) alwaysLower (s .width) (s .policy) (heldOf s l i) _ largest _ time next-asked soon
+    next-long = next-keeps-lengths (oneMillisecond (s .policy)) mayLower (s .width) (s .policy) (heldOf s l i) _ largest _ time next-asked soon
 
-    pub next-fits : ChangeFits (s .policy .«delay_max») (nextFor i largest time s l .change)
+    pub next-fits : ChangeFits (s .policy .«delay_max») (nextFor i largest time mayLower s l .change)
     unfolding nextFor
-    next-fits = next-change-fits (oneMillisecond (s .policy)) alwaysLower (s .width) (s .policy) (heldOf s l i) _ largest _ time next-asked soon
+    next-fits = next-change-fits (oneMillisecond (s .policy)) mayLower (s .width) (s .policy) (heldOf s l i) _ largest _ time next-asked soon
 
-    pub next-answer-fits : (delay : ℕ) → nextFor i largest time s l .change ≡ To delay → delay ≤ s .policy .«delay_max»
+    pub next-answer-fits : (delay : ℕ) → nextFor i largest time mayLower s l .change ≡ To delay → delay ≤ s .policy .«delay_max»
     next-answer-fits delay e = subst (ChangeFits (s .policy .«delay_max»)) e next-fits
 
 -- ---- the five ways that `auto_delay` goes
-module _ (i : ℕ) (largest : Lag) (time : ℕ) (s : Inputs) (l : Lists) where
+module _ (i : ℕ) (largest : Lag) (time : ℕ) (mayLower : Bool) (s : Inputs) (l : Lists) where
   abbrev decision : Decided
-  decision = nextFor i largest time s l
+  decision = nextFor i largest time mayLower s l
 
   abbrev slot : Slot
   slot = withHold (slotAt s i) (decision .held .hold)
@@ -93,7 +93,7 @@ module _ (i : ℕ) (largest : Lag) (time : ℕ) (s : Inputs) (l : Lists) where
         (goesOn (slotAt s i) ≡ true → decision .change ≡ Keep → P (silent (putSlot s i slot) lists)) →
         (goesOn (slotAt s i) ≡ true → (delay : ℕ) → decision .change ≡ To delay → s .confirm ≡ true → P (silent (proposing i delay slot s) lists)) →
         (goesOn (slotAt s i) ≡ true → (delay : ℕ) → decision .change ≡ To delay → s .confirm ≡ false → P (beside lists (setDelayOf (changing i slot s) i delay time))) →
-        P (autoDelayed i largest time s l)
+        P (autoDelayed i largest time mayLower s l)
     unfolding autoDelayed decidedFor answered quiet
     auto-rule stalled idle keep propose change =
         pick-rule P (isStalled (slotAt s i .state)) _ _ (λ e. stalled (eqb-true _ _ e))
@@ -104,7 +104,7 @@ module _ (i : ℕ) (largest : Lag) (time : ℕ) (s : Inputs) (l : Lists) where
         by on (To delay) e = pick-rule (λ done. P (beside lists done)) (s .confirm) _ _ (λ h. propose on delay e h) (λ h. change on delay e h)
 
   -- ---- what stays
-  pub auto-other : (j : ℕ) → (j ≡ i → ⊥) → slotAt (autoDelayed i largest time s l .inputs) j ≡ slotAt s j
+  pub auto-other : (j : ℕ) → (j ≡ i → ⊥) → slotAt (autoDelayed i largest time mayLower s l .inputs) j ≡ slotAt s j
   unfolding setDelayOf sendFirst quiet
   auto-other j apart =
       auto-rule (λ effect. slotAt (effect .inputs) j ≡ slotAt s j)
@@ -114,7 +114,7 @@ module _ (i : ℕ) (largest : Lag) (time : ℕ) (s : Inputs) (l : Lists) where
       (λ on delay e h. slot-other s i (withProposed slot (Pending delay)) j apart)
       (λ on delay e h. stored-other (changing i slot s) i delay time j apart ∙ slot-other s i _ j apart)
 
-  pub auto-settings : SameSettings s (autoDelayed i largest time s l .inputs)
+  pub auto-settings : SameSettings s (autoDelayed i largest time mayLower s l .inputs)
   unfolding setDelayOf sendFirst quiet
   auto-settings =
       auto-rule (λ effect. SameSettings s (effect .inputs))
@@ -126,9 +126,9 @@ module _ (i : ℕ) (largest : Lag) (time : ℕ) (s : Inputs) (l : Lists) where
 
   module _ (r : Ready s l i) (soon : time ≤ timeLimit) where
     held-beside : Beside (s .count) (bucketsIn s) i l lists
-    held-beside = beside-held (s .count) (bucketsIn s) i l (r .fitting .long) (r .input) (decision .held) (next-long i largest time s l r soon .0) (next-long i largest time s l r soon .1)
+    held-beside = beside-held (s .count) (bucketsIn s) i l (r .fitting .long) (r .input) (decision .held) (next-long i largest time mayLower s l r soon .0) (next-long i largest time mayLower s l r soon .1)
 
-    pub auto-beside : Beside (s .count) (bucketsIn s) i l (autoDelayed i largest time s l .lists)
+    pub auto-beside : Beside (s .count) (bucketsIn s) i l (autoDelayed i largest time mayLower s l .lists)
     auto-beside =
         auto-rule (λ effect. Beside (s .count) (bucketsIn s) i l (effect .lists))
         (λ e. beside-same (s .count) (bucketsIn s) i l (r .fitting .long))
@@ -138,7 +138,7 @@ module _ (i : ℕ) (largest : Lag) (time : ℕ) (s : Inputs) (l : Lists) where
         (λ on delay e h. held-beside)
 
   -- ---- the counters
-  pub auto-raised : i < 16 → Sized s → Raised 0 1 0 (slotAt s i) (slotAt (autoDelayed i largest time s l .inputs) i)
+  pub auto-raised : i < 16 → Sized s → Raised 0 1 0 (slotAt s i) (slotAt (autoDelayed i largest time mayLower s l .inputs) i)
   unfolding setDelayOf sendFirst quiet
   auto-raised low sized =
       auto-rule (λ effect. Raised 0 1 0 (slotAt s i) (slotAt (effect .inputs) i))
@@ -174,7 +174,7 @@ module _ (i : ℕ) (largest : Lag) (time : ℕ) (s : Inputs) (l : Lists) where
     module _ (new : Slot) (seconds : new .«lag_seconds» ≡ slotAt s i .«lag_seconds») (hold : new .hold ≡ decision .held .hold) (fits : WholeSlot (s .policy .«delay_max») (s .«flow_count») new) where
       decided-keeps : Checked (putSlot s i new) lists
       decided-keeps =
-          hold-keeps s l i new c h fits (decision .held) (next-long i largest time s l ready soon .0) (next-long i largest time s l ready soon .1) (next-whole i largest time s l ready soon) seconds hold
+          hold-keeps s l i new c h fits (decision .held) (next-long i largest time mayLower s l ready soon .0) (next-long i largest time mayLower s l ready soon .1) (next-whole i largest time mayLower s l ready soon) seconds hold
 
     keep-fits : WholeSlot (s .policy .«delay_max») (s .«flow_count») slot
     keep-fits = record { delay = old .delay; proposed = old .proposed; route = old .route; reopens = old .reopens; changes = old .changes; lates = old .lates; head = old .head; set = old .set; opened = old .opened }
@@ -186,16 +186,16 @@ module _ (i : ℕ) (largest : Lag) (time : ℕ) (s : Inputs) (l : Lists) where
     change-fits : slotAt s i .«delay_changes» + 1 < counterLimit → WholeSlot (s .policy .«delay_max») (s .«flow_count») (withDelayChanges slot (slot .«delay_changes» + 1))
     change-fits few = record { delay = old .delay; proposed = old .proposed; route = old .route; reopens = old .reopens; changes = few; lates = old .lates; head = old .head; set = old .set; opened = old .opened }
 
-    pub auto-keeps : slotAt s i .«delay_changes» + 1 < counterLimit → Checked (autoDelayed i largest time s l .inputs) (autoDelayed i largest time s l .lists)
+    pub auto-keeps : slotAt s i .«delay_changes» + 1 < counterLimit → Checked (autoDelayed i largest time mayLower s l .inputs) (autoDelayed i largest time mayLower s l .lists)
     unfolding setDelayOf sendFirst quiet
     auto-keeps few =
         auto-rule (λ effect. Checked (effect .inputs) (effect .lists))
         (λ e. interrupted-keeps)
         (λ e. c)
         (λ on e. decided-keeps slot refl refl keep-fits)
-        (λ on delay e g. decided-keeps (withProposed slot (Pending delay)) refl refl (propose-fits delay (next-answer-fits i largest time s l ready soon delay e)))
+        (λ on delay e g. decided-keeps (withProposed slot (Pending delay)) refl refl (propose-fits delay (next-answer-fits i largest time mayLower s l ready soon delay e)))
         (λ on delay e g.
         stored-keeps (changing i slot s) lists i delay time (decided-keeps (withDelayChanges slot (slot .«delay_changes» + 1)) refl refl (change-fits few))
         (subst (λ (z : Inputs). i < z .count) (sym (settings-put s i _)) h)
-        (subst (λ (z : Inputs). delay ≤ z .policy .«delay_max») (sym (settings-put s i _)) (next-answer-fits i largest time s l ready soon delay e))
+        (subst (λ (z : Inputs). delay ≤ z .policy .«delay_max») (sym (settings-put s i _)) (next-answer-fits i largest time mayLower s l ready soon delay e))
         soon)

@@ -1,6 +1,6 @@
 -- The window, the hold, the delay and the proposal of an input after each step of its tick. Assumes nothing.
 use Prim.Native.Nat.{ℕ, _+_, _*_, _<_, _≤_}
-use mathlib.Core.Bool.{true, false}
+use mathlib.Core.Bool.{Bool, true, false}
 use mathlib.Core.Path.{_≡_, refl, sym, ap, _∙_}
 use mathlib.Core.List.{List, []}
 use native.Mathlib.Omega.{arith}
@@ -75,12 +75,12 @@ module _ (i applied : ℕ) (largest : Lag) (s : Inputs) (l : Lists) (low : i < 1
   late-held = ap (λ (x : Slot). held (x .hold) (part (i * 600) 600 (l .times)) (part (i * 600) 600 (l .peaks))) (late-slot i applied largest s low sized)
 
 -- ---- after `auto_delay`
-module _ (i : ℕ) (largest : Lag) (time : ℕ) (s : Inputs) (l : Lists) (r : Ready s l i) (sized : Sized s) where
+module _ (i : ℕ) (largest : Lag) (time : ℕ) (mayLower : Bool) (s : Inputs) (l : Lists) (r : Ready s l i) (sized : Sized s) where
   low : i < 16
   low = ready-low s l i r
 
   abbrev decision : Decided
-  decision = nextFor i largest time s l
+  decision = nextFor i largest time mayLower s l
 
   abbrev slot : Slot
   slot = withHold (slotAt s i) (decision .held .hold)
@@ -92,10 +92,10 @@ module _ (i : ℕ) (largest : Lag) (time : ℕ) (s : Inputs) (l : Lists) (r : Re
   changed-slot delay =
       stored-same (changing i slot s) i delay time low (sized-put s i _ sized) ∙ ap (λ (x : Slot). withDelay x delay time) (put (withDelayChanges slot (slot .«delay_changes» + 1)))
 
-  seconds-kept : slotAt (autoDelayed i largest time s l .inputs) i .«lag_seconds» ≡ slotAt s i .«lag_seconds»
+  seconds-kept : slotAt (autoDelayed i largest time mayLower s l .inputs) i .«lag_seconds» ≡ slotAt s i .«lag_seconds»
   unfolding setDelayOf sendFirst quiet
   seconds-kept =
-      auto-rule i largest time s l (λ effect. slotAt (effect .inputs) i .«lag_seconds» ≡ slotAt s i .«lag_seconds»)
+      auto-rule i largest time mayLower s l (λ effect. slotAt (effect .inputs) i .«lag_seconds» ≡ slotAt s i .«lag_seconds»)
       (λ e. ap (λ (x : Slot). x .«lag_seconds») (put _))
       (λ e. refl)
       (λ on e. ap (λ (x : Slot). x .«lag_seconds») (put slot))
@@ -103,16 +103,16 @@ module _ (i : ℕ) (largest : Lag) (time : ℕ) (s : Inputs) (l : Lists) (r : Re
       (λ on delay e h. ap (λ (x : Slot). x .«lag_seconds») (changed-slot delay))
 
   -- the window stays
-  pub auto-window : windowOf (autoDelayed i largest time s l .inputs) (autoDelayed i largest time s l .lists) i ≡ windowOf s l i
+  pub auto-window : windowOf (autoDelayed i largest time mayLower s l .inputs) (autoDelayed i largest time mayLower s l .lists) i ≡ windowOf s l i
   auto-window =
-      auto-rule i largest time s l (λ effect. windowOf (effect .inputs) (effect .lists) i ≡ windowOf (effect .inputs) l i) (λ e. refl) (λ e. refl) (λ on e. refl) (λ on delay e h. refl) (λ on delay e h. refl)
-      ∙ window-kept s (autoDelayed i largest time s l .inputs) l i (auto-settings i largest time s l) seconds-kept
+      auto-rule i largest time mayLower s l (λ effect. windowOf (effect .inputs) (effect .lists) i ≡ windowOf (effect .inputs) l i) (λ e. refl) (λ e. refl) (λ on e. refl) (λ on delay e h. refl) (λ on delay e h. refl)
+      ∙ window-kept s (autoDelayed i largest time mayLower s l .inputs) l i (auto-settings i largest time mayLower s l) seconds-kept
 
   -- without confirmation the proposal stays as it is
-  pub auto-proposed : s .confirm ≡ false → slotAt (autoDelayed i largest time s l .inputs) i .proposed ≡ slotAt s i .proposed
+  pub auto-proposed : s .confirm ≡ false → slotAt (autoDelayed i largest time mayLower s l .inputs) i .proposed ≡ slotAt s i .proposed
   unfolding setDelayOf sendFirst quiet
   auto-proposed off =
-      auto-rule i largest time s l (λ effect. slotAt (effect .inputs) i .proposed ≡ slotAt s i .proposed)
+      auto-rule i largest time mayLower s l (λ effect. slotAt (effect .inputs) i .proposed ≡ slotAt s i .proposed)
       (λ e. ap (λ (x : Slot). x .proposed) (put _))
       (λ e. refl)
       (λ on e. ap (λ (x : Slot). x .proposed) (put slot))
@@ -127,10 +127,10 @@ module _ (i : ℕ) (largest : Lag) (time : ℕ) (s : Inputs) (l : Lists) (r : Re
         let running : stateNumber (slotAt s i .state) ≡ 2 = eqb-true _ _ (both-true (isRunning (slotAt s i .state)) (isAuto (slotAt s i .config .«extra_delay»)) going .0) in
         omega arith
 
-    pub auto-held : time ≤ timeLimit → heldOf (autoDelayed i largest time s l .inputs) (autoDelayed i largest time s l .lists) i ≡ decision .held
+    pub auto-held : time ≤ timeLimit → heldOf (autoDelayed i largest time mayLower s l .inputs) (autoDelayed i largest time mayLower s l .lists) i ≡ decision .held
     unfolding setDelayOf sendFirst quiet
     auto-held soon =
-        auto-rule i largest time s l (λ effect. heldOf (effect .inputs) (effect .lists) i ≡ decision .held)
+        auto-rule i largest time mayLower s l (λ effect. heldOf (effect .inputs) (effect .lists) i ≡ decision .held)
         (λ e. absurd (not-stalled e))
         (λ e. absurd (not-both going e))
         (λ on e. with-slot (putSlot s i slot) slot (put slot) refl)
@@ -140,23 +140,23 @@ module _ (i : ℕ) (largest : Lag) (time : ℕ) (s : Inputs) (l : Lists) (r : Re
         with-slot : (z : Inputs) (new : Slot) → slotAt z i ≡ new → new .hold ≡ decision .held .hold → heldOf z (withHeld i (decision .held) l) i ≡ decision .held
         with-slot z new is hold =
             ap (λ (h : DelayHold). held h (part (i * 600) 600 (withHeld i (decision .held) l .times)) (part (i * 600) 600 (withHeld i (decision .held) l .peaks))) (ap (λ (x : Slot). x .hold) is ∙ hold)
-            ∙ held-same (s .count) (bucketsIn s) i l (r .fitting .long) (r .input) (decision .held) (next-long i largest time s l r soon .0) (next-long i largest time s l r soon .1)
+            ∙ held-same (s .count) (bucketsIn s) i l (r .fitting .long) (r .input) (decision .held) (next-long i largest time mayLower s l r soon .0) (next-long i largest time mayLower s l r soon .1)
 
     -- without confirmation its delay is the answer, which is sent; where there is none, it stays and nothing is sent
-    pub auto-delay : s .confirm ≡ false → slotAt (autoDelayed i largest time s l .inputs) i .delay ≡ delayAfter (slotAt s i .delay) (decision .change)
+    pub auto-delay : s .confirm ≡ false → slotAt (autoDelayed i largest time mayLower s l .inputs) i .delay ≡ delayAfter (slotAt s i .delay) (decision .change)
     unfolding setDelayOf sendFirst quiet
     auto-delay off =
-        auto-rule i largest time s l (λ effect. slotAt (effect .inputs) i .delay ≡ delayAfter (slotAt s i .delay) (decision .change))
+        auto-rule i largest time mayLower s l (λ effect. slotAt (effect .inputs) i .delay ≡ delayAfter (slotAt s i .delay) (decision .change))
         (λ e. absurd (not-stalled e))
         (λ e. absurd (not-both going e))
         (λ on e. ap (λ (x : Slot). x .delay) (put slot) ∙ sym (ap (delayAfter (slotAt s i .delay)) e))
         (λ on delay e h. absurd (not-both h off))
         (λ on delay e h. ap (λ (x : Slot). x .delay) (changed-slot delay) ∙ sym (ap (delayAfter (slotAt s i .delay)) e))
 
-    pub auto-words : s .confirm ≡ false → autoDelayed i largest time s l .words ≡ answerWords i (decision .change)
+    pub auto-words : s .confirm ≡ false → autoDelayed i largest time mayLower s l .words ≡ answerWords i (decision .change)
     unfolding setDelayOf sendFirst quiet
     auto-words off =
-        auto-rule i largest time s l (λ effect. effect .words ≡ answerWords i (decision .change))
+        auto-rule i largest time mayLower s l (λ effect. effect .words ≡ answerWords i (decision .change))
         (λ e. absurd (not-stalled e))
         (λ e. absurd (not-both going e))
         (λ on e. sym (ap (answerWords i) e))

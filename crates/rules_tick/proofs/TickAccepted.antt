@@ -10,6 +10,7 @@ use borrow.Author.Tests.{leb-true, eqb-true}
 use lib.ListN.{length, drop, length-drop}
 use lib.Seq.{length-take-le}
 use Rattle.base.specs.Limits.{timeLimit}
+use Rattle.recording.specs.Recording.{weekFits, minuteFits}
 use Rattle.base.specs.Lists.{sum}
 use Rattle.base.proofs.Choices.{asked, by-zero}
 use Rattle.base.proofs.Points.{both-true, all-at}
@@ -24,7 +25,7 @@ use Rattle.rules_record.proofs.Checked.{checked, number-passed, number-refused}
 use Rattle.rules_record.specs.Facts.{Checked}
 use Rattle.rules_tick.specs.declared.Look.{Look}
 use Rattle.rules_tick.specs.Looks.{lookAt, lagsBefore, lagsOf}
-use Rattle.rules_tick.specs.TickChecks.{lookFits, looksFit, lagsFit, roomsFit, tickNumber}
+use Rattle.rules_tick.specs.TickChecks.{lookFits, looksFit, lagsFit, roomsFit, broughtNumber, tickNumber}
 
 -- ---- the lags of an input
 module _ (looks : List Look) where
@@ -57,7 +58,7 @@ pub record Accepted (s : Inputs) (l : Lists) (looks : List Look) (lags : List �
   pub total : lagsBefore looks (s .count) ≡ length lags
   pub rooms : (j : ℕ) → j < s .count → roomFor time (lookAt looks j .lags) (windowOf s l j) ≡ true
 
-module _ (s : Inputs) (l : Lists) (words : ℕ) (looks : List Look) (lags : List ℕ) (time : ℕ) (passed : tickNumber s l words looks lags time ≡ 0) where
+module _ (s : Inputs) (l : Lists) (words : ℕ) (looks : List Look) (lags : List ℕ) (time minute : ℕ) (passed : tickNumber s l words looks lags time minute ≡ 0) where
   -- 1 to 6
   pub tick-record : recordNumber s l (Words words) 0 ≡ 0
   unfolding tickNumber
@@ -68,11 +69,21 @@ module _ (s : Inputs) (l : Lists) (words : ℕ) (looks : List Look) (lags : List
   pub tick-checked : Sized s → Checked s l
   tick-checked sized = checked s l (Words words) sized tick-record
 
+  -- 22
+  pub tick-week : (weekFits (s .week) ≡ true) × (minuteFits minute ≡ true)
+  unfolding tickNumber
+  tick-week =
+      let a = asked 7 _ _ (sym (number-passed s l (Words words) tick-record _) ∙ passed) in
+      let week = asked 21 _ _ (a .1) in
+      (week .0, asked 21 _ _ (week .1) .0)
+
   pub tick-accepted : Accepted s l looks lags time
-  unfolding tickNumber looksFit lagsFit roomsFit
+  unfolding tickNumber broughtNumber looksFit lagsFit roomsFit
   tick-accepted =
       let a = asked 7 _ _ (sym (number-passed s l (Words words) tick-record _) ∙ passed) in
-      let b = asked 9 _ _ (a .1) in
+      let week = asked 21 _ _ (a .1) in
+      let own = asked 21 _ _ (week .1) in
+      let b = asked 9 _ _ (own .1) in
       let c = asked 9 _ _ (b .1) in
       let d = asked 10 _ _ (c .1) in
       record {

@@ -1,5 +1,6 @@
 -- What the steps of one input's tick ask, from what the tick asks of its caller, and the steps in a row. Assumes nothing.
 use Prim.Native.Nat.{ℕ, _<_, _≤_}
+use mathlib.Core.Bool.{Bool}
 use mathlib.Core.Path.{_≡_, refl, sym, ap, subst, _∙_}
 use mathlib.Core.List.{List, []}
 use native.Mathlib.Omega.{arith}
@@ -119,13 +120,13 @@ module _ (s : Inputs) (l : Lists) (i : ℕ) (look : Look) (lags : List ℕ) (tim
         auto-sums = ready-window (seen .inputs) (lists a b c d (l .times) (l .peaks)) i third-ready .sums
 
 -- ---- the steps in a row
-module _ (i : ℕ) (look : Look) (lags : List ℕ) (time : ℕ) (s : Inputs) (l : Lists) (slot : Slot) {heard-slot : Slot} {largest : Lag} {seen answer : Sent} {a b c d times peaks before middle after : List ℕ} {used : ℕ}
+module _ (i : ℕ) (look : Look) (lags : List ℕ) (time : ℕ) (mayLower : Bool) (s : Inputs) (l : Lists) (slot : Slot) {heard-slot : Slot} {largest : Lag} {seen answer : Sent} {a b c d times peaks before middle after : List ℕ} {used : ℕ}
     (low : i < 16) (sized : length (s .slots) ≡ 16)
     (is-arrived : (times peaks : List ℕ) → silent (putSlot s i slot) (lists a b c d times peaks) ≡ arrived i time lags s (lists (l .starts) (l .totals) (l .counts) (l .sums) times peaks))
     (is-largest : largest ≡ largestOf lags)
     (is-late : heard-slot ≡ lateSlot (s .policy) slot (look .applied) largest)
     (is-seen : Did 6 (looked i look time (withSlots s (set (s .slots) i heard-slot))) seen before middle used)
-    (is-answer : Effected 3 (autoDelayed i largest time (seen .inputs) (lists a b c d (l .times) (l .peaks))) answer (lists a b c d times peaks) middle after (seen .used)) where
+    (is-answer : Effected 3 (autoDelayed i largest time mayLower (seen .inputs) (lists a b c d (l .times) (l .peaks))) answer (lists a b c d times peaks) middle after (seen .used)) where
   abbrev all : Inputs
   all = putSlot s i slot
 
@@ -151,28 +152,28 @@ module _ (i : ℕ) (look : Look) (lags : List ℕ) (time : ℕ) (s : Inputs) (l 
   seen-by : Effected 6 (beside (lists a b c d (l .times) (l .peaks)) (looked i look time after-late)) seen (lists a b c d (l .times) (l .peaks)) before middle used
   seen-by = effected-done is-seen refl
 
-  pub ticked-by : Effected 9 (tickedInput i look lags time s l) answer (lists a b c d times peaks) before after used
+  pub ticked-by : Effected 9 (tickedInput i look lags time mayLower s l) answer (lists a b c d times peaks) before after used
   unfolding tickedInput
   ticked-by =
-      effected-then 6 3 _ (autoDelayed i (largestOf lags) time)
+      effected-then 6 3 _ (autoDelayed i (largestOf lags) time mayLower)
       (effected-then 0 6 (heard i look lags time s l) (λ z m. beside m (looked i look time z)) heard-by seen-by)
-      (subst (λ (x : Lag). Effected 3 (autoDelayed i x time (seen .inputs) (lists a b c d (l .times) (l .peaks))) answer (lists a b c d times peaks) middle after (seen .used)) is-largest is-answer)
+      (subst (λ (x : Lag). Effected 3 (autoDelayed i x time mayLower (seen .inputs) (lists a b c d (l .times) (l .peaks))) answer (lists a b c d times peaks) middle after (seen .used)) is-largest is-answer)
 
 -- ---- the ways of an input that goes through no other function
 stored-slot : (s : Inputs) (i : ℕ) (slot : Slot) → i < 16 → length (s .slots) ≡ 16 → slotAt (withSlots s (set (s .slots) i slot)) i ≡ slot
 stored-slot s i slot low sized = ap (λ (z : Inputs). slotAt z i) (sym (put-stores s i slot low)) ∙ slot-same s i slot low sized
 
-pub rested-by : (i : ℕ) (look : Look) (lags : List ℕ) (time : ℕ) (s : Inputs) (l : Lists) (slot heard-slot : Slot) {largest : Lag} {a b c d words : List ℕ} {used : ℕ}
+pub rested-by : (i : ℕ) (look : Look) (lags : List ℕ) (time : ℕ) (mayLower : Bool) (s : Inputs) (l : Lists) (slot heard-slot : Slot) {largest : Lag} {a b c d words : List ℕ} {used : ℕ}
     → i < 16 → length (s .slots) ≡ 16
     → ((times peaks : List ℕ) → silent (putSlot s i slot) (lists a b c d times peaks) ≡ arrived i time lags s (lists (l .starts) (l .totals) (l .counts) (l .sums) times peaks))
     → largest ≡ largestOf lags
     → heard-slot ≡ lateSlot (s .policy) slot (look .applied) largest
     → (stateNumber (heard-slot .state) < 2) × ((z : Inputs) (j at : ℕ) → slotAt z j ≡ heard-slot → looked j look at z ≡ quiet z)
-    → Effected 9 (tickedInput i look lags time s l) (record { inputs = withSlots s (set (s .slots) i heard-slot); used = used }) (lists a b c d (l .times) (l .peaks)) words words used
-rested-by i look lags time s l slot heard-slot {largest} low sized is-arrived is-largest is-late rests =
-    ticked-by i look lags time s l slot low sized is-arrived is-largest is-late
+    → Effected 9 (tickedInput i look lags time mayLower s l) (record { inputs = withSlots s (set (s .slots) i heard-slot); used = used }) (lists a b c d (l .times) (l .peaks)) words words used
+rested-by i look lags time mayLower s l slot heard-slot {largest} low sized is-arrived is-largest is-late rests =
+    ticked-by i look lags time mayLower s l slot low sized is-arrived is-largest is-late
     (did-by (rests .1 stored i time here) (did-quiet refl))
-    (effected-by (auto-idle i largest time stored _ (λ e. omega (arith, state, rests .0)) (λ e. omega (arith, state, rests .0))) (effected-silent refl refl))
+    (effected-by (auto-idle i largest time mayLower stored _ (λ e. omega (arith, state, rests .0)) (λ e. omega (arith, state, rests .0))) (effected-silent refl refl))
   where
     stored : Inputs
     stored = withSlots s (set (s .slots) i heard-slot)

@@ -1,5 +1,6 @@
 -- A tick raises each counter of an input by at most one. Assumes nothing.
 use Prim.Native.Nat.{ℕ, _<_, _≤_}
+use mathlib.Core.Bool.{Bool}
 use mathlib.Core.Path.{subst}
 use mathlib.Core.List.{List}
 use native.Mathlib.Omega.{arith}
@@ -22,7 +23,7 @@ use Rattle.rules_tick.proofs.AutoDelayKeeps.{auto-raised}
 use Rattle.rules_tick.specs.declared.Look.{Look}
 use Rattle.rules_tick.specs.Looks.{lookAt, lagsOf}
 use Rattle.rules_tick.specs.TickChecks.{tickNumber}
-use Rattle.rules_tick.specs.Tick.{heard, tickedInput, ticked}
+use Rattle.rules_tick.specs.Tick.{heard, tickedInput, tickedWith, lowersAt}
 use Rattle.rules_tick.specs.TickReply.{tickReply}
 use Rattle.rules_tick.proofs.TickAccepted.{tick-checked}
 use Rattle.rules_tick.proofs.Looked.{looked-raised}
@@ -40,34 +41,34 @@ module _ (i : ℕ) (look : Look) (lags : List ℕ) (time : ℕ) (s : Inputs) (l 
   pub between-raised : Raised 1 0 1 (slotAt s i) (slotAt (lookedInputs i look lags time s l) i)
   between-raised = raised-then 0 0 1 1 0 0 (slotAt s i) (slotAt (heardInputs i look lags time s l) i) (slotAt (lookedInputs i look lags time s l) i) heard-raised (looked-raised i look time (heardInputs i look lags time s l) low (heard-sized i look lags time s l sized))
 
-  pub input-raised : Raised 1 1 1 (slotAt s i) (slotAt (tickedInput i look lags time s l .inputs) i)
+  pub input-raised : (mayLower : Bool) → Raised 1 1 1 (slotAt s i) (slotAt (tickedInput i look lags time mayLower s l .inputs) i)
   unfolding tickedInput followedBy
-  input-raised =
-      raised-then 1 0 1 0 1 0 (slotAt s i) (slotAt (lookedInputs i look lags time s l) i) (slotAt (autoDelayed i (largestOf lags) time (lookedInputs i look lags time s l) (heardLists i look lags time s l) .inputs) i) between-raised
-      (auto-raised i (largestOf lags) time (lookedInputs i look lags time s l) (heardLists i look lags time s l) low (between-sized i look lags time s l sized))
+  input-raised mayLower =
+      raised-then 1 0 1 0 1 0 (slotAt s i) (slotAt (lookedInputs i look lags time s l) i) (slotAt (autoDelayed i (largestOf lags) time mayLower (lookedInputs i look lags time s l) (heardLists i look lags time s l) .inputs) i) between-raised
+      (auto-raised i (largestOf lags) time mayLower (lookedInputs i look lags time s l) (heardLists i look lags time s l) low (between-sized i look lags time s l sized))
 
 -- ---- the whole tick
-module _ (looks : List Look) (lags : List ℕ) (time : ℕ) (s : Inputs) (l : Lists) (most : s .count ≤ 16) (sized : Sized s) where
+module _ (looks : List Look) (lags : List ℕ) (time : ℕ) (mayLower : Bool) (s : Inputs) (l : Lists) (most : s .count ≤ 16) (sized : Sized s) where
   abbrev after : Inputs
-  after = ticked looks lags time s l .inputs
+  after = tickedWith looks lags time mayLower s l .inputs
 
   input-turn : (j : ℕ) → j < s .count → Raised 1 1 1 (slotAt s j) (slotAt after j)
   input-turn j h =
-      raised-by 1 1 1 (slotAt s j) (ticked-slot looks lags time s l j h)
-      (subst (λ (x : Slot). Raised 1 1 1 x (slotAt (tickedInput j (lookAt looks j) (lagsOf looks lags j) time (turn looks lags time s l j .inputs) (turn looks lags time s l j .lists) .inputs) j))
-      (below-slots looks lags time s l j j (omega arith))
-      (input-raised j (lookAt looks j) (lagsOf looks lags j) time (turn looks lags time s l j .inputs) (turn looks lags time s l j .lists) (omega arith) (below-sized looks lags time s l j sized)))
+      raised-by 1 1 1 (slotAt s j) (ticked-slot looks lags time mayLower s l j h)
+      (subst (λ (x : Slot). Raised 1 1 1 x (slotAt (tickedInput j (lookAt looks j) (lagsOf looks lags j) time mayLower (turn looks lags time mayLower s l j .inputs) (turn looks lags time mayLower s l j .lists) .inputs) j))
+      (below-slots looks lags time mayLower s l j j (omega arith))
+      (input-raised j (lookAt looks j) (lagsOf looks lags j) time (turn looks lags time mayLower s l j .inputs) (turn looks lags time mayLower s l j .lists) (omega arith) (below-sized looks lags time mayLower s l j sized) mayLower))
 
   pub ticked-raised : (j : ℕ) → Raised 1 1 1 (slotAt s j) (slotAt after j)
   ticked-raised j =
       by-le (s .count) j
-      (λ past. raised-by 1 1 1 (slotAt s j) (ticked-past looks lags time s l j past) (record { reopens = omega arith; changes = omega arith; lates = omega arith }))
+      (λ past. raised-by 1 1 1 (slotAt s j) (ticked-past looks lags time mayLower s l j past) (record { reopens = omega arith; changes = omega arith; lates = omega arith }))
       (input-turn j)
 
 -- ---- the call, accepted or refused
-pub tick-raised : (s : Inputs) (l : Lists) (commands : List ℕ) (looks : List Look) (lags : List ℕ) (time : ℕ) → Sized s → (j : ℕ) → Raised 1 1 1 (slotAt s j) (slotAt (tickReply s l commands looks lags time .inputs) j)
+pub tick-raised : (s : Inputs) (l : Lists) (commands : List ℕ) (looks : List Look) (lags : List ℕ) (time minute : ℕ) → Sized s → (j : ℕ) → Raised 1 1 1 (slotAt s j) (slotAt (tickReply s l commands looks lags time minute .inputs) j)
 unfolding tickReply
-tick-raised s l commands looks lags time sized j =
-    accepted-all (λ (reply : Reply). Raised 1 1 1 (slotAt s j) (slotAt (reply .inputs) j)) (tickNumber s l (length commands) looks lags time) _ _
+tick-raised s l commands looks lags time minute sized j =
+    accepted-all (λ (reply : Reply). Raised 1 1 1 (slotAt s j) (slotAt (reply .inputs) j)) (tickNumber s l (length commands) looks lags time minute) _ _
     (record { reopens = omega arith; changes = omega arith; lates = omega arith })
-    (λ e. ticked-raised looks lags time s l (tick-checked s l (length commands) looks lags time e sized .fitting .allowed .most) sized j)
+    (λ e. ticked-raised looks lags time (lowersAt s minute) s l (tick-checked s l (length commands) looks lags time minute e sized .fitting .allowed .most) sized j)

@@ -1,6 +1,6 @@
 -- What the tick of one input, of the first inputs and of all leaves as it was: the settings, the other inputs, the lengths. Assumes nothing.
 use Prim.Native.Nat.{ℕ, zero, suc, _<_, _≤_}
-use mathlib.Core.Bool.{true}
+use mathlib.Core.Bool.{Bool, true}
 use mathlib.Core.Path.{_≡_, refl, sym, ap, subst, _∙_}
 use mathlib.Core.List.{List}
 use mathlib.Core.Logic.{⊎-elim}
@@ -38,7 +38,7 @@ use Rattle.rules_tick.proofs.AutoDelayKeeps.{auto-rule, auto-settings, 
 use Rattle.rules_tick.specs.declared.Look.{Look}
 use Rattle.rules_tick.specs.Looks.{lookAt, lagsOf}
 use Rattle.rules_tick.specs.TickChecks.{tickNumber}
-use Rattle.rules_tick.specs.Tick.{heard, tickedInput, tickedBelow, tickedAll, lastly, ticked}
+use Rattle.rules_tick.specs.Tick.{heard, tickedInput, tickedBelow, tickedAll, lastly, tickedWith, lowersAt}
 use Rattle.rules_tick.specs.TickReply.{tickReply}
 use Rattle.rules_tick.proofs.TickSame.{SameInput, same-none, same-then, beside-under, beside-over, same-beside, ready-same}
 use Rattle.rules_tick.proofs.Looking.{looked-leaves, looked-ready}
@@ -46,10 +46,10 @@ use Rattle.rules_tick.proofs.Looked.{looked-settings}
 use Rattle.rules_tick.proofs.TickSteps.{laggedInputs, heardInputs, heardLists, lookedInputs}
 
 -- ---- the steps of one input
-auto-sized : (i : ℕ) (largest : Lag) (time : ℕ) (s : Inputs) (l : Lists) → Sized s → Sized (autoDelayed i largest time s l .inputs)
+auto-sized : (i : ℕ) (largest : Lag) (time : ℕ) (mayLower : Bool) (s : Inputs) (l : Lists) → Sized s → Sized (autoDelayed i largest time mayLower s l .inputs)
 unfolding setDelayOf sendFirst quiet
-auto-sized i largest time s l h =
-    auto-rule i largest time s l (λ effect. Sized (effect .inputs))
+auto-sized i largest time mayLower s l h =
+    auto-rule i largest time mayLower s l (λ effect. Sized (effect .inputs))
     (λ e. sized-put s i _ h)
     (λ e. h)
     (λ on e. sized-put s i _ h)
@@ -81,17 +81,17 @@ module _ (i : ℕ) (look : Look) (lags : List ℕ) (time : ℕ) (s : Inputs) (l 
   between-sized h = looked-leaves i look time (heardInputs i look lags time s l) .sized (heard-sized h)
 
   -- ---- one input
-  pub input-settings : SameSettings s (tickedInput i look lags time s l .inputs)
+  pub input-settings : (mayLower : Bool) → SameSettings s (tickedInput i look lags time mayLower s l .inputs)
   unfolding tickedInput followedBy
-  input-settings = settings-then s (lookedInputs i look lags time s l) (autoDelayed i (largestOf lags) time (lookedInputs i look lags time s l) (heardLists i look lags time s l) .inputs) between-settings (auto-settings i (largestOf lags) time (lookedInputs i look lags time s l) (heardLists i look lags time s l))
+  input-settings mayLower = settings-then s (lookedInputs i look lags time s l) (autoDelayed i (largestOf lags) time mayLower (lookedInputs i look lags time s l) (heardLists i look lags time s l) .inputs) between-settings (auto-settings i (largestOf lags) time mayLower (lookedInputs i look lags time s l) (heardLists i look lags time s l))
 
-  pub input-other : (j : ℕ) → (j ≡ i → ⊥) → slotAt (tickedInput i look lags time s l .inputs) j ≡ slotAt s j
+  pub input-other : (mayLower : Bool) (j : ℕ) → (j ≡ i → ⊥) → slotAt (tickedInput i look lags time mayLower s l .inputs) j ≡ slotAt s j
   unfolding tickedInput followedBy
-  input-other j apart = auto-other i (largestOf lags) time (lookedInputs i look lags time s l) (heardLists i look lags time s l) j apart ∙ looked-leaves i look time (heardInputs i look lags time s l) .others j apart ∙ heard-other j apart
+  input-other mayLower j apart = auto-other i (largestOf lags) time mayLower (lookedInputs i look lags time s l) (heardLists i look lags time s l) j apart ∙ looked-leaves i look time (heardInputs i look lags time s l) .others j apart ∙ heard-other j apart
 
-  pub input-sized : Sized s → Sized (tickedInput i look lags time s l .inputs)
+  pub input-sized : (mayLower : Bool) → Sized s → Sized (tickedInput i look lags time mayLower s l .inputs)
   unfolding tickedInput followedBy
-  input-sized h = auto-sized i (largestOf lags) time (lookedInputs i look lags time s l) (heardLists i look lags time s l) (between-sized h)
+  input-sized mayLower h = auto-sized i (largestOf lags) time mayLower (lookedInputs i look lags time s l) (heardLists i look lags time s l) (between-sized h)
 
   module _ (r : Ready s l i) (sized : Sized s) (soon : time ≤ timeLimit) (room : roomFor time (length lags) (windowOf s l i) ≡ true) where
     -- the input stays ready up to `auto_delay`, even where a counter was raised to 2^63
@@ -107,30 +107,30 @@ module _ (i : ℕ) (look : Look) (lags : List ℕ) (time : ℕ) (s : Inputs) (l 
     unfolding heard followedBy
     heard-beside = arrived-beside i time lags s l r soon room
 
-    pub input-beside : Beside (s .count) (bucketsIn s) i l (tickedInput i look lags time s l .lists)
+    pub input-beside : (mayLower : Bool) → Beside (s .count) (bucketsIn s) i l (tickedInput i look lags time mayLower s l .lists)
     unfolding tickedInput followedBy
-    input-beside =
-        beside-then (s .count) (bucketsIn s) i l (heardLists i look lags time s l) (autoDelayed i (largestOf lags) time (lookedInputs i look lags time s l) (heardLists i look lags time s l) .lists) heard-beside
-        (beside-under s (lookedInputs i look lags time s l) between-settings i (heardLists i look lags time s l) (autoDelayed i (largestOf lags) time (lookedInputs i look lags time s l) (heardLists i look lags time s l) .lists) (auto-beside i (largestOf lags) time (lookedInputs i look lags time s l) (heardLists i look lags time s l) between-ready soon))
+    input-beside mayLower =
+        beside-then (s .count) (bucketsIn s) i l (heardLists i look lags time s l) (autoDelayed i (largestOf lags) time mayLower (lookedInputs i look lags time s l) (heardLists i look lags time s l) .lists) heard-beside
+        (beside-under s (lookedInputs i look lags time s l) between-settings i (heardLists i look lags time s l) (autoDelayed i (largestOf lags) time mayLower (lookedInputs i look lags time s l) (heardLists i look lags time s l) .lists) (auto-beside i (largestOf lags) time mayLower (lookedInputs i look lags time s l) (heardLists i look lags time s l) between-ready soon))
 
-    pub input-same : (j : ℕ) → j < s .count → (j ≡ i → ⊥) → SameInput s l (tickedInput i look lags time s l .inputs) (tickedInput i look lags time s l .lists) j
-    input-same j h apart = same-beside s (tickedInput i look lags time s l .inputs) input-settings l (tickedInput i look lags time s l .lists) i j input-beside h apart (input-other j apart)
+    pub input-same : (mayLower : Bool) (j : ℕ) → j < s .count → (j ≡ i → ⊥) → SameInput s l (tickedInput i look lags time mayLower s l .inputs) (tickedInput i look lags time mayLower s l .lists) j
+    input-same mayLower j h apart = same-beside s (tickedInput i look lags time mayLower s l .inputs) (input-settings mayLower) l (tickedInput i look lags time mayLower s l .lists) i j (input-beside mayLower) h apart (input-other mayLower j apart)
 
 -- ---- the first n inputs
-module _ (looks : List Look) (lags : List ℕ) (time : ℕ) (s : Inputs) (l : Lists) where
+module _ (looks : List Look) (lags : List ℕ) (time : ℕ) (mayLower : Bool) (s : Inputs) (l : Lists) where
   -- the record and the lists when the turn of input n comes
   abbrev pub turn : ℕ → Effect
-  turn n = tickedBelow n looks lags time s l
+  turn n = tickedBelow n looks lags time mayLower s l
 
   pub turn-none : turn 0 ≡ silent s l
   unfolding tickedBelow
   turn-none = refl
 
-  pub turn-inputs : (n : ℕ) → turn (suc n) .inputs ≡ tickedInput n (lookAt looks n) (lagsOf looks lags n) time (turn n .inputs) (turn n .lists) .inputs
+  pub turn-inputs : (n : ℕ) → turn (suc n) .inputs ≡ tickedInput n (lookAt looks n) (lagsOf looks lags n) time mayLower (turn n .inputs) (turn n .lists) .inputs
   unfolding tickedBelow followedBy
   turn-inputs n = refl
 
-  pub turn-lists : (n : ℕ) → turn (suc n) .lists ≡ tickedInput n (lookAt looks n) (lagsOf looks lags n) time (turn n .inputs) (turn n .lists) .lists
+  pub turn-lists : (n : ℕ) → turn (suc n) .lists ≡ tickedInput n (lookAt looks n) (lagsOf looks lags n) time mayLower (turn n .inputs) (turn n .lists) .lists
   unfolding tickedBelow followedBy
   turn-lists n = refl
 
@@ -138,18 +138,18 @@ module _ (looks : List Look) (lags : List ℕ) (time : ℕ) (s : Inputs) (l : Li
   unfolding tickedBelow followedBy
   below-settings zero = refl
   below-settings (suc n) =
-      settings-then s (turn n .inputs) (turn (suc n) .inputs) (below-settings n) (input-settings n (lookAt looks n) (lagsOf looks lags n) time (turn n .inputs) (turn n .lists))
+      settings-then s (turn n .inputs) (turn (suc n) .inputs) (below-settings n) (input-settings n (lookAt looks n) (lagsOf looks lags n) time (turn n .inputs) (turn n .lists) mayLower)
 
   pub below-sized : (n : ℕ) → Sized s → Sized (turn n .inputs)
   unfolding tickedBelow followedBy
   below-sized zero h = h
-  below-sized (suc n) h = input-sized n (lookAt looks n) (lagsOf looks lags n) time (turn n .inputs) (turn n .lists) (below-sized n h)
+  below-sized (suc n) h = input-sized n (lookAt looks n) (lagsOf looks lags n) time (turn n .inputs) (turn n .lists) mayLower (below-sized n h)
 
   -- the slots of the inputs from n on stay
   pub below-slots : (n j : ℕ) → n ≤ j → slotAt (turn n .inputs) j ≡ slotAt s j
   unfolding tickedBelow followedBy
   below-slots zero j h = refl
-  below-slots (suc n) j h = input-other n (lookAt looks n) (lagsOf looks lags n) time (turn n .inputs) (turn n .lists) j (λ e. omega arith) ∙ below-slots n j (omega arith)
+  below-slots (suc n) j h = input-other n (lookAt looks n) (lagsOf looks lags n) time (turn n .inputs) (turn n .lists) mayLower j (λ e. omega arith) ∙ below-slots n j (omega arith)
 
   -- the inputs after j leave its slot
   pub later-slots : (n j : ℕ) → j < n → slotAt (turn n .inputs) j ≡ slotAt (turn (suc j) .inputs) j
@@ -159,7 +159,7 @@ module _ (looks : List Look) (lags : List ℕ) (time : ℕ) (s : Inputs) (l : Li
       after : j < n → slotAt (turn n .inputs) j ≡ slotAt (turn (suc j) .inputs) j → slotAt (turn (suc n) .inputs) j ≡ slotAt (turn (suc j) .inputs) j
       after k same =
           ap (λ (z : Inputs). slotAt z j) (turn-inputs n)
-          ∙ input-other n (lookAt looks n) (lagsOf looks lags n) time (turn n .inputs) (turn n .lists) j (λ e. omega arith)
+          ∙ input-other n (lookAt looks n) (lagsOf looks lags n) time (turn n .inputs) (turn n .lists) mayLower j (λ e. omega arith)
           ∙ same
 
   -- ---- with their lists
@@ -182,10 +182,10 @@ module _ (looks : List Look) (lags : List ℕ) (time : ℕ) (s : Inputs) (l : Li
       turn-beside =
           subst (λ (m : Lists). Beside (s .count) (bucketsIn s) n (turn n .lists) m) (sym (turn-lists n))
           (beside-under s (turn n .inputs) (below-settings n) n (turn n .lists) _
-          (input-beside n (lookAt looks n) (lagsOf looks lags n) time (turn n .inputs) (turn n .lists) turn-ready (below-sized n sized) soon turn-room))
+          (input-beside n (lookAt looks n) (lagsOf looks lags n) time (turn n .inputs) (turn n .lists) turn-ready (below-sized n sized) soon turn-room mayLower))
 
       turn-settings : SameSettings (turn n .inputs) (turn (suc n) .inputs)
-      turn-settings = subst (SameSettings (turn n .inputs)) (sym (turn-inputs n)) (input-settings n (lookAt looks n) (lagsOf looks lags n) time (turn n .inputs) (turn n .lists))
+      turn-settings = subst (SameSettings (turn n .inputs)) (sym (turn-inputs n)) (input-settings n (lookAt looks n) (lagsOf looks lags n) time (turn n .inputs) (turn n .lists) mayLower)
 
       -- its tick leaves every other input
       pub turn-same : (j : ℕ) → j < s .count → (j ≡ n → ⊥) → SameInput (turn n .inputs) (turn n .lists) (turn (suc n) .inputs) (turn (suc n) .lists) j
@@ -193,7 +193,7 @@ module _ (looks : List Look) (lags : List ℕ) (time : ℕ) (s : Inputs) (l : Li
           same-beside (turn n .inputs) (turn (suc n) .inputs) turn-settings (turn n .lists) (turn (suc n) .lists) n j
           (beside-over s (turn n .inputs) (below-settings n) n (turn n .lists) (turn (suc n) .lists) turn-beside)
           (subst (λ (x : Inputs). j < x .count) (sym (below-settings n)) g) apart
-          (ap (λ (z : Inputs). slotAt z j) (turn-inputs n) ∙ input-other n (lookAt looks n) (lagsOf looks lags n) time (turn n .inputs) (turn n .lists) j apart)
+          (ap (λ (z : Inputs). slotAt z j) (turn-inputs n) ∙ input-other n (lookAt looks n) (lagsOf looks lags n) time (turn n .inputs) (turn n .lists) mayLower j apart)
 
       turn-next : Turn (suc n)
       turn-next = record {
@@ -242,53 +242,53 @@ module _ (s : Inputs) where
   }
 
 -- ---- the whole tick
-module _ (looks : List Look) (lags : List ℕ) (time : ℕ) (s : Inputs) (l : Lists) where
+module _ (looks : List Look) (lags : List ℕ) (time : ℕ) (mayLower : Bool) (s : Inputs) (l : Lists) where
   abbrev after : Inputs
-  after = ticked looks lags time s l .inputs
+  after = tickedWith looks lags time mayLower s l .inputs
 
   abbrev all : Effect
-  all = tickedBelow (s .count) looks lags time s l
+  all = tickedBelow (s .count) looks lags time mayLower s l
 
   pub ticked-settings : SameSettings s after
-  unfolding ticked tickedAll
-  ticked-settings = settings-then s (all .inputs) (lastly (all .inputs)) (below-settings looks lags time s l (s .count)) (lastly-settings (all .inputs))
+  unfolding tickedWith tickedAll
+  ticked-settings = settings-then s (all .inputs) (lastly (all .inputs)) (below-settings looks lags time mayLower s l (s .count)) (lastly-settings (all .inputs))
 
   pub ticked-sized : Sized s → Sized after
-  unfolding ticked tickedAll
-  ticked-sized h = lastly-sized (all .inputs) (below-sized looks lags time s l (s .count) h)
+  unfolding tickedWith tickedAll
+  ticked-sized h = lastly-sized (all .inputs) (below-sized looks lags time mayLower s l (s .count) h)
 
   -- a slot that is no input's stays
   pub ticked-past : (j : ℕ) → s .count ≤ j → slotAt after j ≡ slotAt s j
-  unfolding ticked tickedAll
-  ticked-past j h = lastly-slots (all .inputs) j ∙ below-slots looks lags time s l (s .count) j h
+  unfolding tickedWith tickedAll
+  ticked-past j h = lastly-slots (all .inputs) j ∙ below-slots looks lags time mayLower s l (s .count) j h
 
   -- the slot of input j is what its own tick leaves
   pub ticked-slot : (j : ℕ) → j < s .count
-      → slotAt after j ≡ slotAt (tickedInput j (lookAt looks j) (lagsOf looks lags j) time (turn looks lags time s l j .inputs) (turn looks lags time s l j .lists) .inputs) j
-  unfolding ticked tickedAll
-  ticked-slot j h = lastly-slots (all .inputs) j ∙ later-slots looks lags time s l (s .count) j h ∙ ap (λ (z : Inputs). slotAt z j) (turn-inputs looks lags time s l j)
+      → slotAt after j ≡ slotAt (tickedInput j (lookAt looks j) (lagsOf looks lags j) time mayLower (turn looks lags time mayLower s l j .inputs) (turn looks lags time mayLower s l j .lists) .inputs) j
+  unfolding tickedWith tickedAll
+  ticked-slot j h = lastly-slots (all .inputs) j ∙ later-slots looks lags time mayLower s l (s .count) j h ∙ ap (λ (z : Inputs). slotAt z j) (turn-inputs looks lags time mayLower s l j)
 
   -- .. and so are its window and its hold
   module _ (f : Fitting s l) (sized : Sized s) (soon : time ≤ timeLimit) (ready : (j : ℕ) → j < s .count → Ready s l j)
       (room : (j : ℕ) → j < s .count → roomFor time (length (lagsOf looks lags j)) (windowOf s l j) ≡ true) where
     pub ticked-input : (j : ℕ) → j < s .count
-        → SameInput (turn looks lags time s l (suc j) .inputs) (turn looks lags time s l (suc j) .lists) after (ticked looks lags time s l .lists) j
-    unfolding ticked tickedAll
+        → SameInput (turn looks lags time mayLower s l (suc j) .inputs) (turn looks lags time mayLower s l (suc j) .lists) after (tickedWith looks lags time mayLower s l .lists) j
+    unfolding tickedWith tickedAll
     ticked-input j h =
-        same-then (turn looks lags time s l (suc j) .inputs) (turn looks lags time s l (suc j) .lists) (all .inputs) (all .lists) (lastly (all .inputs)) (all .lists) j
-        (later-same looks lags time s l f sized soon ready room (s .count) j (omega arith) h)
+        same-then (turn looks lags time mayLower s l (suc j) .inputs) (turn looks lags time mayLower s l (suc j) .lists) (all .inputs) (all .lists) (lastly (all .inputs)) (all .lists) j
+        (later-same looks lags time mayLower s l f sized soon ready room (s .count) j (omega arith) h)
         (lastly-same (all .inputs) (all .lists) j)
 
 -- ---- the call, accepted or refused: "All calls keep the settings of `new`"
-module _ (s : Inputs) (l : Lists) (commands : List ℕ) (looks : List Look) (lags : List ℕ) (time : ℕ) where
-  pub tick-settings : SameSettings s (tickReply s l commands looks lags time .inputs)
+module _ (s : Inputs) (l : Lists) (commands : List ℕ) (looks : List Look) (lags : List ℕ) (time minute : ℕ) where
+  pub tick-settings : SameSettings s (tickReply s l commands looks lags time minute .inputs)
   unfolding tickReply
   tick-settings =
-      accepted-all (λ (reply : Reply). SameSettings s (reply .inputs)) (tickNumber s l (length commands) looks lags time) _ _ refl
-      (λ e. ticked-settings looks lags time s l)
+      accepted-all (λ (reply : Reply). SameSettings s (reply .inputs)) (tickNumber s l (length commands) looks lags time minute) _ _ refl
+      (λ e. ticked-settings looks lags time (lowersAt s minute) s l)
 
-  pub tick-sized : Sized s → Sized (tickReply s l commands looks lags time .inputs)
+  pub tick-sized : Sized s → Sized (tickReply s l commands looks lags time minute .inputs)
   unfolding tickReply
   tick-sized h =
-      accepted-all (λ (reply : Reply). Sized (reply .inputs)) (tickNumber s l (length commands) looks lags time) _ _ h
-      (λ e. ticked-sized looks lags time s l h)
+      accepted-all (λ (reply : Reply). Sized (reply .inputs)) (tickNumber s l (length commands) looks lags time minute) _ _ h
+      (λ e. ticked-sized looks lags time (lowersAt s minute) s l h)

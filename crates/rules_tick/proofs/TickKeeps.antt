@@ -1,6 +1,6 @@
 -- A tick keeps a checked record checked, where one more of each counter is below 2^63. Assumes nothing.
 use Prim.Native.Nat.{ℕ, zero, suc, _+_, _<_, _≤_}
-use mathlib.Core.Bool.{true}
+use mathlib.Core.Bool.{Bool, true}
 use mathlib.Core.Path.{_≡_, sym, subst}
 use mathlib.Core.List.{List}
 use native.Mathlib.Omega.{arith}
@@ -32,7 +32,7 @@ use Rattle.rules_tick.proofs.Readiness.{ready-of}
 use Rattle.rules_tick.specs.declared.Look.{Look}
 use Rattle.rules_tick.specs.Looks.{lookAt, lagsOf}
 use Rattle.rules_tick.specs.TickChecks.{tickNumber}
-use Rattle.rules_tick.specs.Tick.{heard, looked, tickedInput, tickedAll, tickedBelow, lastly, ticked}
+use Rattle.rules_tick.specs.Tick.{heard, looked, tickedInput, tickedAll, tickedBelow, lastly, tickedWith, lowersAt}
 use Rattle.rules_tick.specs.TickReply.{tickReply}
 use Rattle.rules_tick.proofs.TickFrames.{heard-settings, between-settings, turn, below-settings, below-slots, turn-room, turns}
 use Rattle.rules_tick.proofs.TickCounters.{heard-raised, between-raised}
@@ -71,10 +71,10 @@ module _ (i : ℕ) (look : Look) (lags : List ℕ) (time : ℕ) (s : Inputs) (l 
       looked-keeps i look time (heardInputs i look lags time s l) (heardLists i look lags time s l) heard-keeps (subst (λ (x : Inputs). i < x .count) (sym (heard-settings i look lags time s l)) h) soon
       (omega (arith, heard-raised i look lags time s l low (c .sized) .reopens, few .reopens))
 
-  pub input-keeps : Checked (tickedInput i look lags time s l .inputs) (tickedInput i look lags time s l .lists)
+  pub input-keeps : (mayLower : Bool) → Checked (tickedInput i look lags time mayLower s l .inputs) (tickedInput i look lags time mayLower s l .lists)
   unfolding tickedInput followedBy
-  input-keeps =
-      auto-keeps i (largestOf lags) time (lookedInputs i look lags time s l) (heardLists i look lags time s l) between-keeps (subst (λ (x : Inputs). i < x .count) (sym (between-settings i look lags time s l)) h) soon
+  input-keeps mayLower =
+      auto-keeps i (largestOf lags) time mayLower (lookedInputs i look lags time s l) (heardLists i look lags time s l) between-keeps (subst (λ (x : Inputs). i < x .count) (sym (between-settings i look lags time s l)) h) soon
       (omega (arith, between-raised i look lags time s l low (c .sized) .changes, few .changes))
 
 -- ---- "Last, prune; the unsaved mark is .. cleared"
@@ -82,39 +82,39 @@ pub lastly-keeps : (s : Inputs) (l : Lists) → Checked s l → Checked (lastly 
 lastly-keeps s l c = mark-keeps (pruned s Nothing) l (prune-keeps s l c Nothing) _
 
 -- ---- all inputs
-module _ (looks : List Look) (lags : List ℕ) (time : ℕ) (s : Inputs) (l : Lists) (c : Checked s l) (a : Accepted s l looks lags time) (few : (j : ℕ) → j < s .count → MayCount (slotAt s j)) where
+module _ (looks : List Look) (lags : List ℕ) (time : ℕ) (mayLower : Bool) (s : Inputs) (l : Lists) (c : Checked s l) (a : Accepted s l looks lags time) (few : (j : ℕ) → j < s .count → MayCount (slotAt s j)) where
   abbrev at : ℕ → Inputs
-  at n = turn looks lags time s l n .inputs
+  at n = turn looks lags time mayLower s l n .inputs
 
   abbrev lists : ℕ → Lists
-  lists n = turn looks lags time s l n .lists
+  lists n = turn looks lags time mayLower s l n .lists
 
   -- room for the lags of input n still holds when its turn comes
   room-left : (n : ℕ) → n < s .count → roomFor time (length (lagsOf looks lags n)) (windowOf (at n) (lists n) n) ≡ true
   room-left n h =
-      turn-room looks lags time s l (c .fitting) (c .sized) (a .timely) (ready-of s l c) (accepted-room s l looks lags time a) n
-      (turns looks lags time s l (c .fitting) (c .sized) (a .timely) (ready-of s l c) (accepted-room s l looks lags time a) n (omega arith)) h
+      turn-room looks lags time mayLower s l (c .fitting) (c .sized) (a .timely) (ready-of s l c) (accepted-room s l looks lags time a) n
+      (turns looks lags time mayLower s l (c .fitting) (c .sized) (a .timely) (ready-of s l c) (accepted-room s l looks lags time a) n (omega arith)) h
 
   -- .. and its counters may be raised
   few-left : (n : ℕ) → n < s .count → MayCount (slotAt (at n) n)
-  few-left n h = subst MayCount (sym (below-slots looks lags time s l n n (omega arith))) (few n h)
+  few-left n h = subst MayCount (sym (below-slots looks lags time mayLower s l n n (omega arith))) (few n h)
 
   pub turn-keeps : (n : ℕ) → n ≤ s .count → Checked (at n) (lists n)
   unfolding tickedBelow followedBy
   turn-keeps zero h = c
   turn-keeps (suc n) h =
       input-keeps n (lookAt looks n) (lagsOf looks lags n) time (at n) (lists n) (turn-keeps n (omega arith))
-      (subst (λ (x : Inputs). n < x .count) (sym (below-settings looks lags time s l n)) h) (a .timely) (room-left n h) (few-left n h)
+      (subst (λ (x : Inputs). n < x .count) (sym (below-settings looks lags time mayLower s l n)) h) (a .timely) (room-left n h) (few-left n h) mayLower
 
-  pub ticked-keeps : Checked (ticked looks lags time s l .inputs) (ticked looks lags time s l .lists)
-  unfolding ticked tickedAll
+  pub ticked-keeps : Checked (tickedWith looks lags time mayLower s l .inputs) (tickedWith looks lags time mayLower s l .lists)
+  unfolding tickedWith tickedAll
   ticked-keeps = lastly-keeps (at (s .count)) (lists (s .count)) (turn-keeps (s .count) (omega arith))
 
 -- ---- the call, accepted or refused
 
-pub tick-keeps : (s : Inputs) (l : Lists) (commands : List ℕ) (looks : List Look) (lags : List ℕ) (time : ℕ) → Checked s l → ((j : ℕ) → j < s .count → MayCount (slotAt s j))
-    → Checked (tickReply s l commands looks lags time .inputs) (tickReply s l commands looks lags time .lists)
+pub tick-keeps : (s : Inputs) (l : Lists) (commands : List ℕ) (looks : List Look) (lags : List ℕ) (time minute : ℕ) → Checked s l → ((j : ℕ) → j < s .count → MayCount (slotAt s j))
+    → Checked (tickReply s l commands looks lags time minute .inputs) (tickReply s l commands looks lags time minute .lists)
 unfolding tickReply
-tick-keeps s l commands looks lags time c few =
-    accepted-all (λ (reply : Reply). Checked (reply .inputs) (reply .lists)) (tickNumber s l (length commands) looks lags time) _ _ c
-    (λ e. ticked-keeps looks lags time s l c (tick-accepted s l (length commands) looks lags time e) few)
+tick-keeps s l commands looks lags time minute c few =
+    accepted-all (λ (reply : Reply). Checked (reply .inputs) (reply .lists)) (tickNumber s l (length commands) looks lags time minute) _ _ c
+    (λ e. ticked-keeps looks lags time (lowersAt s minute) s l c (tick-accepted s l (length commands) looks lags time minute e) few)

@@ -17,27 +17,27 @@ use Rattle.rules_tick.specs.TickReply.{tickReply, tickUnsaved}
 use Rattle.rules_tick.specs.TickAnswer.{told, carried}
 use Rattle.rules_tick.specs.TickLeaves.{tickLeaves}
 
-module _ (s : Inputs) (l : Lists) (commands : List ℕ) (looks : List Look) (lags : List ℕ) (time : ℕ) {n : ℕ} (is-number : n ≡ tickNumber s l (length commands) looks lags time) where
+module _ (s : Inputs) (l : Lists) (commands : List ℕ) (looks : List Look) (lags : List ℕ) (time minute : ℕ) {n : ℕ} (is-number : n ≡ tickNumber s l (length commands) looks lags time minute) where
   abbrev number : ℕ
-  number = tickNumber s l (length commands) looks lags time
+  number = tickNumber s l (length commands) looks lags time minute
 
-  pub leaves-refused : (n ≡ 0 → ⊥) → told (record { number = n; inputs = s; unsaved = false }) l commands ≡ tickLeaves s l commands looks lags time
+  pub leaves-refused : (n ≡ 0 → ⊥) → told (record { number = n; inputs = s; unsaved = false }) l commands ≡ tickLeaves s l commands looks lags time minute
   unfolding tickLeaves tickReply tickUnsaved
   leaves-refused h = λ t. record {
-    reply = reply-refused s l commands (ticked looks lags time s l) number is-number h t;
-    unsaved = sym (refused-old number false (unsavedAt looks lags time s l) (λ e. h (is-number ∙ e))) t;
+    reply = reply-refused s l commands (ticked looks lags time minute s l) number is-number h t;
+    unsaved = sym (refused-old number false (unsavedAt looks lags time minute s l) (λ e. h (is-number ∙ e))) t;
   }
 
   module _ (passed : n ≡ 0) where
     pub passes : number ≡ 0
     passes = sym is-number ∙ passed
 
-    pub leaves-accepted : {answer : TickAnswer} {m : Lists} {after : List ℕ} → told answer m after ≡ carried commands (ticked looks lags time s l) (unsavedAt looks lags time s l)
-        → told answer m after ≡ tickLeaves s l commands looks lags time
+    pub leaves-accepted : {answer : TickAnswer} {m : Lists} {after : List ℕ} → told answer m after ≡ carried commands (ticked looks lags time minute s l) (unsavedAt looks lags time minute s l)
+        → told answer m after ≡ tickLeaves s l commands looks lags time minute
     unfolding tickLeaves tickReply tickUnsaved
     leaves-accepted e =
         e
         ∙ (λ t. record {
-          reply = (ap (λ (k : ℕ). carriedOut k commands (ticked looks lags time s l)) (sym passes) ∙ sym (accepted-new number (record { number = number; inputs = s; lists = l; commands = commands }) _ passes)) t;
-          unsaved = sym (accepted-new number false (unsavedAt looks lags time s l) passes) t;
+          reply = (ap (λ (k : ℕ). carriedOut k commands (ticked looks lags time minute s l)) (sym passes) ∙ sym (accepted-new number (record { number = number; inputs = s; lists = l; commands = commands }) _ passes)) t;
+          unsaved = sym (accepted-new number false (unsavedAt looks lags time minute s l) passes) t;
         })

@@ -17,7 +17,7 @@ use Rattle.delay_hold.specs.declared.Change.{Change}
 use Rattle.delay_hold.specs.declared.Change.the-variants.{Keep, To}
 use Rattle.delay_hold.specs.declared.Next.{Next}
 use Rattle.delay_hold.specs.Steps5To8.{timerOff, withLower}
-use Rattle.delay_hold.specs.Next.{Decided, nextOf, oneMillisecond, alwaysLower}
+use Rattle.delay_hold.specs.Next.{Decided, nextOf, oneMillisecond}
 use Rattle.rules_record.specs.declared.Proposal.{Proposal}
 use Rattle.rules_record.specs.declared.Proposal.the-variants.{Nothing, Pending}
 use Rattle.rules_record.specs.declared.Slot.{Slot}
@@ -52,10 +52,10 @@ proposedOr (Pending proposed) delay = proposed
 abbrev pub currentOf : Slot → ℕ
 currentOf slot = proposedOr (slot .proposed) (slot .delay)
 
--- what `next` decides for input i
-unfoldable pub nextFor : (i : ℕ) (largest : Lag) (time : ℕ) (s : Inputs) (l : Lists) → Decided
-nextFor i largest time s l =
-    nextOf (oneMillisecond (s .policy)) alwaysLower (s .policy) (heldOf s l i) (p999Of (s .policy) (windowOf s l i)) largest (currentOf (slotAt s i)) time
+-- what `next` decides for input i; document 02, §7: whether it may lower now, or a due lowering waits
+unfoldable pub nextFor : (i : ℕ) (largest : Lag) (time : ℕ) (mayLower : Bool) (s : Inputs) (l : Lists) → Decided
+nextFor i largest time mayLower s l =
+    nextOf (oneMillisecond (s .policy)) mayLower (s .policy) (heldOf s l i) (p999Of (s .policy) (windowOf s l i)) largest (currentOf (slotAt s i)) time
 
 -- the answer of `next` for input i, with the lists that it leaves
 pub record Answered (i : ℕ) (d : Decided) (answer : Next) (l m : Lists) : Type 0 where
@@ -91,8 +91,8 @@ interrupted i s = putSlot s i (withHold (slotAt s i) (withLower (slotAt s i .hol
 unfoldable pub goesOn : Slot → Bool
 goesOn slot = both (isRunning (slot .state)) (isAuto (slot .config .«extra_delay»))
 
-unfoldable pub autoDelayed : (i : ℕ) (largest : Lag) (time : ℕ) (s : Inputs) (l : Lists) → Effect
-autoDelayed i largest time s l =
+unfoldable pub autoDelayed : (i : ℕ) (largest : Lag) (time : ℕ) (mayLower : Bool) (s : Inputs) (l : Lists) → Effect
+autoDelayed i largest time mayLower s l =
     pick (isStalled (slotAt s i .state))
     (silent (interrupted i s) l)
-    (pick (goesOn (slotAt s i)) (decidedFor (nextFor i largest time s l) i time s l) (silent s l))
+    (pick (goesOn (slotAt s i)) (decidedFor (nextFor i largest time mayLower s l) i time s l) (silent s l))

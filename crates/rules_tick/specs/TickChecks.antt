@@ -1,4 +1,4 @@
--- Document 01's checks of `tick`, in their order. Assumes nothing.
+-- The checks of `tick`, in their order: document 01's, with document 02's 22 straight after 8. Assumes nothing.
 use Prim.Native.Nat.{ℕ}
 use mathlib.Core.Bool.{Bool}
 use mathlib.Core.List.{List}
@@ -7,6 +7,7 @@ use lib.ListN.{length}
 use Rattle.base.specs.Choice.{both, ask}
 use Rattle.base.specs.Limits.{timely}
 use Rattle.base.specs.Lists.{all}
+use Rattle.recording.specs.Recording.{weekFits, minuteFits}
 use Rattle.rules_window.specs.Checks.{roomFor}
 use Rattle.rules_record.specs.declared.Inputs.{Inputs}
 use Rattle.rules_routing.specs.ReaderCheck.{readerFits}
@@ -31,11 +32,19 @@ lagsFit s looks lags = eqb (lagsBefore looks (s .count)) (length lags)
 unfoldable pub roomsFit : (s : Inputs) (l : Lists) (looks : List Look) (time : ℕ) → Bool
 roomsFit s l looks time = all (λ i. roomFor time (lookAt looks i .lags) (windowOf s l i)) (s .count)
 
--- 1 to 6, 8, 10, 11
-unfoldable pub tickNumber : (s : Inputs) (l : Lists) (words : ℕ) (looks : List Look) (lags : List ℕ) (time : ℕ) → ℕ
-tickNumber s l words looks lags time =
+-- 10 and 11
+unfoldable pub broughtNumber : (s : Inputs) (l : Lists) (looks : List Look) (lags : List ℕ) (time : ℕ) → ℕ
+broughtNumber s l looks lags time =
+    ask 10 (looksFit s looks)
+    (ask 10 (lagsFit s looks lags)
+    (ask 11 (roomsFit s l looks time) 0))
+
+-- 1 to 6, 8, 22, 10, 11; document 02, §7: "Number 22 is for any of these minutes beyond its range, asked straight after 8": those of the stored week,
+-- and the tick's own
+unfoldable pub tickNumber : (s : Inputs) (l : Lists) (words : ℕ) (looks : List Look) (lags : List ℕ) (time minute : ℕ) → ℕ
+tickNumber s l words looks lags time minute =
     recordNumber s l (Words words)
     (ask 8 (timely time)
-    (ask 10 (looksFit s looks)
-    (ask 10 (lagsFit s looks lags)
-    (ask 11 (roomsFit s l looks time) 0))))
+    (ask 22 (weekFits (s .week))
+    (ask 22 (minuteFits minute)
+    (broughtNumber s l looks lags time))))

@@ -8,6 +8,6 @@ use Rattle.rules_tick.specs.declared.Look.{Look}
 use Rattle.rules_tick.specs.TickReply.{tickReply, tickUnsaved}
 use Rattle.rules_tick.specs.TickAnswer.{TickReply}
 
-unfoldable pub tickLeaves : (s : Inputs) (l : Lists) (commands : List ℕ) (looks : List Look) (lags : List ℕ) (time : ℕ) → TickReply
-tickLeaves s l commands looks lags time =
-    record { reply = tickReply s l commands looks lags time; unsaved = tickUnsaved s l (length commands) looks lags time }
+unfoldable pub tickLeaves : (s : Inputs) (l : Lists) (commands : List ℕ) (looks : List Look) (lags : List ℕ) (time minute : ℕ) → TickReply
+tickLeaves s l commands looks lags time minute =
+    record { reply = tickReply s l commands looks lags time minute; unsaved = tickUnsaved s l (length commands) looks lags time minute }

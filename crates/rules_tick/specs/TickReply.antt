@@ -11,9 +11,9 @@ use Rattle.rules_tick.specs.declared.Look.{Look}
 use Rattle.rules_tick.specs.TickChecks.{tickNumber}
 use Rattle.rules_tick.specs.Tick.{ticked, unsavedAt}
 
-unfoldable pub tickReply : (s : Inputs) (l : Lists) (commands : List ℕ) (looks : List Look) (lags : List ℕ) (time : ℕ) → Reply
-tickReply s l commands looks lags time = replied (tickNumber s l (length commands) looks lags time) s l commands (ticked looks lags time s l)
+unfoldable pub tickReply : (s : Inputs) (l : Lists) (commands : List ℕ) (looks : List Look) (lags : List ℕ) (time minute : ℕ) → Reply
+tickReply s l commands looks lags time minute = replied (tickNumber s l (length commands) looks lags time minute) s l commands (ticked looks lags time minute s l)
 
 -- "the unsaved mark is reported"; a refused tick reports none
-unfoldable pub tickUnsaved : (s : Inputs) (l : Lists) (words : ℕ) (looks : List Look) (lags : List ℕ) (time : ℕ) → Bool
-tickUnsaved s l words looks lags time = accepted (tickNumber s l words looks lags time) false (unsavedAt looks lags time s l)
+unfoldable pub tickUnsaved : (s : Inputs) (l : Lists) (words : ℕ) (looks : List Look) (lags : List ℕ) (time minute : ℕ) → Bool
+tickUnsaved s l words looks lags time minute = accepted (tickNumber s l words looks lags time minute) false (unsavedAt looks lags time minute s l)

@@ -36,7 +36,7 @@ use Rattle.rules_calls.specs.ConfirmDelay.{confirmed}
 use Rattle.rules_calls.specs.UpdateReply.{updateReply, confirmReply}
 use Rattle.rules_tick.specs.declared.Look.{Look}
 use Rattle.rules_tick.specs.TickChecks.{tickNumber}
-use Rattle.rules_tick.specs.Tick.{ticked}
+use Rattle.rules_tick.specs.Tick.{ticked, lowersAt}
 use Rattle.rules_tick.specs.TickReply.{tickReply}
 use Rattle.sent_delays.specs.Last.{lastDelay}
 use Rattle.sent_delays.specs.Delays.{Told, SentDelays}
@@ -122,18 +122,18 @@ module _ (s : Inputs) (sized : Sized s) (l : Lists) (commands : List ℕ) where
     unfolding confirmReply
     confirm-timed = reply-timed (confirmNumber s l (length commands) input time) s l commands (confirmed input time s l) sized confirm-tells
 
-  module _ (looks : List Look) (lags : List ℕ) (time : ℕ) where
-    tick-tells : tickNumber s l (length commands) looks lags time ≡ 0 → TellsEffect time s (ticked looks lags time s l)
+  module _ (looks : List Look) (lags : List ℕ) (time minute : ℕ) where
+    tick-tells : tickNumber s l (length commands) looks lags time minute ≡ 0 → TellsEffect time s (ticked looks lags time minute s l)
     unfolding tickNumber
-    tick-tells e = tells-ticked looks lags time s l sized (settings-told s l (Words (length commands)) _ e .0 .allowed .most)
+    tick-tells e = tells-ticked looks lags time (lowersAt s minute) s l sized (settings-told s l (Words (length commands)) _ e .0 .allowed .most)
 
-    pub tick-told : Told s (tickReply s l commands looks lags time)
+    pub tick-told : Told s (tickReply s l commands looks lags time minute)
     unfolding tickReply
-    tick-told = reply-told (tickNumber s l (length commands) looks lags time) s l commands (ticked looks lags time s l) sized tick-tells
+    tick-told = reply-told (tickNumber s l (length commands) looks lags time minute) s l commands (ticked looks lags time minute s l) sized tick-tells
 
-    pub tick-timed : Timed s time (tickReply s l commands looks lags time)
+    pub tick-timed : Timed s time (tickReply s l commands looks lags time minute)
     unfolding tickReply
-    tick-timed = reply-timed (tickNumber s l (length commands) looks lags time) s l commands (ticked looks lags time s l) sized tick-tells
+    tick-timed = reply-timed (tickNumber s l (length commands) looks lags time minute) s l commands (ticked looks lags time minute s l) sized tick-tells
 
 -- ---- `new`: "0 before any", and none ever went
 module _ (settings : Settings) (kinds : List ExtraDelay) (bytes delays : List ℕ) (time : ℕ) (l : Lists) (commands : List ℕ) where

@@ -1,5 +1,6 @@
 -- `tick` tells the delays and the times, whether confirmation is on or off. Assumes nothing.
 use Prim.Native.Nat.{ℕ, zero, suc, _≤_, _<_}
+use mathlib.Core.Bool.{Bool}
 use mathlib.Core.Path.{_≡_, refl, ap}
 use mathlib.Core.List.{List, []}
 use native.Mathlib.Omega.{arith}
@@ -26,7 +27,7 @@ use Rattle.rules_tick.specs.LateEvents.{lateEvent}
 use Rattle.rules_tick.specs.AutoDelay.{nextFor, changing, answered, decidedFor, goesOn, autoDelayed}
 use Rattle.rules_tick.specs.declared.Look.{Look}
 use Rattle.rules_tick.specs.Looks.{lookAt, lagsOf}
-use Rattle.rules_tick.specs.Tick.{heard, looked, tickedInput, tickedBelow, tickedAll, saved, lastly, ticked}
+use Rattle.rules_tick.specs.Tick.{heard, looked, tickedInput, tickedBelow, tickedAll, saved, lastly, tickedWith}
 use Rattle.sent_delays.proofs.Notes.{notesOf}
 use Rattle.sent_delays.proofs.Steps.{Tells, TellsDone, TellsEffect, tells-then, tells-followed, tells-changed, tells-same, tells-none, tells-quiet, tells-put, tells-set, tells-open, tells-watch}
 
@@ -67,28 +68,28 @@ module _ (i : ℕ) (input : i < 16) where
   unfolding decidedFor
   tells-decided d time s l h = tells-answered (d .change) time (withHold (slotAt s i) (d .held .hold)) s h refl
 
-  pub tells-auto : (largest : Lag) (time : ℕ) (s : Inputs) (l : Lists) → Sized s → TellsEffect time s (autoDelayed i largest time s l)
+  pub tells-auto : (largest : Lag) (time : ℕ) (mayLower : Bool) (s : Inputs) (l : Lists) → Sized s → TellsEffect time s (autoDelayed i largest time mayLower s l)
   unfolding autoDelayed
-  tells-auto largest time s l h =
+  tells-auto largest time mayLower s l h =
       pick-all (TellsEffect time s) (isStalled (slotAt s i .state))
       (tells-put i input s h time _ refl)
-      (pick-all (TellsEffect time s) (goesOn (slotAt s i)) (tells-decided (nextFor i largest time s l) time s l h) (tells-none h))
+      (pick-all (TellsEffect time s) (goesOn (slotAt s i)) (tells-decided (nextFor i largest time mayLower s l) time s l h) (tells-none h))
 
-  pub tells-input : (look : Look) (lags : List ℕ) (time : ℕ) (s : Inputs) (l : Lists) → Sized s → TellsEffect time s (tickedInput i look lags time s l)
+  pub tells-input : (look : Look) (lags : List ℕ) (time : ℕ) (mayLower : Bool) (s : Inputs) (l : Lists) → Sized s → TellsEffect time s (tickedInput i look lags time mayLower s l)
   unfolding tickedInput
-  tells-input look lags time s l h =
+  tells-input look lags time mayLower s l h =
       let f = tells-heard look lags time s l h in
       let g = tells-followed s (heard i look lags time s l) (λ z m. beside m (looked i look time z)) f (tells-looked look time _ (f .sized)) in
-      tells-followed s _ (autoDelayed i (largestOf lags) time) g (tells-auto (largestOf lags) time _ _ (g .sized))
+      tells-followed s _ (autoDelayed i (largestOf lags) time mayLower) g (tells-auto (largestOf lags) time mayLower _ _ (g .sized))
 
 -- ---- all inputs
 -- "inputs in order"
-pub tells-below : (n : ℕ) → n ≤ 16 → (looks : List Look) (lags : List ℕ) (time : ℕ) (s : Inputs) (l : Lists) → Sized s → TellsEffect time s (tickedBelow n looks lags time s l)
+pub tells-below : (n : ℕ) → n ≤ 16 → (looks : List Look) (lags : List ℕ) (time : ℕ) (mayLower : Bool) (s : Inputs) (l : Lists) → Sized s → TellsEffect time s (tickedBelow n looks lags time mayLower s l)
 unfolding tickedBelow
-tells-below zero most looks lags time s l h = tells-none h
-tells-below (suc n) most looks lags time s l h =
-    let f = tells-below n (omega arith) looks lags time s l h in
-    tells-followed s (tickedBelow n looks lags time s l) _ f (tells-input n (omega arith) (lookAt looks n) (lagsOf looks lags n) time _ _ (f .sized))
+tells-below zero most looks lags time mayLower s l h = tells-none h
+tells-below (suc n) most looks lags time mayLower s l h =
+    let f = tells-below n (omega arith) looks lags time mayLower s l h in
+    tells-followed s (tickedBelow n looks lags time mayLower s l) _ f (tells-input n (omega arith) (lookAt looks n) (lagsOf looks lags n) time mayLower _ _ (f .sized))
 
 -- pruning and saving change no slot
 pub tells-pruned : {time : ℕ} (s : Inputs) (extra : Extra) → Sized s → Tells time s (pruned s extra) []
@@ -102,8 +103,8 @@ tells-saved s h = tells-same (record { slots = h .slots; flows = h .flows; insta
 pub tells-lastly : {time : ℕ} (s : Inputs) → Sized s → Tells time s (lastly s) []
 tells-lastly s h = let f = tells-pruned s Nothing h in tells-then f (tells-saved (pruned s Nothing) (f .sized))
 
-pub tells-ticked : (looks : List Look) (lags : List ℕ) (time : ℕ) (s : Inputs) (l : Lists) → Sized s → s .count ≤ 16 → TellsEffect time s (ticked looks lags time s l)
-unfolding ticked tickedAll
-tells-ticked looks lags time s l h most =
-    let f = tells-below (s .count) most looks lags time s l h in
+pub tells-ticked : (looks : List Look) (lags : List ℕ) (time : ℕ) (mayLower : Bool) (s : Inputs) (l : Lists) → Sized s → s .count ≤ 16 → TellsEffect time s (tickedWith looks lags time mayLower s l)
+unfolding tickedWith tickedAll
+tells-ticked looks lags time mayLower s l h most =
+    let f = tells-below (s .count) most looks lags time mayLower s l h in
     tells-changed f (tells-lastly _ (f .sized))

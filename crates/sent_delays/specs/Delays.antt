@@ -39,4 +39,4 @@ pub record SentDelays : Type 0 where
       (s : Inputs) → Sized s → (l : Lists) (commands : List ℕ) (input : ℕ) (wanted : Wanted) (time : ℕ) (world : World) → Told s (routeReply s l commands input wanted time world)
   pub update : (s : Inputs) → Sized s → (l : Lists) (commands : List ℕ) (input : ℕ) (setting : DelaySetting) (time : ℕ) → Told s (updateReply s l commands input setting time)
   pub confirm : (s : Inputs) → Sized s → (l : Lists) (commands : List ℕ) (input time : ℕ) → Told s (confirmReply s l commands input time)
-  pub tick : (s : Inputs) → Sized s → (l : Lists) (commands : List ℕ) (looks : List Look) (lags : List ℕ) (time : ℕ) → Told s (tickReply s l commands looks lags time)
+  pub tick : (s : Inputs) → Sized s → (l : Lists) (commands : List ℕ) (looks : List Look) (lags : List ℕ) (time minute : ℕ) → Told s (tickReply s l commands looks lags time minute)

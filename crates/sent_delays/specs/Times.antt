@@ -59,4 +59,4 @@ pub record SentTimes : Type 0 where
       (s : Inputs) → Sized s → (l : Lists) (commands : List ℕ) (input : ℕ) (wanted : Wanted) (time : ℕ) (world : World) → Timed s time (routeReply s l commands input wanted time world)
   pub update : (s : Inputs) → Sized s → (l : Lists) (commands : List ℕ) (input : ℕ) (setting : DelaySetting) (time : ℕ) → Timed s time (updateReply s l commands input setting time)
   pub confirm : (s : Inputs) → Sized s → (l : Lists) (commands : List ℕ) (input time : ℕ) → Timed s time (confirmReply s l commands input time)
-  pub tick : (s : Inputs) → Sized s → (l : Lists) (commands : List ℕ) (looks : List Look) (lags : List ℕ) (time : ℕ) → Timed s time (tickReply s l commands looks lags time)
+  pub tick : (s : Inputs) → Sized s → (l : Lists) (commands : List ℕ) (looks : List Look) (lags : List ℕ) (time minute : ℕ) → Timed s time (tickReply s l commands looks lags time minute)

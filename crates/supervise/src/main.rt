@@ -1,6 +1,7 @@
 // The library behind the text protocol of compare/README.md: reads calls from standard input, one a line, and writes one answer line each.
 // A line becomes a request (text_read), a request an answer (text_alone, text_called, text_crafted), an answer a line (text_shown).
 use base::product_usize;
+use recording::Week;
 use rules_record::ExtraDelay;
 use rules_record::Inputs;
 use rules_tick::Look;
@@ -30,6 +31,7 @@ use text_requests::Known;
 use text_requests::Lone;
 use text_requests::PutAsked;
 use text_requests::Request;
+use text_requests::Setting;
 use text_requests::lists::kinds_at;
 use text_requests::lists::loads_at;
 use text_requests::lists::looks_at;
@@ -50,6 +52,9 @@ pub struct State {
     pub place: usize,
     // Whole records are shown.
     pub full: bool,
+    // The week of every `new`, and the minute of the week of every tick.
+    pub week: Week,
+    pub minute: u32,
     pub alone: Alone,
 }
 
@@ -73,6 +78,8 @@ fn begin() -> State {
         cursor,
         place: 0,
         full: false,
+        week: recording::no_windows(),
+        minute: 0,
         alone,
     }
 }
@@ -179,6 +186,19 @@ fn lone(
     }
 }
 
+// What a line sets for the lines after it.
+fn set(setting: Setting, state: State) -> State {
+    match setting {
+        Setting::Week(week) => State { week, ..state },
+        Setting::Minute(minute) => State { minute, ..state },
+        Setting::Open(open) => {
+            let kept = state.alone;
+            let alone = Alone { open, ..kept };
+            State { alone, ..state }
+        }
+    }
+}
+
 // A line that is no call on a supervisor.
 fn alone_by(
     request: Request,
@@ -198,6 +218,10 @@ fn alone_by(
     match request {
         Request::Full(full) => Told {
             state: State { full, ..state },
+            answer: Answer::Done,
+        },
+        Request::Set(setting) => Told {
+            state: set(setting, state),
             answer: Answer::Done,
         },
         Request::Alone(call) => {
@@ -307,6 +331,8 @@ fn called(
     commands: &mut Words,
     bytes: &mut Bytes,
     heard: &mut Heard,
+    week: Week,
+    minute: u32,
 ) -> Called {
     load(call, s, out, place, heard);
     let what = deed_of(call);
@@ -328,6 +354,8 @@ fn called(
                 times,
                 peaks,
                 commands,
+                week,
+                minute,
             )
         }
         Deed::Craft(asked) => Called {
@@ -451,6 +479,7 @@ fn answered(
     let kept = state.alone;
     let read = text_read::read(s, known(inputs, kept), heard);
     let request = read.request;
+    let week = state.week;
     match request {
         Request::Flush => Turn {
             state: flushed(state, out),
@@ -473,6 +502,8 @@ fn answered(
                 commands,
                 bytes,
                 heard,
+                week,
+                state.minute,
             );
             let left = done.inputs;
             let answer = done.answer;

@@ -38,7 +38,13 @@ fn told(answer: delay_hold::Answer) -> Answer {
     }
 }
 
-fn next(kept: DelayHold, asked: NextAsked, times: &mut [u64], peaks: &mut [u32]) -> HoldAnswered {
+fn next(
+    kept: DelayHold,
+    asked: NextAsked,
+    times: &mut [u64],
+    peaks: &mut [u32],
+    open: bool,
+) -> HoldAnswered {
     let policy = DelayPolicy {
         read_offset: asked.offset,
         delay_max: asked.most,
@@ -58,6 +64,7 @@ fn next(kept: DelayHold, asked: NextAsked, times: &mut [u64], peaks: &mut [u32])
         policy,
         asked.width,
         asked.time,
+        open,
     );
     let hold = r.hold;
     let answer = r.answer;
@@ -72,10 +79,11 @@ pub(crate) fn answer(
     kept: DelayHold,
     times: &mut [u64],
     peaks: &mut [u32],
+    open: bool,
 ) -> HoldAnswered {
     match request {
         Lone::HoldNew => new(times, peaks, kept),
-        Lone::Next(asked) => next(kept, asked, times, peaks),
+        Lone::Next(asked) => next(kept, asked, times, peaks, open),
         _ => HoldAnswered {
             hold: kept,
             answer: Answer::BadLine,

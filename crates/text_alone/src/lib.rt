@@ -34,6 +34,8 @@ pub struct Alone {
     pub hold: DelayHold,
     pub coalesce: Coalesce,
     pub schedule: Schedule,
+    // `next` is told that a window is open.
+    pub open: bool,
 }
 
 pub struct Answered {
@@ -56,6 +58,7 @@ pub fn begin() -> Alone {
         hold,
         coalesce,
         schedule,
+        open: false,
     }
 }
 
@@ -150,7 +153,13 @@ fn on_hold(
     let a1 = a.to;
     let b0 = b.from;
     let b1 = b.to;
-    let done = holds::answer(request, kept, &mut times[a0..a1], &mut peaks[b0..b1]);
+    let done = holds::answer(
+        request,
+        kept,
+        &mut times[a0..a1],
+        &mut peaks[b0..b1],
+        alone.open,
+    );
     let left = done.hold;
     let answer = done.answer;
     Answered {

@@ -2,6 +2,8 @@
 // call leaves the record that was there.
 use base::least_usize;
 use policy::DelayPolicy;
+use recording::Week;
+use rules_calls::Settings;
 use rules_record::ExtraDelay;
 use rules_record::Flow;
 use rules_record::FlowEntry;
@@ -52,6 +54,7 @@ pub fn begin() -> Inputs {
         unsaved: false,
         instances,
         instance_count: 0,
+        week: recording::no_windows(),
     }
 }
 
@@ -79,7 +82,7 @@ fn changed(r: InputsAnswer, input: usize) -> Called {
     }
 }
 
-// The calls that change the record, on lists of the lengths that they ask for.
+// The calls that change the record, on lists of the lengths that they ask for; `new` gets this week, a tick this minute.
 fn changing(
     call: Call,
     kept: Inputs,
@@ -94,10 +97,13 @@ fn changing(
     times: &mut [u64],
     peaks: &mut [u32],
     commands: &mut [u32],
+    week: Week,
+    minute: u32,
 ) -> Called {
     match call {
         Call::New(asked) => {
-            let settings = asked.settings;
+            let given = asked.settings;
+            let settings = Settings { week, ..given };
             made(
                 kept,
                 inputs_new::new(
@@ -184,6 +190,7 @@ fn changing(
                 times,
                 peaks,
                 commands,
+                minute,
             );
             let inputs = r.inputs;
             Called {
@@ -289,6 +296,8 @@ pub fn change(
     times: &mut [u64],
     peaks: &mut [u32],
     commands: &mut [u32],
+    week: Week,
+    minute: u32,
 ) -> Called {
     let z = sizes_for(call, kept, short);
     let a = least_usize(z.seconds, starts.len());
@@ -312,6 +321,8 @@ pub fn change(
         &mut times[..e],
         &mut peaks[..f],
         &mut commands[..g],
+        week,
+        minute,
     )
 }
 

@@ -1,2 +1,3 @@
 pub mod Supervisor
+pub mod Settings
 pub mod Table

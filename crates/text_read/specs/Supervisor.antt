@@ -8,6 +8,7 @@ use lib.Ieee.{binary64, ofBits}
 use lib.ListN.{take}
 use Rattle.base.specs.Choice.{pick}
 use Rattle.rules_calls.specs.declared.DelaySetting.the-variants.{Desk}
+use Rattle.recording.specs.Recording.{noWindows}
 use Rattle.rules_calls.specs.declared.Wanted.the-variants.{From, Nothing}
 use Rattle.text_words.specs.Words.{lost, below}
 use Rattle.text_requests.specs.declared.Call.{Call}
@@ -26,7 +27,7 @@ use Rattle.text_read.specs.declared.supervisor.TickName.{TickName}
 use Rattle.text_read.specs.declared.supervisor.WantedWord.{WantedWord}
 
 -- ---- `new`: now u64, n u32, offset u32, max u32, W u32, hold u64, window u64, stall u64, margin u32, percent hex64, confirm bit, n kinds,
--- k u32 (at most 16,384), k times flow=delay
+-- k u32 (at most 16,384), k times flow=delay; the week is not of the line: a setting line before it brings one
 unfoldable pub settingsAt : (s : List ℕ) (at : ℕ) → SettingsWords
 settingsAt s at =
     let time = u64At s at space in
@@ -54,6 +55,7 @@ settingsAt s at =
             margin = margin .value;
             percent = ofBits binary64 (percent .value);
             confirm = confirm .value;
+            week = noWindows;
           };
       next = confirm .next;
     }

@@ -11,10 +11,11 @@ use Rattle.text_words.specs.Words.{lost}
 use Rattle.text_requests.specs.declared.Known.{Known}
 use Rattle.text_requests.specs.declared.Line.{Line}
 use Rattle.text_requests.specs.declared.Request.{Request}
-use Rattle.text_requests.specs.declared.Request.the-variants.{Bad, Flush, Full, Alone, On}
+use Rattle.text_requests.specs.declared.Request.the-variants.{Bad, Flush, Full, Set, Alone, On}
 use Rattle.text_requests.specs.Forms.{space, bitAt, textEnd, wordEnd}
 use Rattle.text_read_alone.specs.Alone.{loneLine}
 use Rattle.text_read.specs.declared.Begins.{Begins}
+use Rattle.text_read.specs.Settings.{settingLine}
 use Rattle.text_read.specs.Supervisor.{TickLine, lagsOf, tickLine, callLine}
 
 -- a request, and the lags that a tick has stored
@@ -28,6 +29,7 @@ lagsIn (On call) = lagsOf call
 lagsIn Bad = 0
 lagsIn Flush = 0
 lagsIn (Full bit) = 0
+lagsIn (Set setting) = 0
 lagsIn (Alone lone) = 0
 
 abbrev pub saidOf : (request : Request) (heard : List ℕ) → Said
@@ -51,11 +53,13 @@ requestAt s at known room =
     let called = callLine s at known in
     let alone = loneLine s at (known .«lone_buckets») in
     let full = fullLine s at in
+    let set = settingLine s at in
     ended s (ticked .line .next) (record { request = On (ticked .line .call); lags = ticked .lags })
     (ended s (called .next) (silent (On (called .call)))
     (ended s (alone .next) (silent (Alone (alone .lone)))
     (ended s (full .next) (silent (Full (full .value)))
-    (silent Bad))))
+    (ended s (set .next) (silent (Set (set .setting)))
+    (silent Bad)))))
 
 -- ---- a whole line: `flush` alone, or `!5 ` where the lists are lent one place short, then a request
 unfoldable pub prefixAt : (s : List ℕ) → Begins

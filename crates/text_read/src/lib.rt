@@ -13,6 +13,7 @@ use text_words::bit_word;
 use text_words::text_end;
 use text_words::word_end;
 
+mod settings;
 mod supervisor;
 
 // Where a line's name begins, and whether its lists are short.
@@ -63,6 +64,11 @@ fn request_at(s: &[u8], at: usize, known: Known, heard: &mut [u32; 524_288]) -> 
     let bit = full(s, at);
     if ends(s, bit.next) {
         return Request::Full(bit.value);
+    }
+    let set = settings::setting_at(s, at);
+    if ends(s, set.next) {
+        let setting = set.setting;
+        return Request::Set(setting);
     }
     Request::Bad
 }

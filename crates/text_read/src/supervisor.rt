@@ -96,6 +96,7 @@ fn settings_at(s: &[u8], at: usize) -> SettingsWords
         margin: margin.value,
         percent: double(percent.value),
         confirm: confirm.value,
+        week: recording::no_windows(),
     };
     SettingsWords {
         time: time.value,

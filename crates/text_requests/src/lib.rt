@@ -2,6 +2,7 @@
 use delay_hold::DelayHold;
 use delay_hold::Lag;
 use rules_calls::DelaySetting;
+use recording::Week;
 use rules_calls::Settings;
 use rules_calls::Wanted;
 use rules_record::Proposal;
@@ -195,12 +196,23 @@ pub enum Call {
     Put(PutAsked),
 }
 
+// ---- what a line sets for the lines after it
+pub enum Setting {
+    // The week of every `new`.
+    Week(Week),
+    // The minute of the week that every tick brings.
+    Minute(u32),
+    // Whether `next` is told that a window is open.
+    Open(bool),
+}
+
 // ---- a line
 pub enum Request {
     Bad,
     Flush,
     // Whole records are shown from now on, or not.
     Full(bool),
+    Set(Setting),
     Alone(Lone),
     On(Call),
 }

@@ -1,13 +1,13 @@
 -- What `auto_delay` makes of an input's view: the last event of its tick. Assumes nothing.
 use Prim.Native.Nat.{ℕ, _+_, _≤_, _<_}
-use mathlib.Core.Bool.{true, false}
+use mathlib.Core.Bool.{true, false, Bool}
 use mathlib.Core.Path.{_≡_, refl, sym, ap, _∙_}
 use Rattle.base.specs.Limits.{timeLimit}
 use Rattle.base.specs.Choice.{both}
 use Rattle.base.proofs.Choices.{by-bool}
 use Rattle.delay_hold.specs.declared.Lag.{Lag}
 use Rattle.delay_hold.specs.Steps5To8.{timerOff, withLower}
-use Rattle.delay_hold.specs.Next.{held, Decided, nextOf, delayAfter, oneMillisecond, alwaysLower}
+use Rattle.delay_hold.specs.Next.{held, Decided, nextOf, delayAfter, oneMillisecond}
 use Rattle.rules_record.specs.declared.Proposal.{Proposal}
 use Rattle.rules_record.specs.declared.Proposal.the-variants.{Nothing, Pending}
 use Rattle.rules_record.specs.declared.Slot.{Slot}
@@ -38,9 +38,9 @@ use Rattle.third_demand.proofs.Lifted.{viewOf}
 use Rattle.third_demand.proofs.Ends.{pushedView, Last}
 
 -- ---- `auto_delay`
-module _ (i : ℕ) (largest : Lag) (time : ℕ) (s : Inputs) (l : Lists) (low : i < 16) (sized : Sized s) where
+module _ (i : ℕ) (largest : Lag) (time : ℕ) (mayLower : Bool) (s : Inputs) (l : Lists) (low : i < 16) (sized : Sized s) where
   abbrev decided : Slot
-  decided = withHold (slotAt s i) (nextFor i largest time s l .held .hold)
+  decided = withHold (slotAt s i) (nextFor i largest time mayLower s l .held .hold)
 
   put : (new : Slot) → slotAt (putSlot s i new) i ≡ new
   put new = slot-same s i new low (sized .slots)
@@ -50,44 +50,44 @@ module _ (i : ℕ) (largest : Lag) (time : ℕ) (s : Inputs) (l : Lists) (low : 
       stored-same (changing i decided s) i delay time low (sized-put s i _ sized) ∙ ap (λ (x : Slot). withDelay x delay time) (put (withDelayChanges decided (decided .«delay_changes» + 1)))
 
   -- the state and the kind stay
-  pub auto-state : slotAt (autoDelayed i largest time s l .inputs) i .state ≡ slotAt s i .state
+  pub auto-state : slotAt (autoDelayed i largest time mayLower s l .inputs) i .state ≡ slotAt s i .state
   unfolding setDelayOf sendFirst quiet
   auto-state =
-      auto-rule i largest time s l (λ effect. slotAt (effect .inputs) i .state ≡ slotAt s i .state)
+      auto-rule i largest time mayLower s l (λ effect. slotAt (effect .inputs) i .state ≡ slotAt s i .state)
       (λ e. ap (λ (x : Slot). x .state) (put _))
       (λ e. refl)
       (λ on e. ap (λ (x : Slot). x .state) (put decided))
       (λ on delay e h. ap (λ (x : Slot). x .state) (put (withProposed decided (Pending delay))))
       (λ on delay e h. ap (λ (x : Slot). x .state) (changed delay))
 
-  pub auto-config : slotAt (autoDelayed i largest time s l .inputs) i .config ≡ slotAt s i .config
+  pub auto-config : slotAt (autoDelayed i largest time mayLower s l .inputs) i .config ≡ slotAt s i .config
   unfolding setDelayOf sendFirst quiet
   auto-config =
-      auto-rule i largest time s l (λ effect. slotAt (effect .inputs) i .config ≡ slotAt s i .config)
+      auto-rule i largest time mayLower s l (λ effect. slotAt (effect .inputs) i .config ≡ slotAt s i .config)
       (λ e. ap (λ (x : Slot). x .config) (put _))
       (λ e. refl)
       (λ on e. ap (λ (x : Slot). x .config) (put decided))
       (λ on delay e h. ap (λ (x : Slot). x .config) (put (withProposed decided (Pending delay))))
       (λ on delay e h. ap (λ (x : Slot). x .config) (changed delay))
 
-  pub auto-goes : goesOn (slotAt (autoDelayed i largest time s l .inputs) i) ≡ goesOn (slotAt s i)
+  pub auto-goes : goesOn (slotAt (autoDelayed i largest time mayLower s l .inputs) i) ≡ goesOn (slotAt s i)
   unfolding goesOn
   auto-goes = λ t. both (isRunning (auto-state t)) (isAuto (auto-config t .«extra_delay»))
 
-module _ (i : ℕ) (tick : Tick) (s : Inputs) (l : Lists) (r : Ready s l i) (sized : Sized s) (soon : tick .time ≤ timeLimit) (lowers : tick .mayLower ≡ alwaysLower) (off : s .confirm ≡ false) (none : slotAt s i .proposed ≡ Nothing)
+module _ (i : ℕ) (tick : Tick) (s : Inputs) (l : Lists) (r : Ready s l i) (sized : Sized s) (soon : tick .time ≤ timeLimit) (off : s .confirm ≡ false) (none : slotAt s i .proposed ≡ Nothing)
     (view : InputView) (is : pushedView tick view ≡ viewOf s l i) where
   abbrev answer : Effect
-  answer = autoDelayed i (largestOf (tick .lags)) (tick .time) s l
+  answer = autoDelayed i (largestOf (tick .lags)) (tick .time) (tick .mayLower) s l
 
   -- "current is .. the delay", without a proposal
   current-is : slotAt s i .delay ≡ currentOf (slotAt s i)
   current-is = sym (ap (λ (x : Proposal). proposedOr x (slotAt s i .delay)) none)
 
-  decision-is : decidedAt (rulesOf (s .policy)) view tick ≡ nextFor i (largestOf (tick .lags)) (tick .time) s l
+  decision-is : decidedAt (rulesOf (s .policy)) view tick ≡ nextFor i (largestOf (tick .lags)) (tick .time) (tick .mayLower) s l
   unfolding nextFor
   decision-is =
-      (λ t. nextOf (oneMillisecond (s .policy)) (lowers t) (s .policy) (is t .held) (p999Of (s .policy) (is t .window)) (largestOf (tick .lags)) (is t .delay) (tick .time))
-      ∙ ap (λ (x : ℕ). nextOf (oneMillisecond (s .policy)) alwaysLower (s .policy) (heldOf s l i) (p999Of (s .policy) (windowOf s l i)) (largestOf (tick .lags)) x (tick .time)) current-is
+      (λ t. nextOf (oneMillisecond (s .policy)) (tick .mayLower) (s .policy) (is t .held) (p999Of (s .policy) (is t .window)) (largestOf (tick .lags)) (is t .delay) (tick .time))
+      ∙ ap (λ (x : ℕ). nextOf (oneMillisecond (s .policy)) (tick .mayLower) (s .policy) (heldOf s l i) (p999Of (s .policy) (windowOf s l i)) (largestOf (tick .lags)) x (tick .time)) current-is
 
   abbrev Ends : Effect → Type 0
   Ends effect = Last (s .policy) tick (goesOn (slotAt s i)) view (viewOf (effect .inputs) (effect .lists) i)
@@ -98,9 +98,9 @@ module _ (i : ℕ) (tick : Tick) (s : Inputs) (l : Lists) (r : Ready s l i) (siz
   goes going = record {
     event = ticks tick;
     leads = λ t. record {
-      window = (ap (λ (x : InputView). x .window) is ∙ sym (auto-window i (largestOf (tick .lags)) (tick .time) s l r sized)) t;
-      held = (ap (λ (x : Decided). x .held) decision-is ∙ sym (auto-held i (largestOf (tick .lags)) (tick .time) s l r sized going soon)) t;
-      delay = ((λ k. delayAfter (is k .delay) (decision-is k .change)) ∙ sym (auto-delay i (largestOf (tick .lags)) (tick .time) s l r sized going off)) t;
+      window = (ap (λ (x : InputView). x .window) is ∙ sym (auto-window i (largestOf (tick .lags)) (tick .time) (tick .mayLower) s l r sized)) t;
+      held = (ap (λ (x : Decided). x .held) decision-is ∙ sym (auto-held i (largestOf (tick .lags)) (tick .time) (tick .mayLower) s l r sized going soon)) t;
+      delay = ((λ k. delayAfter (is k .delay) (decision-is k .change)) ∙ sym (auto-delay i (largestOf (tick .lags)) (tick .time) (tick .mayLower) s l r sized going off)) t;
     };
     timed = refl;
     fits = tt;
@@ -138,7 +138,7 @@ module _ (i : ℕ) (tick : Tick) (s : Inputs) (l : Lists) (r : Ready s l i) (siz
 
     rests-so : Ends answer
     rests-so =
-        auto-rule i (largestOf (tick .lags)) (tick .time) s l Ends
+        auto-rule i (largestOf (tick .lags)) (tick .time) (tick .mayLower) s l Ends
         (λ e. stops)
         (λ e. idles)
         (λ on e. absurd (not-both on resting))

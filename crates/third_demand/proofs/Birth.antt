@@ -43,6 +43,7 @@ module _ (night : Night) (is-new : fresh night .number ≡ 0) where
       checked = begun .checked;
       same = begun .given;
       long = long;
+      week = accepted-of (night .settings) (night .lists) (length (night .commands)) (night .bytes) (night .delays) (night .time) passed .3;
       counted = λ i h.
           let slot = begun .slot i h in
           record { reopens = omega (arith, slot .reopens); changes = omega (arith, slot .changes); lates = omega (arith, slot .lates) };

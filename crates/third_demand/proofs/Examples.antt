@@ -2,14 +2,16 @@
 -- of 4,000, then one every 5 s with a lag of 480 and a refused call among them. Hold 0, window 1 s, W 480. Assumes nothing.
 use Prim.Native.Nat.{ℕ, _+_, _*_, _≤_}
 use mathlib.Core.Path.{_≡_, refl, sym, subst, _∙_}
-use mathlib.Core.Bool.{Bool, true, false}
+use mathlib.Core.Bool.{Bool, true, false, not}
 use mathlib.Core.List.{List, [], _∷_}
 use native.Mathlib.Omega.{arith}
-use borrow.Author.Tests.{leb-true, eq-eqb, ne-eqb}
+use borrow.Author.Tests.{leb-true, eq-eqb, ne-eqb, not-true}
 use lib.Dec.{leb, eqb}
 use lib.IntN.{pos}
 use lib.Ieee.{fin}
 use lib.ListN.{replicate}
+use Rattle.recording.specs.declared.Week.{Week}
+use Rattle.recording.specs.Recording.{noDay, windowOpen}
 use Rattle.base.specs.Limits.{nanos}
 use Rattle.base.specs.Choice.{pick, both}
 use Rattle.base.proofs.Choices.{yes-pick, no-pick, by-zero, accepted-new, refused-old}
@@ -38,11 +40,15 @@ use Rattle.history.specs.Stretch.{NonEmpty, NoneAbove, bucketEnd}
 use Rattle.third_demand.specs.Calls.{Call, routes, updates, ticks, timeOf, after, run, Accepted, clockAfter, Orderly, toldBy, told, Night, fresh, leftBy, delayOf}
 use Rattle.third_demand.specs.Demand.{policyIn, RunsOn, InStretch, Goes, tickTime, lastTick, Stretch, ending}
 use Rattle.third_demand.proofs.ThirdDemand.{third-demand}
-use Rattle.third_demand.proofs.Opened.{base-opened, window-opened, hold-opened, record-opened, routing-opened, calls-opened, tick-opened}
+use Rattle.third_demand.proofs.Opened.{base-opened, week-opened, window-opened, hold-opened, record-opened, routing-opened, calls-opened, tick-opened}
 
 -- ---- the calls
+-- a recording on Tuesdays from 09:00 to 10:00
+abbrev tuesdays : Week
+tuesdays = record { monday = noDay; tuesday = record { opens = 540; closes = 600 }; wednesday = noDay; thursday = noDay; friday = noDay; saturday = noDay; sunday = noDay }
+
 abbrev small : Settings
-small = record { count = 1; rate = 48_000; «read_offset» = 480; «delay_max» = 4800; width = 480; hold = 0; window = nanos; stall = 600 * nanos; margin = 96; percent = fin false 25 (pos 1); confirm = false }
+small = record { count = 1; rate = 48_000; «read_offset» = 480; «delay_max» = 4800; width = 480; hold = 0; window = nanos; stall = 600 * nanos; margin = 96; percent = fin false 25 (pos 1); confirm = false; week = tuesdays }
 
 -- one input on automatic; 23 buckets a second
 abbrev night : Night
@@ -67,9 +73,9 @@ opens = routes 0 (Wanted.From (record { domain = 0; flow = record { high = 0; lo
 abbrev looks : List Look
 looks = record { seen = Inode.Of 7; world = world; applied = 0; lags = 1 } ∷ []
 
--- a tick with this lag, at so many seconds
+-- a tick with this lag, at so many seconds; it is ten in the morning of a Tuesday, and the recording has ended
 abbrev tickAt : (second lag : ℕ) → Call
-tickAt second lag = ticks looks (lag ∷ []) (second * nanos)
+tickAt second lag = ticks looks (lag ∷ []) (second * nanos) 2040
 
 -- refused by 7: there is no input 5
 abbrev refused : Call
@@ -109,7 +115,8 @@ oneUpTo L (lag ∷ (more ∷ lags)) = false
 abbrev goesBy : (i L before : ℕ) → Call → (z : Reply) → Bool
 goesBy i L before (routes input wanted time world) z = false
 goesBy i L before (updates input setting time) z = false
-goesBy i L before (ticks seen lags time) z = both (leb time (before + 5 * nanos)) (both (goesOn (slotAt (z .inputs) i)) (oneUpTo L (lagsOf seen lags i)))
+goesBy i L before (ticks seen lags time minute) z =
+    both (leb time (before + 5 * nanos)) (both (goesOn (slotAt (z .inputs) i)) (both (oneUpTo L (lagsOf seen lags i)) (not (windowOpen tuesdays minute))))
 
 -- the calls after a tick of the stretch at `before`: refused ones, and ticks of it
 unfoldable along : (i L before : ℕ) → Reply → List Call → Bool
@@ -124,16 +131,17 @@ one-lag L [] h = absurd (not-both h refl)
 one-lag L (lag ∷ []) h = (tt, (leb-true _ _ h, tt))
 one-lag L (lag ∷ (more ∷ lags)) h = absurd (not-both h refl)
 
-goes-of : (i L before : ℕ) (r : Reply) (call : Call) → goesBy i L before call (after r call) ≡ true → Goes i L before r call
+goes-of : (i L before : ℕ) (r : Reply) (call : Call) → goesBy i L before call (after r call) ≡ true → Goes tuesdays i L before r call
 goes-of i L before r (routes input wanted time world) h = absurd (not-both h refl)
 goes-of i L before r (updates input setting time) h = absurd (not-both h refl)
-goes-of i L before r (ticks seen lags time) h =
+goes-of i L before r (ticks seen lags time minute) h =
     let a = both-true _ _ h in
     let b = both-true _ _ (a .1) in
-    let c = one-lag L (lagsOf seen lags i) (b .1) in
-    record { soon = leb-true _ _ (a .0); runs = b .0; lagged = c .0; none-above = c .1 }
+    let d = both-true _ _ (b .1) in
+    let c = one-lag L (lagsOf seen lags i) (d .0) in
+    record { soon = leb-true _ _ (a .0); runs = b .0; lagged = c .0; none-above = c .1; outside = not-true _ (d .1) }
 
-along-stretch : (i L before : ℕ) (r : Reply) (calls : List Call) → along i L before r calls ≡ true → Stretch i L before r calls
+along-stretch : (i L before : ℕ) (r : Reply) (calls : List Call) → along i L before r calls ≡ true → Stretch tuesdays i L before r calls
 unfolding along lastTick
 along-stretch i L before r [] h = tt
 along-stretch i L before r (call ∷ calls) h =
@@ -141,12 +149,12 @@ along-stretch i L before r (call ∷ calls) h =
     (λ took.
     let a = both-true _ _ (sym (yes-pick _ _ (eq-eqb _ _ took)) ∙ h) in (
       λ again. goes-of i L before r call (a .0),
-      subst (λ (x : ℕ). Stretch i L x (after r call) calls) (sym (accepted-new (after r call .number) before (tickTime before call) took))
+      subst (λ (x : ℕ). Stretch tuesdays i L x (after r call) calls) (sym (accepted-new (after r call .number) before (tickTime before call) took))
           (along-stretch i L (tickTime before call) (after r call) calls (a .1)),
     ))
     (λ none. (
       λ took. absurd (none took),
-      subst (λ (x : ℕ). Stretch i L x (after r call) calls) (sym (refused-old (after r call .number) before (tickTime before call) none))
+      subst (λ (x : ℕ). Stretch tuesdays i L x (after r call) calls) (sym (refused-old (after r call .number) before (tickTime before call) none))
           (along-stretch i L before (after r call) calls (sym (no-pick _ _ (ne-eqb _ _ none)) ∙ h)),
     ))
 
@@ -159,14 +167,14 @@ record Computed : Type 0 where
   late-lag : largestOf (lagsOf looks (4000 ∷ []) 0) ≡ Lag.Of 4000
   late-delay : delayOf 0 night (opens ∷ tickAt 0 4000 ∷ []) ≡ 4800
   first-taken : Accepted (leftBy night (opens ∷ tickAt 0 4000 ∷ [])) (tickAt 5 480)
-  first-in : InStretch 0 480 (5 * nanos) looks (480 ∷ []) (5 * nanos) (after (leftBy night (opens ∷ tickAt 0 4000 ∷ [])) (tickAt 5 480))
+  first-in : InStretch tuesdays 0 480 (5 * nanos) looks (480 ∷ []) (5 * nanos) 2040 (after (leftBy night (opens ∷ tickAt 0 4000 ∷ [])) (tickAt 5 480))
   goes-along : along 0 480 (5 * nanos) (after (leftBy night (opens ∷ tickAt 0 4000 ∷ [])) (tickAt 5 480)) later ≡ true
   long : 5 * nanos + (30 * nanos + policyIn night .window + 3 * policyIn night .hold) ≤ ending (5 * nanos) (after (leftBy night (opens ∷ tickAt 0 4000 ∷ [])) (tickAt 5 480)) later
   last-delay : delayOf 0 night (opens ∷ tickAt 0 4000 ∷ tickAt 5 480 ∷ later) ≡ 816
   last-need : needOf (policyIn night) (bucketEnd (policyIn night) 480 480) ≡ 816
 
 computed : Computed
-unfolding along base-opened window-opened hold-opened record-opened routing-opened calls-opened tick-opened lastDelay delayTold bucketEnd after run told toldBy delayOf lastTick ending
+unfolding along base-opened week-opened window-opened hold-opened record-opened routing-opened calls-opened tick-opened lastDelay delayTold bucketEnd after run told toldBy delayOf lastTick ending
 computed = record {
   new = refl;
   late-taken = refl;
@@ -174,7 +182,7 @@ computed = record {
   late-lag = refl;
   late-delay = refl;
   first-taken = refl;
-  first-in = record { soon = leb-true _ _ refl; runs = refl; lagged = tt; none-above = (leb-true _ _ refl, tt) };
+  first-in = record { soon = leb-true _ _ refl; runs = refl; lagged = tt; none-above = (leb-true _ _ refl, tt); outside = refl };
   goes-along = refl;
   long = leb-true _ _ refl;
   last-delay = refl;
@@ -185,14 +193,14 @@ computed = record {
 floor-here : 4000 ≤ delayOf 0 night (opens ∷ tickAt 0 4000 ∷ []) + 480
 unfolding policyOf
 floor-here =
-    third-demand .floor night (opens ∷ []) looks (4000 ∷ []) (0 * nanos) 0 4000
+    third-demand .floor night (opens ∷ []) looks (4000 ∷ []) (0 * nanos) 2040 0 4000
     (record { new = computed .new; unconfirmed = refl; few = omega arith; orderly = rising-orderly 0 0 (fresh night) (opens ∷ tickAt 0 4000 ∷ []) (omega arith) (omega arith, (omega arith, tt)) })
     (omega arith) (computed .late-taken) (computed .late-runs) (computed .late-lag) (omega arith)
 
 ceiling-here : delayOf 0 night (opens ∷ tickAt 0 4000 ∷ tickAt 5 480 ∷ later) ≤ needOf (policyIn night) (bucketEnd (policyIn night) 480 480) + 47
 unfolding policyOf
 ceiling-here =
-    third-demand .ceiling night (opens ∷ tickAt 0 4000 ∷ []) looks (480 ∷ []) (5 * nanos) 0 480 later
+    third-demand .ceiling night (opens ∷ tickAt 0 4000 ∷ []) looks (480 ∷ []) (5 * nanos) 2040 0 480 later
     (record {
       new = computed .new;
       unconfirmed = refl;

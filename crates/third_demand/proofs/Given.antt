@@ -24,6 +24,10 @@ module _ (settings : Settings) (z : Inputs) (given : SameSettings (blankFor sett
   unfolding blankFor blank
   given-confirm = ap (λ (x : Inputs). x .confirm) given
 
+  pub given-week : z .week ≡ settings .week
+  unfolding blankFor blank
+  given-week = ap (λ (x : Inputs). x .week) given
+
   pub given-input : (i : ℕ) → i < settings .count → i < z .count
   given-input i h = subst (λ (x : ℕ). i < x) (sym given-count) h
 

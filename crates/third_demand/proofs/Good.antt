@@ -1,9 +1,12 @@
 -- What every call from a fresh supervisor keeps, with confirmation and without, and the laws of one call on which the third demand rests.
 -- Assumes nothing.
 use Prim.Native.Nat.{ℕ, _+_, _*_, _≤_, _<_}
+use mathlib.Core.Bool.{true}
 use mathlib.Core.Path.{_≡_}
 use mathlib.Core.List.{List}
 use lib.ListN.{length}
+use Rattle.recording.specs.Recording.{weekFits}
+use Rattle.rules_tick.specs.Tick.{lowersAt}
 use Rattle.rules_calls.specs.declared.DelaySetting.{DelaySetting}
 use Rattle.rules_record.specs.declared.Proposal.the-variants.{Nothing}
 use Rattle.rules_record.specs.declared.Slot.{Slot}
@@ -39,6 +42,7 @@ pub record Sure (settings : Settings) (n : ℕ) (r : Reply) : Type 0 where
   pub checked : Checked (r .inputs) (r .lists)
   pub same : SameSettings (blankFor settings) (r .inputs)
   pub long : length (r .commands) ≡ settings .count * 12
+  pub week : weekFits (settings .week) ≡ true
   pub counted : (i : ℕ) → i < settings .count → Counted n (slotAt (r .inputs) i)
 
 -- what they leave without confirmation
@@ -73,9 +77,9 @@ pub record Alone (i : ℕ) (r z : Reply) : Type 0 where
 pub record Laws (settings : Settings) : Type 0 where
   pub step : (n : ℕ) (r : Reply) (call : Call) → n < most → Good settings n r → Accepted r call → Step settings n r call
   pub tick :
-      (n : ℕ) (r : Reply) (looks : List Look) (lags : List ℕ) (time i : ℕ) → n < most → Good settings n r → Accepted r (ticks looks lags time) → i < settings .count →
-      TickLifted (policyOf settings) (tickOf time (lagsOf looks lags i)) (isRunning (slotAt (r .inputs) i .state))
-      (goesOn (slotAt (after r (ticks looks lags time) .inputs) i)) (seenAt r i) (seenAt (after r (ticks looks lags time)) i)
+      (n : ℕ) (r : Reply) (looks : List Look) (lags : List ℕ) (time minute i : ℕ) → n < most → Good settings n r → Accepted r (ticks looks lags time minute) → i < settings .count →
+      TickLifted (policyOf settings) (tickOf time (lagsOf looks lags i) (lowersAt (r .inputs) minute)) (isRunning (slotAt (r .inputs) i .state))
+      (goesOn (slotAt (after r (ticks looks lags time minute) .inputs) i)) (seenAt r i) (seenAt (after r (ticks looks lags time minute)) i)
   pub route-other :
       (n : ℕ) (r : Reply) (input : ℕ) (wanted : Wanted) (time : ℕ) (world : World) (i : ℕ) → Sure settings n r → Accepted r (routes input wanted time world) → i < settings .count →
       (input ≡ i → ⊥) → Alone i r (after r (routes input wanted time world))

@@ -32,19 +32,19 @@ use Rattle.third_demand.proofs.Ends.{Seeded, Last, seeded-then}
 use Rattle.third_demand.proofs.StepViews.{heard-state, heard-config, heard-view, looked-seeded}
 use Rattle.third_demand.proofs.AutoViews.{auto-config, auto-goes, auto-last}
 
-module _ (i : ℕ) (look : Look) (lags : List ℕ) (time : ℕ) (s : Inputs) (l : Lists) where
+module _ (i : ℕ) (look : Look) (lags : List ℕ) (time : ℕ) (mayLower : Bool) (s : Inputs) (l : Lists) where
   abbrev tick : Tick
-  tick = tickOf time lags
+  tick = tickOf time lags mayLower
 
   abbrev answer : Effect
-  answer = autoDelayed i (largestOf lags) time (lookedInputs i look lags time s l) (heardLists i look lags time s l)
+  answer = autoDelayed i (largestOf lags) time mayLower (lookedInputs i look lags time s l) (heardLists i look lags time s l)
 
   module _ (low : i < 16) (sized : Sized s) where
     -- the kind stays throughout
-    pub input-config : slotAt (tickedInput i look lags time s l .inputs) i .config ≡ slotAt s i .config
+    pub input-config : slotAt (tickedInput i look lags time mayLower s l .inputs) i .config ≡ slotAt s i .config
     unfolding tickedInput followedBy
     input-config =
-        auto-config i (largestOf lags) time (lookedInputs i look lags time s l) (heardLists i look lags time s l) low (between-sized i look lags time s l sized)
+        auto-config i (largestOf lags) time mayLower (lookedInputs i look lags time s l) (heardLists i look lags time s l) low (between-sized i look lags time s l sized)
         ∙ looked-slot i look time (heardInputs i look lags time s l) low (heard-sized i look lags time s l sized) .config
         ∙ heard-config i look lags time s l low sized
 
@@ -59,7 +59,7 @@ module _ (i : ℕ) (look : Look) (lags : List ℕ) (time : ℕ) (s : Inputs) (l 
     begun =
         subst (λ (x : DelayPolicy). Seeded x tick (isRunning (slotAt s i .state)) (viewOf s l i) (viewOf (lookedInputs i look lags time s l) (heardLists i look lags time s l) i)) (ap (λ (x : Inputs). x .policy) (heard-settings i look lags time s l))
         (subst (λ (x : State). Seeded ((heardInputs i look lags time s l) .policy) tick (isRunning x) (viewOf s l i) (viewOf (lookedInputs i look lags time s l) (heardLists i look lags time s l) i)) (heard-state i look lags time s l input sized)
-        (looked-seeded i look (heardInputs i look lags time s l) (heardLists i look lags time s l) tick input (heard-sized i look lags time s l sized) soon (viewOf s l i) (heard-view i look lags time s l input sized r soon room)))
+        (looked-seeded i look (heardInputs i look lags time s l) (heardLists i look lags time s l) tick input (heard-sized i look lags time s l sized) soon (viewOf s l i) (heard-view i look lags time s l input sized mayLower r soon room)))
 
     -- the view from which the last event leads on
     abbrev from : InputView
@@ -68,13 +68,13 @@ module _ (i : ℕ) (look : Look) (lags : List ℕ) (time : ℕ) (s : Inputs) (l 
     ended : Last (s .policy) tick (goesOn (slotAt (answer .inputs) i)) from (viewOf (answer .inputs) (answer .lists) i)
     ended =
         subst (λ (x : DelayPolicy). Last x tick (goesOn (slotAt (answer .inputs) i)) from (viewOf (answer .inputs) (answer .lists) i)) (ap (λ (x : Inputs). x .policy) (between-settings i look lags time s l))
-        (subst (λ (x : Bool). Last ((lookedInputs i look lags time s l) .policy) tick x from (viewOf (answer .inputs) (answer .lists) i)) (sym (auto-goes i (largestOf lags) time (lookedInputs i look lags time s l) (heardLists i look lags time s l) input (between-sized i look lags time s l sized)))
-        (auto-last i tick (lookedInputs i look lags time s l) (heardLists i look lags time s l) (between-ready i look lags time s l r sized soon room) (between-sized i look lags time s l sized) soon refl
+        (subst (λ (x : Bool). Last ((lookedInputs i look lags time s l) .policy) tick x from (viewOf (answer .inputs) (answer .lists) i)) (sym (auto-goes i (largestOf lags) time mayLower (lookedInputs i look lags time s l) (heardLists i look lags time s l) input (between-sized i look lags time s l sized)))
+        (auto-last i tick (lookedInputs i look lags time s l) (heardLists i look lags time s l) (between-ready i look lags time s l r sized soon room) (between-sized i look lags time s l sized) soon
         (ap (λ (x : Inputs). x .confirm) (between-settings i look lags time s l) ∙ off) (between-proposed input sized ∙ none) from (begun .leads)))
 
     pub input-lifted :
-        TickLifted (s .policy) tick (isRunning (slotAt s i .state)) (goesOn (slotAt (tickedInput i look lags time s l .inputs) i)) (viewOf s l i)
-        (viewOf (tickedInput i look lags time s l .inputs) (tickedInput i look lags time s l .lists) i)
+        TickLifted (s .policy) tick (isRunning (slotAt s i .state)) (goesOn (slotAt (tickedInput i look lags time mayLower s l .inputs) i)) (viewOf s l i)
+        (viewOf (tickedInput i look lags time mayLower s l .inputs) (tickedInput i look lags time mayLower s l .lists) i)
     unfolding tickedInput followedBy
     input-lifted =
         seeded-then (s .policy) tick (isRunning (slotAt s i .state)) (goesOn (slotAt (answer .inputs) i)) (viewOf s l i) (viewOf (lookedInputs i look lags time s l) (heardLists i look lags time s l) i) (viewOf (answer .inputs) (answer .lists) i) soon room begun

@@ -1,5 +1,6 @@
 -- How many words a call sends: they fit into the lent commands, whose length stays. Assumes nothing.
 use Prim.Native.Nat.{ℕ, zero, suc, _+_, _*_, _≤_, _<_, zero-le}
+use mathlib.Core.Bool.{Bool}
 use mathlib.Core.Path.{_≡_}
 use mathlib.Core.List.{List, [], _++_}
 use native.Mathlib.Omega.{arith}
@@ -34,7 +35,7 @@ use Rattle.rules_calls.specs.declared.Wanted.{Wanted}
 use Rattle.rules_calls.specs.Route.{enrolledFor, routeFor, equalRoute, startsOver, forgetting, zeroing, routedSlot, openedFor, moved, rerouted, routedTo, routed}
 use Rattle.rules_tick.specs.declared.Look.{Look}
 use Rattle.rules_tick.specs.Looks.{lookAt, lagsOf}
-use Rattle.rules_tick.specs.Tick.{heard, looked, tickedInput, tickedBelow, tickedAll, ticked}
+use Rattle.rules_tick.specs.Tick.{heard, looked, tickedInput, tickedBelow, tickedAll, tickedWith}
 use Rattle.rules_tick.proofs.TickFrames.{heard-sized, below-sized}
 use Rattle.rules_tick.proofs.Looked.{looked-outcomes}
 use Rattle.rules_calls.specs.NewStart.{kindAt, startedOne, startedBelow}
@@ -76,33 +77,33 @@ module _ (i : ℕ) (low : i < 16) where
       (λ stalls. few-none 6)
       (λ inode channels stalls of to. omega arith)
 
-  auto-few : (largest : Lag) (time : ℕ) (s : Inputs) (l : Lists) → Few 3 (autoDelayed i largest time s l .words)
-  auto-few largest time s l =
-      auto-rule i largest time s l (λ effect. Few 3 (effect .words)) (λ e. few-none 3) (λ e. few-none 3) (λ on e. few-none 3) (λ on delay e h. few-none 3) (λ on delay e h. set-few _ i delay time)
+  auto-few : (largest : Lag) (time : ℕ) (mayLower : Bool) (s : Inputs) (l : Lists) → Few 3 (autoDelayed i largest time mayLower s l .words)
+  auto-few largest time mayLower s l =
+      auto-rule i largest time mayLower s l (λ effect. Few 3 (effect .words)) (λ e. few-none 3) (λ e. few-none 3) (λ on e. few-none 3) (λ on delay e h. few-none 3) (λ on delay e h. set-few _ i delay time)
 
   -- ---- a tick
   heard-few : (look : Look) (lags : List ℕ) (time : ℕ) (s : Inputs) (l : Lists) → Few 0 (heard i look lags time s l .words)
   unfolding heard arrived
   heard-few look lags time s l = few-then 0 0 (arrived i time lags s l) _ (few-none 0) (few-none 0)
 
-  input-few : (look : Look) (lags : List ℕ) (time : ℕ) (s : Inputs) (l : Lists) → Sized s → Few 9 (tickedInput i look lags time s l .words)
+  input-few : (look : Look) (lags : List ℕ) (time : ℕ) (mayLower : Bool) (s : Inputs) (l : Lists) → Sized s → Few 9 (tickedInput i look lags time mayLower s l .words)
   unfolding tickedInput
-  input-few look lags time s l sized =
-      few-then 6 3 _ _ (few-then 0 6 (heard i look lags time s l) _ (heard-few look lags time s l) (looked-few look time _ (heard-sized i look lags time s l sized))) (auto-few (largestOf lags) time _ _)
+  input-few look lags time mayLower s l sized =
+      few-then 6 3 _ _ (few-then 0 6 (heard i look lags time s l) _ (heard-few look lags time s l) (looked-few look time _ (heard-sized i look lags time s l sized))) (auto-few (largestOf lags) time mayLower _ _)
 
-pub below-few : (n : ℕ) → n ≤ 16 → (looks : List Look) (lags : List ℕ) (time : ℕ) (s : Inputs) (l : Lists) → Sized s → Few (n * 9) (tickedBelow n looks lags time s l .words)
+pub below-few : (n : ℕ) → n ≤ 16 → (looks : List Look) (lags : List ℕ) (time : ℕ) (mayLower : Bool) (s : Inputs) (l : Lists) → Sized s → Few (n * 9) (tickedBelow n looks lags time mayLower s l .words)
 unfolding tickedBelow
-below-few zero le looks lags time s l sized = few-none 0
-below-few (suc n) le looks lags time s l sized =
+below-few zero le looks lags time mayLower s l sized = few-none 0
+below-few (suc n) le looks lags time mayLower s l sized =
     omega (
       arith,
-      few-then (n * 9) 9 (tickedBelow n looks lags time s l) (tickedInput n (lookAt looks n) (lagsOf looks lags n) time) (below-few n (omega (arith, le)) looks lags time s l sized)
-          (input-few n (omega (arith, le)) (lookAt looks n) (lagsOf looks lags n) time _ _ (below-sized looks lags time s l n sized)),
+      few-then (n * 9) 9 (tickedBelow n looks lags time mayLower s l) (tickedInput n (lookAt looks n) (lagsOf looks lags n) time mayLower) (below-few n (omega (arith, le)) looks lags time mayLower s l sized)
+          (input-few n (omega (arith, le)) (lookAt looks n) (lagsOf looks lags n) time mayLower _ _ (below-sized looks lags time mayLower s l n sized)),
     )
 
-pub ticked-few : (looks : List Look) (lags : List ℕ) (time : ℕ) (s : Inputs) (l : Lists) → s .count ≤ 16 → Sized s → Few (s .count * 12) (ticked looks lags time s l .words)
-unfolding ticked tickedAll
-ticked-few looks lags time s l le sized = omega (arith, below-few (s .count) le looks lags time s l sized)
+pub ticked-few : (looks : List Look) (lags : List ℕ) (time : ℕ) (mayLower : Bool) (s : Inputs) (l : Lists) → s .count ≤ 16 → Sized s → Few (s .count * 12) (tickedWith looks lags time mayLower s l .words)
+unfolding tickedWith tickedAll
+ticked-few looks lags time mayLower s l le sized = omega (arith, below-few (s .count) le looks lags time mayLower s l sized)
 
 -- ---- `update`
 pub updated-few : (i : ℕ) (kind : ExtraDelay) (time : ℕ) (s : Inputs) (l : Lists) → Few 3 (updated i kind time s l .words)

@@ -5,6 +5,7 @@ pub mod StepViews
 pub mod AutoViews
 pub mod InputViews
 pub mod TickViews
+pub mod Waiting
 pub mod CallViews
 pub mod UpdateViews
 pub mod RouteViews
@@ -20,6 +21,7 @@ pub mod Given
 pub mod Steps
 pub mod Theorem
 pub mod Birth
+pub mod NeverLowers
 pub mod ThirdDemand
 pub mod Opened
 pub mod Examples

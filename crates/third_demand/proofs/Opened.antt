@@ -2,6 +2,7 @@
 -- Assumes nothing.
 use Prim.Native.Nat.{ℕ}
 use lib.Ieee.{round, mul, div, ofInt, le}
+use Rattle.recording.specs.Recording.{dayFits, dayAt, noWindows, weekFits, minuteFits, opensToday, openSinceYesterday, windowOpen}
 use Rattle.base.specs.Any.{any}
 use Rattle.base.specs.Choice.{both, ask}
 use Rattle.base.specs.Lists.{padded, blankFrom, sum, all, listed, sumFrom}
@@ -53,14 +54,19 @@ use Rattle.rules_tick.specs.Lags.{windowAfter, lastLag, arrived}
 use Rattle.rules_tick.specs.LateEvents.{lateNow, lateEvents, lateEvent}
 use Rattle.rules_tick.specs.AutoDelay.{p999Of, nextFor, answered, decidedFor, goesOn, autoDelayed}
 use Rattle.rules_tick.specs.Looks.{lookAt, lagsBefore, lagsOf}
-use Rattle.rules_tick.specs.Tick.{heard, looked, tickedInput, tickedBelow, tickedAll, ticked}
-use Rattle.rules_tick.specs.TickChecks.{looksFit, lagsFit, roomsFit, tickNumber}
+use Rattle.rules_tick.specs.Tick.{heard, looked, tickedInput, tickedBelow, tickedAll, tickedWith}
+use Rattle.rules_tick.specs.TickChecks.{looksFit, lagsFit, roomsFit, broughtNumber, tickNumber}
 use Rattle.rules_tick.specs.TickReply.{tickReply}
 
 -- of base, doubles and policy
 unfoldable pub base-opened : ℕ
 unfolding any both ask padded blankFrom sum all listed sumFrom apart upTo firsts.first halfAway ceilOf quantiles.targetOf shareOf needOf rateAllowed reachesAllowed widthAllowed bucketsFew rangesNumber timesAllowed marginsAllowed shareOfPercent percentAllowed round mul div ofInt le
 base-opened = 0
+
+-- of a week of recordings
+unfoldable pub week-opened : ℕ
+unfolding dayFits dayAt noWindows weekFits minuteFits opensToday openSinceYesterday windowOpen
+week-opened = 0
 
 -- of a window
 unfoldable pub window-opened : ℕ
@@ -89,5 +95,5 @@ calls-opened = 0
 
 -- of a tick
 unfoldable pub tick-opened : ℕ
-unfolding windowAfter lastLag arrived lateNow lateEvents lateEvent thousandths p999Of nextFor answered decidedFor goesOn autoDelayed lookAt lagsBefore lagsOf heard looked tickedInput tickedBelow tickedAll ticked looksFit lagsFit roomsFit tickNumber tickReply
+unfolding windowAfter lastLag arrived lateNow lateEvents lateEvent thousandths p999Of nextFor answered decidedFor goesOn autoDelayed lookAt lagsBefore lagsOf heard looked tickedInput tickedBelow tickedAll tickedWith looksFit lagsFit roomsFit broughtNumber tickNumber tickReply
 tick-opened = 0

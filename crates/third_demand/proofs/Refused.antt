@@ -43,7 +43,7 @@ refused-after r (updates input setting time) refused =
     unchanged-of r _
     (reply-unchanged (r .inputs) (r .lists) (r .commands) (updated input (kindOf setting) time (r .inputs) (r .lists))
     (updateNumber (r .inputs) (r .lists) (length (r .commands)) input setting time) refused)
-refused-after r (ticks looks lags time) refused =
+refused-after r (ticks looks lags time minute) refused =
     unchanged-of r _
-    (reply-unchanged (r .inputs) (r .lists) (r .commands) (ticked looks lags time (r .inputs) (r .lists))
-    (tickNumber (r .inputs) (r .lists) (length (r .commands)) looks lags time) refused)
+    (reply-unchanged (r .inputs) (r .lists) (r .commands) (ticked looks lags time minute (r .inputs) (r .lists))
+    (tickNumber (r .inputs) (r .lists) (length (r .commands)) looks lags time minute) refused)

@@ -94,6 +94,7 @@ sure-unchanged settings n r z u g =
       checked = subst (λ (l : Lists). Checked (z .inputs) l) (sym (u .lists)) (subst (λ (s : Inputs). Checked s (r .lists)) (sym (u .inputs)) (g .checked));
       same = subst (λ (s : Inputs). SameSettings (blankFor settings) s) (sym (u .inputs)) (g .same);
       long = ap length (u .commands) ∙ g .long;
+      week = g .week;
       counted = λ i h. subst (λ (s : Inputs). Counted (n + 1) (slotAt s i)) (sym (u .inputs)) (counted-more n (slotAt (r .inputs) i) (g .counted i h));
     }
 

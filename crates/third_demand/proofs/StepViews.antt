@@ -1,6 +1,6 @@
 -- What the first steps of an input's tick make of its view: its lags are pushed, and then it is opened or watched, which seeds it, at most. Assumes nothing.
 use Prim.Native.Nat.{ℕ, _*_, _≤_, _<_}
-use mathlib.Core.Bool.{true, false}
+use mathlib.Core.Bool.{true, false, Bool}
 use mathlib.Core.Path.{_≡_, refl, sym, ap, subst, _∙_}
 use mathlib.Core.List.{List}
 use native.Mathlib.Omega.{arith}
@@ -67,10 +67,10 @@ module _ (i : ℕ) (look : Look) (lags : List ℕ) (time : ℕ) (s : Inputs) (l 
   pub heard-delay : slotAt (heard i look lags time s l .inputs) i .delay ≡ slotAt s i .delay
   heard-delay = ap (λ (x : Slot). x .delay) heard-slot
 
-  pub heard-view : Ready s l i → time ≤ timeLimit → roomFor time (length lags) (windowOf s l i) ≡ true
-      → pushedView (tickOf time lags) (viewOf s l i) ≡ viewOf (heard i look lags time s l .inputs) (heard i look lags time s l .lists) i
+  pub heard-view : (mayLower : Bool) → Ready s l i → time ≤ timeLimit → roomFor time (length lags) (windowOf s l i) ≡ true
+      → pushedView (tickOf time lags mayLower) (viewOf s l i) ≡ viewOf (heard i look lags time s l .inputs) (heard i look lags time s l .lists) i
   unfolding heard followedBy windowAfter
-  heard-view r soon room = sym (λ t. record {
+  heard-view mayLower r soon room = sym (λ t. record {
     window = (late-window i (look .applied) (largestOf lags) (pushed .inputs) (pushed .lists) low pushed-long ∙ arrived-window i time lags s l r (sized .slots) soon room) t;
     held = (late-held i (look .applied) (largestOf lags) (pushed .inputs) (pushed .lists) low pushed-long ∙ arrived-held i time lags s l r (sized .slots)) t;
     delay = heard-delay t;

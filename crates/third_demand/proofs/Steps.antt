@@ -32,7 +32,7 @@ use Rattle.rules_calls.specs.NewRecord.{policyOf, blankFor}
 use Rattle.rules_tick.specs.declared.Look.{Look}
 use Rattle.rules_tick.specs.Looks.{lagsOf}
 use Rattle.rules_tick.specs.TickChecks.{tickNumber}
-use Rattle.rules_tick.specs.Tick.{ticked}
+use Rattle.rules_tick.specs.Tick.{ticked, lowersAt}
 use Rattle.rules_tick.specs.TickReply.{tickReply}
 use Rattle.rules_tick.proofs.TickFrames.{tick-settings}
 use Rattle.rules_tick.proofs.TickKeeps.{MayCount, tick-keeps}
@@ -74,6 +74,7 @@ module _ (settings : Settings) (n : ℕ) (r : Reply) (g : Sure settings n r) whe
       checked = kept;
       same = settings-then (blankFor settings) (r .inputs) (z .inputs) (g .same) (on .settings);
       long = long;
+      week = g .week;
       counted = λ i h.
           let c = g .counted i h in
           record {
@@ -149,23 +150,23 @@ module _ (settings : Settings) (n : ℕ) (r : Reply) (g : Sure settings n r) whe
     }
 
   -- ---- `tick`
-  module _ (few : n < most) (looks : List Look) (lags : List ℕ) (time : ℕ) (took : Accepted r (ticks looks lags time)) where
+  module _ (few : n < most) (looks : List Look) (lags : List ℕ) (time minute : ℕ) (took : Accepted r (ticks looks lags time minute)) where
     abbrev after-tick : Reply
-    after-tick = after r (ticks looks lags time)
+    after-tick = after r (ticks looks lags time minute)
 
-    tick-passed : tickNumber (r .inputs) (r .lists) (length (r .commands)) looks lags time ≡ 0
+    tick-passed : tickNumber (r .inputs) (r .lists) (length (r .commands)) looks lags time minute ≡ 0
     unfolding after tickReply
-    tick-passed = passed-of _ (r .inputs) (r .lists) (r .commands) (ticked looks lags time (r .inputs) (r .lists)) took
+    tick-passed = passed-of _ (r .inputs) (r .lists) (r .commands) (ticked looks lags time minute (r .inputs) (r .lists)) took
 
-    tick-reply : after-tick ≡ carriedOut (tickNumber (r .inputs) (r .lists) (length (r .commands)) looks lags time) (r .commands) (ticked looks lags time (r .inputs) (r .lists))
+    tick-reply : after-tick ≡ carriedOut (tickNumber (r .inputs) (r .lists) (length (r .commands)) looks lags time minute) (r .commands) (ticked looks lags time minute (r .inputs) (r .lists))
     unfolding after tickReply
-    tick-reply = accepted-new (tickNumber (r .inputs) (r .lists) (length (r .commands)) looks lags time) _ _ tick-passed
+    tick-reply = accepted-new (tickNumber (r .inputs) (r .lists) (length (r .commands)) looks lags time minute) _ _ tick-passed
 
     counted-tick : (i : ℕ) → i < settings .count → Counted (n + 1) (slotAt (after-tick .inputs) i)
     unfolding after
     counted-tick i h =
         let c = g .counted i h in
-        let raised : Raised 1 1 1 (slotAt (r .inputs) i) (slotAt (after-tick .inputs) i) = tick-raised (r .inputs) (r .lists) (r .commands) looks lags time (g .checked .sized) i in
+        let raised : Raised 1 1 1 (slotAt (r .inputs) i) (slotAt (after-tick .inputs) i) = tick-raised (r .inputs) (r .lists) (r .commands) looks lags time minute (g .checked .sized) i in
         record { reopens = omega (arith, raised .reopens, c .reopens); changes = omega (arith, raised .changes, c .changes); lates = omega (arith, raised .lates, c .lates) }
 
     may-count : (i : ℕ) → i < r .inputs .count → MayCount (slotAt (r .inputs) i)
@@ -176,11 +177,12 @@ module _ (settings : Settings) (n : ℕ) (r : Reply) (g : Sure settings n r) whe
     tick-sure : Sure settings (n + 1) after-tick
     unfolding after
     tick-sure = record {
-      checked = tick-keeps (r .inputs) (r .lists) (r .commands) looks lags time (g .checked) may-count;
-      same = settings-then (blankFor settings) (r .inputs) (after-tick .inputs) (g .same) (tick-settings (r .inputs) (r .lists) (r .commands) looks lags time);
+      checked = tick-keeps (r .inputs) (r .lists) (r .commands) looks lags time minute (g .checked) may-count;
+      same = settings-then (blankFor settings) (r .inputs) (after-tick .inputs) (g .same) (tick-settings (r .inputs) (r .lists) (r .commands) looks lags time minute);
       long =
-          long-after after-tick _ (ticked looks lags time (r .inputs) (r .lists)) tick-reply
-          (room-all (ticked looks lags time (r .inputs) (r .lists) .words) (ticked-few looks lags time (r .inputs) (r .lists) (g .checked .fitting .allowed .most) (g .checked .sized)));
+          long-after after-tick _ (ticked looks lags time minute (r .inputs) (r .lists)) tick-reply
+          (room-all (ticked looks lags time minute (r .inputs) (r .lists) .words) (ticked-few looks lags time (lowersAt (r .inputs) minute) (r .inputs) (r .lists) (g .checked .fitting .allowed .most) (g .checked .sized)));
+      week = g .week;
       counted = counted-tick;
     }
 
@@ -192,19 +194,19 @@ module _ (settings : Settings) (n : ℕ) (r : Reply) (g : Sure settings n r) whe
       unproposed-tick : Unproposed settings after-tick
       unproposed-tick i h =
           ap (λ (x : Reply). slotAt (x .inputs) i .proposed) tick-reply
-          ∙ ticked-proposed looks lags time (r .inputs) (r .lists) (g .checked) (tick-accepted (r .inputs) (r .lists) (length (r .commands)) looks lags time tick-passed) off i
+          ∙ ticked-proposed looks lags time (lowersAt (r .inputs) minute) (r .inputs) (r .lists) (g .checked) (tick-accepted (r .inputs) (r .lists) (length (r .commands)) looks lags time minute tick-passed) off i
           ∙ none i h
 
       tick-views : (i : ℕ) → i < settings .count
-          → TickLifted (policyOf settings) (tickOf time (lagsOf looks lags i)) (isRunning (slotAt (r .inputs) i .state)) (goesOn (slotAt (after-tick .inputs) i)) (seenAt r i) (seenAt after-tick i)
+          → TickLifted (policyOf settings) (tickOf time (lagsOf looks lags i) (lowersAt (r .inputs) minute)) (isRunning (slotAt (r .inputs) i .state)) (goesOn (slotAt (after-tick .inputs) i)) (seenAt r i) (seenAt after-tick i)
       tick-views i h =
-          subst (λ (policy : DelayPolicy). TickLifted policy (tickOf time (lagsOf looks lags i)) (isRunning (slotAt (r .inputs) i .state)) (goesOn (slotAt (after-tick .inputs) i)) (seenAt r i) (seenAt after-tick i))
+          subst (λ (policy : DelayPolicy). TickLifted policy (tickOf time (lagsOf looks lags i) (lowersAt (r .inputs) minute)) (isRunning (slotAt (r .inputs) i .state)) (goesOn (slotAt (after-tick .inputs) i)) (seenAt r i) (seenAt after-tick i))
           (given-policy settings (r .inputs) (g .same))
-          (subst (λ (x : Reply). TickLifted (r .inputs .policy) (tickOf time (lagsOf looks lags i)) (isRunning (slotAt (r .inputs) i .state)) (goesOn (slotAt (x .inputs) i)) (seenAt r i) (seenAt x i))
+          (subst (λ (x : Reply). TickLifted (r .inputs .policy) (tickOf time (lagsOf looks lags i) (lowersAt (r .inputs) minute)) (isRunning (slotAt (r .inputs) i .state)) (goesOn (slotAt (x .inputs) i)) (seenAt r i) (seenAt x i))
           (sym tick-reply)
-          (tick-lifted (r .inputs) (r .lists) (length (r .commands)) looks lags time i (g .checked .sized) (g .checked) tick-passed off (none i h) (given-input settings (r .inputs) (g .same) i h)))
+          (tick-lifted (r .inputs) (r .lists) (length (r .commands)) looks lags time minute i (g .checked .sized) (g .checked) tick-passed off (none i h) (given-input settings (r .inputs) (g .same) i h)))
 
-      tick-step : Step settings n r (ticks looks lags time)
+      tick-step : Step settings n r (ticks looks lags time minute)
       tick-step = record {
         good = record { sure = tick-sure; unproposed = unproposed-tick };
         lifted = λ i h.
@@ -216,7 +218,7 @@ module _ (settings : Settings) (n : ℕ) (r : Reply) (g : Sure settings n r) whe
   sure-after : (call : Call) → n < most → Accepted r call → Sure settings (n + 1) (after r call)
   sure-after (routes input wanted time world) few took = route-sure input wanted time world took
   sure-after (updates input setting time) few took = update-sure input setting time took
-  sure-after (ticks looks lags time) few took = tick-sure few looks lags time took
+  sure-after (ticks looks lags time minute) few took = tick-sure few looks lags time minute took
 
 -- with confirmation or without
 pub sure-step : (settings : Settings) (n : ℕ) (r : Reply) (call : Call) → n < most → Sure settings n r → Accepted r call → SureStep settings n r call
@@ -229,7 +231,7 @@ sure-step settings n r call few g took = record {
 pub laws : (settings : Settings) → settings .confirm ≡ false → Laws settings
 laws settings unconfirmed = record {
   step = step;
-  tick = λ n r looks lags time i few g took h. tick-views settings n r (g .sure) few looks lags time took unconfirmed (g .unproposed) i h;
+  tick = λ n r looks lags time minute i few g took h. tick-views settings n r (g .sure) few looks lags time minute took unconfirmed (g .unproposed) i h;
   route-other = λ n r input wanted time world i g took h apart.
       alone-on settings n r g input time (after r (routes input wanted time world)) (route-on settings n r g input wanted time world took) (route-sure settings n r g input wanted time world took .checked) (route-sure settings n r g input wanted time world took .long) i h apart;
   update-other = λ n r input setting time i g took h apart.
@@ -239,4 +241,4 @@ laws settings unconfirmed = record {
     step : (n : ℕ) (r : Reply) (call : Call) → n < most → Good settings n r → Accepted r call → Step settings n r call
     step n r (routes input wanted time world) few g took = route-step settings n r (g .sure) input wanted time world took (g .unproposed)
     step n r (updates input setting time) few g took = update-step settings n r (g .sure) input setting time took (g .unproposed)
-    step n r (ticks looks lags time) few g took = tick-step settings n r (g .sure) few looks lags time took unconfirmed (g .unproposed)
+    step n r (ticks looks lags time minute) few g took = tick-step settings n r (g .sure) few looks lags time minute took unconfirmed (g .unproposed)

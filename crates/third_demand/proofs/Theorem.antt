@@ -5,6 +5,7 @@ use mathlib.Core.Path.{_≡_, refl, sym, ap, subst, _∙_}
 use mathlib.Core.List.{List, [], _∷_, _++_}
 use native.Mathlib.Omega.{arith}
 use lib.ListN.{length}
+use Rattle.rules_tick.specs.Tick.{lowersAt}
 use Rattle.base.specs.Limits.{nanos}
 use Rattle.base.proofs.Choices.{accepted-new}
 use Rattle.policy.specs.Need.{needOf}
@@ -32,8 +33,8 @@ use Rattle.third_demand.specs.Demand.{RunsOn, InStretch, Stretch, ending
 use Rattle.third_demand.proofs.Lifted.{TickLifted}
 use Rattle.third_demand.proofs.Good.{Sure, Good, most, seenAt, Laws}
 use Rattle.third_demand.proofs.Runs.{run-append, clocks, orderly-append, clock-append, Lived, sure-run, good-after, good-run, lived-run, told-run}
-use Rattle.third_demand.proofs.Stretches.{Steadily, stretch-run}
-use Rattle.third_demand.proofs.Beyond.{beyond, takes}
+use Rattle.third_demand.proofs.Stretches.{Steadily, stretch-run, outside-lowers}
+use Rattle.third_demand.proofs.Beyond.{beyond, beyond-week, takes}
 use Rattle.third_demand.proofs.Ends.{lawful-then}
 
 -- what an accepted `new` leaves, with confirmation or without
@@ -42,7 +43,7 @@ pub record Born (night : Night) : Type 0 where
   pub lived : (i : ℕ) → i < night .settings .count → Lived (night .settings) 0 (seenAt (fresh night) i)
   pub told : (i : ℕ) → i < night .settings .count → slotAt (fresh night .inputs) i .delay ≡ lastDelay i 0 (fresh night .commands)
 
-append-length : (calls : List Call) (call : Call) (later : List Call) → length (calls ++ (call ∷ later)) ≡ length calls + suc (length later)
+pub append-length : (calls : List Call) (call : Call) (later : List Call) → length (calls ++ (call ∷ later)) ≡ length calls + suc (length later)
 append-length [] call later = omega arith
 append-length (one ∷ calls) call later = omega (arith, append-length calls call later)
 
@@ -56,7 +57,7 @@ whole-always born night calls is-new few =
     let g : Sure (night .settings) (length calls) (leftBy night calls) =
     subst (λ (x : ℕ). Sure (night .settings) x (leftBy night calls)) (omega arith) (sure-run (night .settings) 0 (fresh night) calls (omega (arith, few)) (born night is-new .good .sure))
     in
-    record { record-whole = of-whole _ _ (g .checked .whole); beyond-its-own = beyond (night .settings) (length calls) (leftBy night calls) g; takes-ticks = takes (night .settings) (length calls) (leftBy night calls) g }
+    record { record-whole = of-whole _ _ (g .checked .whole); beyond-its-own = beyond (night .settings) (length calls) (leftBy night calls) g; beyond-its-week = beyond-week (night .settings) (length calls) (leftBy night calls) g; takes-ticks = takes (night .settings) (length calls) (leftBy night calls) g }
 
 module _ (laws : (settings : Settings) → settings .confirm ≡ false → Laws settings) (born : (night : Night) → fresh night .number ≡ 0 → Born night) where
   module _ (night : Night) (is-new : fresh night .number ≡ 0) (unconfirmed : night .settings .confirm ≡ false) where
@@ -100,16 +101,16 @@ module _ (laws : (settings : Settings) → settings .confirm ≡ false → Laws 
     unfolding delayOf
     told-at calls i few h = told-run settings 0 (fresh night) calls i _ (omega (arith, few)) h (birth .good .sure) (sym (birth .told i h))
 
-    module _ (calls : List Call) (looks : List Look) (lags : List ℕ) (first i : ℕ) (later : List Call)
-        (few : length (calls ++ (ticks looks lags first ∷ later)) < most)
-        (orderly : Orderly 0 (fresh night) (calls ++ (ticks looks lags first ∷ later)))
+    module _ (calls : List Call) (looks : List Look) (lags : List ℕ) (first minute i : ℕ) (later : List Call)
+        (few : length (calls ++ (ticks looks lags first minute ∷ later)) < most)
+        (orderly : Orderly 0 (fresh night) (calls ++ (ticks looks lags first minute ∷ later)))
         (h : i < settings .count)
-        (took : Accepted (leftBy night calls) (ticks looks lags first)) where
+        (took : Accepted (leftBy night calls) (ticks looks lags first minute)) where
       abbrev call : Call
-      call = ticks looks lags first
+      call = ticks looks lags first minute
 
       abbrev tick : Tick
-      tick = tickOf first (lagsOf looks lags i)
+      tick = tickOf first (lagsOf looks lags i) (lowersAt (leftBy night calls .inputs) minute)
 
       fewer : length calls + suc (length later) < most
       fewer = subst (λ (x : ℕ). x < most) (append-length calls call later) few
@@ -128,7 +129,7 @@ module _ (laws : (settings : Settings) → settings .confirm ≡ false → Laws 
         lift : TickLifted (policyOf settings) tick (isRunning (slotAt (leftBy night calls .inputs) i .state)) true (seenAt (leftBy night calls) i) (seenAt (after (leftBy night calls) call) i)
         lift =
             subst (λ (b : Bool). TickLifted (policyOf settings) tick (isRunning (slotAt (leftBy night calls .inputs) i .state)) b (seenAt (leftBy night calls) i) (seenAt (after (leftBy night calls) call) i)) runs
-            (law .tick (length calls) (leftBy night calls) looks lags first i (omega (arith, fewer)) good took h)
+            (law .tick (length calls) (leftBy night calls) looks lags first minute i (omega (arith, fewer)) good took h)
 
         past : List Event
         past = life .past ++ lift .seeding
@@ -164,7 +165,7 @@ module _ (laws : (settings : Settings) → settings .confirm ≡ false → Laws 
             (floor-after (policyOf settings) (settings .width) allowed past tick lag past-lawful e fits)
 
         -- ---- the ceiling
-        module _ (L : ℕ) (in-it : InStretch i L first looks lags first (after (leftBy night calls) call)) (stretch : Stretch i L first (after (leftBy night calls) call) later) where
+        module _ (L : ℕ) (in-it : InStretch (settings .week) i L first looks lags first minute (after (leftBy night calls) call)) (stretch : Stretch (settings .week) i L first (after (leftBy night calls) call) later) where
           steady : Steadily settings L first (seenAt (after (leftBy night calls) call) i) (seenAt (run (after (leftBy night calls) call) later) i) (ending first (after (leftBy night calls) call) later)
           unfolding clockAfter
           steady =
@@ -195,7 +196,7 @@ module _ (laws : (settings : Settings) → settings .confirm ≡ false → Laws 
               slotAt (run (after (leftBy night calls) call) later .inputs) i .delay ≤ needOf (policyOf settings) (bucketEnd (policyOf settings) (settings .width) L) + (oneMillisecond (policyOf settings) - 1)
           ceiling-here long =
               subst (λ (x : InputView). x .delay ≤ needOf (policyOf settings) (bucketEnd (policyOf settings) (settings .width) L) + (oneMillisecond (policyOf settings) - 1)) all-leads
-              (ceiling-after (policyOf settings) (settings .width) allowed past tick (steady .passed) L all-lawful refl (in-it .lagged) (in-it .none-above) (steady .stretch)
+              (ceiling-after (policyOf settings) (settings .width) allowed past tick (steady .passed) L all-lawful (outside-lowers settings (leftBy night calls .inputs) (good .sure .same) minute (in-it .outside)) (in-it .lagged) (in-it .none-above) (steady .stretch)
               (subst (λ (x : ℕ). first + (30 * nanos + policyOf settings .window + 3 * policyOf settings .hold) ≤ x) (sym (steady .ends)) long))
 
   whole-met : StaysWhole
@@ -208,21 +209,21 @@ module _ (laws : (settings : Settings) → settings .confirm ≡ false → Laws 
 
   floor-met : Floor
   unfolding run
-  floor-met night calls looks lags time i lag a h took runs e fits =
-      let call : Call = ticks looks lags time in
+  floor-met night calls looks lags time minute i lag a h took runs e fits =
+      let call : Call = ticks looks lags time minute in
       let here : leftBy night (calls ++ (call ∷ [])) ≡ after (leftBy night calls) call = left-tick night calls call [] in
       let runs-here : RunsOn i (after (leftBy night calls) call) = subst (RunsOn i) here runs in
-      let bound = floor-here night (a .new) (a .unconfirmed) calls looks lags time i [] (omega (arith, a .few)) (a .orderly) h took runs-here lag e (omega (arith, fits)) in
+      let bound = floor-here night (a .new) (a .unconfirmed) calls looks lags time minute i [] (omega (arith, a .few)) (a .orderly) h took runs-here lag e (omega (arith, fits)) in
       let is-told : delayOf i night (calls ++ (call ∷ [])) ≡ slotAt (after (leftBy night calls) call .inputs) i .delay =
       told-at night (a .new) (a .unconfirmed) (calls ++ (call ∷ [])) i (omega (arith, a .few)) h ∙ ap (λ (r : Reply). slotAt (r .inputs) i .delay) here
       in
       omega (arith, bound, is-told)
 
   ceiling-met : Ceiling
-  ceiling-met night calls looks lags first i L later a h took in-it stretch long =
-      let call : Call = ticks looks lags first in
+  ceiling-met night calls looks lags first minute i L later a h took in-it stretch long =
+      let call : Call = ticks looks lags first minute in
       let here : leftBy night (calls ++ (call ∷ later)) ≡ run (after (leftBy night calls) call) later = left-tick night calls call later in
-      let bound = ceiling-here night (a .new) (a .unconfirmed) calls looks lags first i later (omega (arith, a .few)) (a .orderly) h took (in-it .runs) L in-it stretch (omega (arith, long)) in
+      let bound = ceiling-here night (a .new) (a .unconfirmed) calls looks lags first minute i later (omega (arith, a .few)) (a .orderly) h took (in-it .runs) L in-it stretch (omega (arith, long)) in
       let is-told : delayOf i night (calls ++ (call ∷ later)) ≡ slotAt (run (after (leftBy night calls) call) later .inputs) i .delay =
       told-at night (a .new) (a .unconfirmed) (calls ++ (call ∷ later)) i (omega (arith, a .few)) h ∙ ap (λ (r : Reply). slotAt (r .inputs) i .delay) here
       in

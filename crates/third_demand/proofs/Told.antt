@@ -14,7 +14,7 @@ pub after-told : (r : Reply) (call : Call) → Sized (r .inputs) → Told (r .in
 unfolding after
 after-told r (routes input wanted time world) h = route-told (r .inputs) h (r .lists) (r .commands) input wanted time world
 after-told r (updates input setting time) h = update-told (r .inputs) h (r .lists) (r .commands) input setting time
-after-told r (ticks looks lags time) h = tick-told (r .inputs) h (r .lists) (r .commands) looks lags time
+after-told r (ticks looks lags time minute) h = tick-told (r .inputs) h (r .lists) (r .commands) looks lags time minute
 
 pub step-told : (r : Reply) (call : Call) → Sized (r .inputs) → Accepted r call → (i : ℕ) → i < 16 → slotAt (after r call .inputs) i .delay ≡ lastDelay i (slotAt (r .inputs) i .delay) (after r call .commands)
 step-told r call h e i input = accepted-told (after-told r call h) e i input

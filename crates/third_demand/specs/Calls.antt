@@ -24,18 +24,18 @@ use Rattle.sent_delays.specs.Last.{lastDelay}
 pub data Call : Type 0 where
   routes : (input : ℕ) → Wanted → (time : ℕ) → World → Call
   updates : (input : ℕ) → DelaySetting → (time : ℕ) → Call
-  ticks : List Look → (lags : List ℕ) → (time : ℕ) → Call
+  ticks : List Look → (lags : List ℕ) → (time minute : ℕ) → Call
 
 abbrev pub timeOf : Call → ℕ
 timeOf (routes input wanted time world) = time
 timeOf (updates input setting time) = time
-timeOf (ticks looks lags time) = time
+timeOf (ticks looks lags time minute) = time
 
 -- "Each call gets what the one before left; nobody else writes it."
 unfoldable pub after : (r : Reply) → Call → Reply
 after r (routes input wanted time world) = routeReply (r .inputs) (r .lists) (r .commands) input wanted time world
 after r (updates input setting time) = updateReply (r .inputs) (r .lists) (r .commands) input setting time
-after r (ticks looks lags time) = tickReply (r .inputs) (r .lists) (r .commands) looks lags time
+after r (ticks looks lags time minute) = tickReply (r .inputs) (r .lists) (r .commands) looks lags time minute
 
 -- what a list of calls leaves, "refused ones included"
 unfoldable pub run : (r : Reply) → List Call → Reply

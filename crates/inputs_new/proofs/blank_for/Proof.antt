@@ -12,7 +12,7 @@ blank-requires c κs = search needs
 
 returns : tie.Need-returns
 unfolding blankFor
-returns c = rw (c .blank .ensures, c .before .policy-of .ensures)
+returns c = rw (@blank .ensures, @policy-of .ensures)
 
 pub blank-for-spec : {M : Type 1} → statement M
 blank-for-spec = tie.close (tie.spec policy-of-requires blank-requires returns)

@@ -1,6 +1,8 @@
 -- `inputs_status::channels_number` meets its contract. Assumes nothing.
+use mathlib.Core.Path.{_∙_}
 use borrow.Author.Tests.{le-leb, lt-leb}
 use borrow.Author.Needs.{needs}
+use Rattle.base.proofs.All.{told-no, told-yes}
 use Rattle.base.proofs.Choices.{yes-ask, no-ask}
 use Rattle.rules_calls.specs.StatusChecks.{channelsNumber}
 use Rattle.rules_record.proofs.InputNumbers.{refused-by, passed-by}
@@ -12,15 +14,22 @@ input-number-requires c κs = search needs
 
 returns : tie.Need-returns
 unfolding channelsNumber
-returns c = refused-by _ _ _ _ (c .before .input-number .ensures .0) (c .if1 .taken) _
+returns c = refused-by _ _ _ _ (@input-number .ensures .0) (@if1 .taken) _
+
+week-fits-requires : tie.Need-week-fits-requires
+week-fits-requires c κs = search needs
 
 returns-2 : tie.Need-returns-2
 unfolding channelsNumber
-returns-2 c = passed-by _ _ _ _ (c .before .before .input-number .ensures .0) (c .before .if1 .left) _ (no-ask 10 0 (lt-leb _ _ (c .if2 .taken)))
+returns-2 c = passed-by _ _ _ _ (@input-number .ensures .0) (@if1 .left) _ (no-ask 22 _ (told-no _ _ (@week-fits .ensures) (@if2 .taken)))
 
 returns-3 : tie.Need-returns-3
 unfolding channelsNumber
-returns-3 c = passed-by _ _ _ _ (c .before .before .input-number .ensures .0) (c .before .if1 .left) _ (yes-ask 10 0 (le-leb _ _ (c .if2 .left)))
+returns-3 c = passed-by _ _ _ _ (@input-number .ensures .0) (@if1 .left) _ (yes-ask 22 _ (told-yes _ _ (@week-fits .ensures) (@if2 .left)) ∙ no-ask 10 0 (lt-leb _ _ (@if3 .taken)))
+
+returns-4 : tie.Need-returns-4
+unfolding channelsNumber
+returns-4 c = passed-by _ _ _ _ (@input-number .ensures .0) (@if1 .left) _ (yes-ask 22 _ (told-yes _ _ (@week-fits .ensures) (@if2 .left)) ∙ yes-ask 10 0 (le-leb _ _ (@if3 .left)))
 
 pub channels-number-spec : {M : Type 1} → statement M
-channels-number-spec = tie.close (tie.spec input-number-requires returns returns-2 returns-3)
+channels-number-spec = tie.close (tie.spec input-number-requires returns week-fits-requires returns-2 returns-3 returns-4)

@@ -17,7 +17,7 @@ same-length-2 c = search needs
 returns : tie.Need-returns
 returns c =
     let c6 = c .before .before .before .before .before .before in
-    next-refused (c6 .args .policy) (c6 .args .width) _ (c6 .args .p999) (c6 .args .current) (c6 .args .time) (c6 .args .max-lag) _ (c .before .next-number .ensures) (c .if1 .taken)
+    next-refused (c6 .args .policy) (c6 .args .width) _ (c6 .args .p999) (c6 .args .current) (c6 .args .time) (c6 .args .max-lag) (c6 .args .in-window) _ (c .before .next-number .ensures) (c .if1 .taken)
 
 next-requires : tie.Need-next-requires
 next-requires c κs =
@@ -44,7 +44,7 @@ returns-2 c =
     let c10 = c7 .before .before .before in
     let c11 = c10 .before in
     let c16 = c11 .before .before .before .before .before in
-    next-kept (c16 .args .policy) (c16 .args .width) _ (c16 .args .p999) (c16 .args .current) (c16 .args .time) (c16 .args .max-lag) _ (c11 .next-number .ensures) (c10 .if1 .left) (c7 .next .result) _ _ (c7 .next .ensures) (c .enum-told .given .1)
+    next-kept (c16 .args .policy) (c16 .args .width) _ (c16 .args .p999) (c16 .args .current) (c16 .args .time) (c16 .args .max-lag) (c16 .args .in-window) _ (c11 .next-number .ensures) (c10 .if1 .left) (c7 .next .result) _ _ (c7 .next .ensures) (c .enum-told .given .1)
 
 same-length-5 : tie.Need-same-length-5
 same-length-5 c = search needs
@@ -58,7 +58,7 @@ returns-3 c =
     let c11 = c8 .before .before .before in
     let c12 = c11 .before in
     let c17 = c12 .before .before .before .before .before in
-    next-changed (c17 .args .policy) (c17 .args .width) _ (c17 .args .p999) (c17 .args .current) (c17 .args .time) (c17 .args .max-lag) _ (c12 .next-number .ensures) (c11 .if1 .left) (c8 .next .result) _ _ (c8 .next .ensures) _ (c .before .change .given .1)
+    next-changed (c17 .args .policy) (c17 .args .width) _ (c17 .args .p999) (c17 .args .current) (c17 .args .time) (c17 .args .max-lag) (c17 .args .in-window) _ (c12 .next-number .ensures) (c11 .if1 .left) (c8 .next .result) _ _ (c8 .next .ensures) _ (c .before .change .given .1)
 
 pub decide-next-spec : {M : Type 1} → statement M
 decide-next-spec =

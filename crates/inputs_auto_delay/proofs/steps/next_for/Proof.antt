@@ -54,7 +54,7 @@ same-length-2 : tie.Need-same-length-2
 same-length-2 c = search needs
 
 returns : tie.Need-returns
-returns c = next-by _ _ _ _ _ _ _ _ (c .before .before .before .before .before .before .before .before .before .before .before .before .before .before .before .pre .0) (c .before .before .before .before .before .before .before .before .p999 .ensures) (c .before .before .before .before .before .current .ensures) (add-sub-cancel-left (c .before .before .before .before .before .before .before .before .before .before .before .before .before .before .before .args .i * 600) 600) (c .before .before .before .before .next .ensures)
+returns c = next-by _ _ _ _ _ _ _ _ _ (c .before .before .before .before .before .before .before .before .before .before .before .before .before .before .before .pre .0) (c .before .before .before .before .before .before .before .before .p999 .ensures) (c .before .before .before .before .before .current .ensures) (add-sub-cancel-left (c .before .before .before .before .before .before .before .before .before .before .before .before .before .before .before .args .i * 600) 600) (c .before .before .before .before .next .ensures)
 
 pub next-for-spec : {M : Type 1} → statement M
 next-for-spec = tie.close (tie.spec p999-requires mul-from add-to mul-next sub-next part-next-start part-next-end mul-next-2 sub-next-2 part-next-start-2 part-next-end-2 current-requires next-requires same-length same-length-2 returns)

@@ -7,7 +7,7 @@ use Rattle.text_read.proofs.supervisor.settings_at.Tie as tie
 
 returns : tie.Need-returns
 unfolding settingsAt
-returns c = rw (c .double .ensures, c .before .before .bit-word .ensures, c .before .before .before .hex-word .ensures, c .before .before .before .before .u32-word5 .ensures, c .before .before .before .before .before .u64-word4 .ensures, c .before .before .before .before .before .before .u64-word3 .ensures, c .before .before .before .before .before .before .before .u64-word2 .ensures, c .before .before .before .before .before .before .before .before .u32-word4 .ensures, c .before .before .before .before .before .before .before .before .before .u32-word3 .ensures, c .before .before .before .before .before .before .before .before .before .before .u32-word2 .ensures, c .before .before .before .before .before .before .before .before .before .before .before .u32-word .ensures, c .before .before .before .before .before .before .before .before .before .before .before .before .u64-word .ensures)
+returns c = rw (@no-windows .ensures, @double .ensures, @bit-word .ensures, @hex-word .ensures, @u32-word5 .ensures, @u64-word4 .ensures, @u64-word3 .ensures, @u64-word2 .ensures, @u32-word4 .ensures, @u32-word3 .ensures, @u32-word2 .ensures, @u32-word .ensures, @u64-word .ensures)
 
 pub settings-at-spec : {M : Type 1} → statement M
 settings-at-spec =
@@ -26,4 +26,5 @@ settings-at-spec =
     (λ c κs. search needs)  -- bit-word-requires
     (λ c. search needs)  -- cast-t15
     (λ c κs. search needs)  -- double-requires
+    (λ c κs. search needs)  -- no-windows-requires
     returns)

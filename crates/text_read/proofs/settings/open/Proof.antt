@@ -1,0 +1,19 @@
+-- `text_read::settings::open` meets its contract. Assumes nothing.
+use mathlib.Core.Path.{refl}
+use borrow.Author.Needs.{needs}
+use Rattle.text_read.specs.Settings.{openLine}
+use Rattle.text_read.proofs.settings.open.Statement.{statement}
+use Rattle.text_read.proofs.settings.open.Tie as tie
+
+returns : tie.Need-returns
+unfolding openLine
+returns c = rw (@bit-word .ensures, @word-end .ensures)
+
+pub open-spec : {M : Type 1} → statement M
+open-spec =
+    tie.close
+    (tie.spec
+    (λ c. search needs)  -- slice-aggregate-word-end
+    (λ c κs. search needs)  -- word-end-requires
+    (λ c κs. search needs)  -- bit-word-requires
+    returns)
