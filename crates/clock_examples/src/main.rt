@@ -50,6 +50,9 @@ fn down_line(schedule: Schedule) {
     }
 }
 
+// Samples a second.
+const RATE: u32 = 48_000;
+
 fn refused_line(check: u32) {
     number_after(b"refused ", check as u64);
     text(b"\n");
@@ -58,7 +61,7 @@ fn refused_line(check: u32) {
 fn index_at(ns: u64) {
     number_after(b"index_at ", ns);
     text(b"\n");
-    let answer = timing::index_at(ns);
+    let answer = timing::index_at(RATE, ns);
     if answer.number != 0 {
         refused_line(answer.number);
         return;
@@ -70,7 +73,7 @@ fn index_at(ns: u64) {
 fn time_of(index: u64) {
     number_after(b"time_of ", index);
     text(b"\n");
-    let answer = timing::time_of(index);
+    let answer = timing::time_of(RATE, index);
     if answer.number != 0 {
         refused_line(answer.number);
         return;

@@ -27,6 +27,9 @@ fn nan() -> f64 {
     infinity() - infinity()
 }
 
+// Samples a second.
+const RATE: u32 = 48_000;
+
 // A need, or the number of the refusal.
 fn need(name: &[u8], policy: DelayPolicy, lag: u32) {
     match policy.need_of(lag) {
@@ -38,26 +41,35 @@ fn need(name: &[u8], policy: DelayPolicy, lag: u32) {
     }
 }
 
+// The value of an accepted call.
+fn ms(n: u32) -> f64 {
+    doubles::ms(RATE, n).value
+}
+
+fn samples(m: f64) -> u64 {
+    doubles::samples(RATE, m).value as u64
+}
+
 fn doubles() {
     io::write_all(STDOUT_FILENO, b"Doubles\n");
-    double(b"  ms 0: ", doubles::ms(0));
-    double(b"  ms 48: ", doubles::ms(48));
-    double(b"  ms 4294967295: ", doubles::ms(4294967295));
-    number(b"  samples 0.03125: ", doubles::samples(0.03125) as u64);
-    number(b"  samples 0.010416: ", doubles::samples(0.010416) as u64);
-    number(b"  samples 0.010417: ", doubles::samples(0.010417) as u64);
-    number(b"  samples -0.0: ", doubles::samples(-0.0) as u64);
-    number(b"  samples -5.0: ", doubles::samples(-5.0) as u64);
-    number(b"  samples NaN: ", doubles::samples(nan()) as u64);
-    number(b"  samples infinity: ", doubles::samples(infinity()) as u64);
+    double(b"  ms 0: ", ms(0));
+    double(b"  ms 48: ", ms(48));
+    double(b"  ms 4294967295: ", ms(4294967295));
+    number(b"  samples 0.03125: ", samples(0.03125));
+    number(b"  samples 0.010416: ", samples(0.010416));
+    number(b"  samples 0.010417: ", samples(0.010417));
+    number(b"  samples -0.0: ", samples(-0.0));
+    number(b"  samples -5.0: ", samples(-5.0));
+    number(b"  samples NaN: ", samples(nan()));
+    number(b"  samples infinity: ", samples(infinity()));
     number(
         b"  samples 89478485.3125: ",
-        doubles::samples(89478485.3125) as u64,
+        samples(89478485.3125),
     );
-    number(b"  samples 1e300: ", doubles::samples(1.0e300) as u64);
+    number(b"  samples 1e300: ", samples(1.0e300));
     number(
         b"  samples of the least double: ",
-        doubles::samples(5.0e-324) as u64,
+        samples(5.0e-324),
     );
 }
 
@@ -70,6 +82,7 @@ fn policy(share: f64) -> DelayPolicy {
         window: 10_000_000_000,
         margin: 96,
         margin_share: share,
+        rate: RATE,
     }
 }
 

@@ -138,7 +138,7 @@ fn fresh(times: &mut [u64], lags: &mut [u32]) -> DelayHold {
     r.hold
 }
 
-// Offset 480, maximum 4,800, hold 30 s, window 10 s, margin 96, share 0.5.
+// Offset 480, maximum 4,800, hold 30 s, window 10 s, margin 96, share 0.5, 48,000 samples a second.
 fn policy() -> DelayPolicy {
     DelayPolicy {
         read_offset: 480,
@@ -147,6 +147,7 @@ fn policy() -> DelayPolicy {
         window: 10_000_000_000,
         margin: 96,
         margin_share: 0.5,
+        rate: 48_000,
     }
 }
 

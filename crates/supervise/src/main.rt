@@ -196,6 +196,11 @@ fn set(setting: Setting, state: State) -> State {
             let alone = Alone { open, ..kept };
             State { alone, ..state }
         }
+        Setting::Rate(rate) => {
+            let kept = state.alone;
+            let alone = Alone { rate, ..kept };
+            State { alone, ..state }
+        }
     }
 }
 
@@ -333,6 +338,7 @@ fn called(
     heard: &mut Heard,
     week: Week,
     minute: u32,
+    rate: u32,
 ) -> Called {
     load(call, s, out, place, heard);
     let what = deed_of(call);
@@ -356,6 +362,7 @@ fn called(
                 commands,
                 week,
                 minute,
+                rate,
             )
         }
         Deed::Craft(asked) => Called {
@@ -504,6 +511,7 @@ fn answered(
                 heard,
                 week,
                 state.minute,
+                kept.rate,
             );
             let left = done.inputs;
             let answer = done.answer;

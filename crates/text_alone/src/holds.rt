@@ -44,6 +44,7 @@ fn next(
     times: &mut [u64],
     peaks: &mut [u32],
     open: bool,
+    rate: u32,
 ) -> HoldAnswered {
     let policy = DelayPolicy {
         read_offset: asked.offset,
@@ -52,6 +53,7 @@ fn next(
         window: asked.window,
         margin: asked.margin,
         margin_share: share(asked.percent),
+        rate,
     };
     let p999 = asked.p999;
     let largest = asked.largest;
@@ -80,10 +82,11 @@ pub(crate) fn answer(
     times: &mut [u64],
     peaks: &mut [u32],
     open: bool,
+    rate: u32,
 ) -> HoldAnswered {
     match request {
         Lone::HoldNew => new(times, peaks, kept),
-        Lone::Next(asked) => next(kept, asked, times, peaks, open),
+        Lone::Next(asked) => next(kept, asked, times, peaks, open, rate),
         _ => HoldAnswered {
             hold: kept,
             answer: Answer::BadLine,

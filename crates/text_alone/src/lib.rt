@@ -36,6 +36,8 @@ pub struct Alone {
     pub schedule: Schedule,
     // `next` is told that a window is open.
     pub open: bool,
+    // The rate of every call that takes one, and of every `new`.
+    pub rate: u32,
 }
 
 pub struct Answered {
@@ -43,11 +45,14 @@ pub struct Answered {
     pub answer: Answer,
 }
 
+// The rate before a line sets another.
+const FIRST_RATE: u32 = 48_000;
+
 // Before any call: a window of width 4 for offset and maximum 0, and a fresh hold.
 pub fn begin() -> Alone {
     let window = LagWindow {
         seconds: 0,
-        buckets: 1_202,
+        buckets: buckets(FIRST_RATE, 0, 0, 4),
         width: 4,
     };
     let hold = delay_hold::core::fresh();
@@ -59,15 +64,16 @@ pub fn begin() -> Alone {
         coalesce,
         schedule,
         open: false,
+        rate: FIRST_RATE,
     }
 }
 
 // The buckets of the window that a call is on: a new one has its own.
-fn buckets_for(request: Lone, window: LagWindow) -> usize {
+fn buckets_for(request: Lone, window: LagWindow, rate: u32) -> usize {
     let Lone::WindowNew(asked) = request else {
         return window.buckets;
     };
-    buckets(asked.offset, asked.most, asked.width)
+    buckets(rate, asked.offset, asked.most, asked.width)
 }
 
 // A call on the window, on its places of the starts and the totals.
@@ -95,6 +101,7 @@ fn on_seconds(
         &mut totals[b0..b1],
         counts,
         sums,
+        alone.rate,
     );
     let left = done.window;
     let answer = done.answer;
@@ -118,7 +125,7 @@ fn on_window(
     sums: &mut [u64],
 ) -> Answered {
     let kept = alone.window;
-    let buckets = buckets_for(request, kept);
+    let buckets = buckets_for(request, kept, alone.rate);
     let n = cut(product_usize(LagWindow::SECONDS, buckets), short);
     let c = places(LONE_COUNTS, n, counts.len());
     let d = places(LONE_SUMS, cut(buckets, short), sums.len());
@@ -159,6 +166,7 @@ fn on_hold(
         &mut times[a0..a1],
         &mut peaks[b0..b1],
         alone.open,
+        alone.rate,
     );
     let left = done.hold;
     let answer = done.answer;
@@ -202,7 +210,7 @@ fn listless(request: Lone, alone: Alone) -> Answered {
         }
         _ => Answered {
             alone,
-            answer: numbers::answer(request),
+            answer: numbers::answer(request, alone.rate),
         },
     }
 }

@@ -27,6 +27,8 @@ fn need(asked: NeedAsked) -> Answer {
         window: 0,
         margin: asked.margin,
         margin_share: share(asked.percent),
+        // `need_of` does not ask it.
+        rate: 0,
     };
     let need = policy.need_of(asked.lag);
     match need {
@@ -35,23 +37,33 @@ fn need(asked: NeedAsked) -> Answer {
     }
 }
 
-fn index_at(time: u64) -> Answer {
-    let r = timing::index_at(time);
+fn ms(rate: u32, n: u32) -> Answer {
+    let r = doubles::ms(rate, n);
+    unless(r.number, Answer::Double(r.value))
+}
+
+fn samples(rate: u32, m: f64) -> Answer {
+    let r = doubles::samples(rate, m);
+    unless(r.number, Answer::Number(r.value as u64))
+}
+
+fn index_at(rate: u32, time: u64) -> Answer {
+    let r = timing::index_at(rate, time);
     unless(r.number, Answer::Number(r.value))
 }
 
-fn time_of(index: u64) -> Answer {
-    let r = timing::time_of(index);
+fn time_of(rate: u32, index: u64) -> Answer {
+    let r = timing::time_of(rate, index);
     unless(r.number, Answer::Number(r.value))
 }
 
-pub(crate) fn answer(request: Lone) -> Answer {
+pub(crate) fn answer(request: Lone, rate: u32) -> Answer {
     match request {
-        Lone::Ms(n) => Answer::Double(doubles::ms(n)),
-        Lone::Samples(m) => Answer::Number(doubles::samples(m) as u64),
+        Lone::Ms(n) => ms(rate, n),
+        Lone::Samples(m) => samples(rate, m),
         Lone::Need(asked) => need(asked),
-        Lone::IndexAt(time) => index_at(time),
-        Lone::TimeOf(index) => time_of(index),
+        Lone::IndexAt(time) => index_at(rate, time),
+        Lone::TimeOf(index) => time_of(rate, index),
         _ => Answer::BadLine,
     }
 }

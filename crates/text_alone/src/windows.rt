@@ -21,8 +21,10 @@ fn new(
     totals: &mut [u64],
     counts: &mut [u32],
     sums: &mut [u64],
+    rate: u32,
 ) -> WindowAnswered {
     let r = LagWindow::new(
+        rate,
         asked.offset,
         asked.most,
         asked.width,
@@ -59,9 +61,10 @@ pub(crate) fn answer(
     totals: &mut [u64],
     counts: &mut [u32],
     sums: &mut [u64],
+    rate: u32,
 ) -> WindowAnswered {
     match request {
-        Lone::WindowNew(asked) => new(kept, asked, starts, totals, counts, sums),
+        Lone::WindowNew(asked) => new(kept, asked, starts, totals, counts, sums, rate),
         Lone::Push(asked) => {
             let r = kept.push(asked.lag, asked.time, starts, totals, counts, sums);
             let window = r.window;

@@ -17,6 +17,7 @@ use text_answers::unless;
 use text_lending::file_sizes;
 use text_lending::sizes_for;
 use text_requests::Call;
+use text_requests::NewAsked;
 
 // The record that a call leaves, and its answer.
 pub struct Called {
@@ -41,6 +42,7 @@ pub fn begin() -> Inputs {
         window: 0,
         margin: 0,
         margin_share: 0.0,
+        rate: 0,
     };
     Inputs {
         count: 0,
@@ -298,7 +300,9 @@ pub fn change(
     commands: &mut [u32],
     week: Week,
     minute: u32,
+    rate: u32,
 ) -> Called {
+    let call = at_rate(call, rate);
     let z = sizes_for(call, kept, short);
     let a = least_usize(z.seconds, starts.len());
     let b = least_usize(z.seconds, totals.len());
@@ -324,6 +328,16 @@ pub fn change(
         week,
         minute,
     )
+}
+
+// A `new` gets this rate.
+fn at_rate(call: Call, rate: u32) -> Call {
+    let Call::New(asked) = call else {
+        return call;
+    };
+    let given = asked.settings;
+    let settings = Settings { rate, ..given };
+    Call::New(NewAsked { settings, ..asked })
 }
 
 // A call that changes nothing of the record, lent as much of each list as it asks for.

@@ -30,6 +30,6 @@ module _ (inputs : Inputs) (short : Bool) where
   by-record Dump k e = e
   by-record (Put asked) k e = e
 
-  pub by-settings : (call : Call) (asked : NewAsked) → call ≡ New asked → {n : ℕ} → n ≡ bucketsLent (asked .settings .«read_offset») (asked .settings .«delay_max») (asked .settings .width) → {r : Sizes} → r ≡ lengthsFor (asked .settings .count) n short → r ≡ lentTo call inputs short
+  pub by-settings : (call : Call) (asked : NewAsked) → call ≡ New asked → {n : ℕ} → n ≡ bucketsLent (asked .settings .rate) (asked .settings .«read_offset») (asked .settings .«delay_max») (asked .settings .width) → {r : Sizes} → r ≡ lengthsFor (asked .settings .count) n short → r ≡ lentTo call inputs short
   unfolding bySettings
   by-settings call asked e f g = rw e (g ∙ ap (λ (k : ℕ). lengthsFor (asked .settings .count) k short) f)

@@ -9,9 +9,9 @@ use Rattle.text_lending.specs.declared.Sizes.{Sizes}
 use Rattle.text_lending.specs.declared.Span.{Span}
 
 -- the buckets a second of windows with these settings; none where no supervisor has such an offset or maximum, or the width is 0
-unfoldable pub bucketsLent : (offset maximum width : ℕ) → ℕ
-bucketsLent offset maximum width =
-    pick (reachesAllowed offset maximum) (pick (leb 1 width) (bucketsOf offset maximum width) 0) 0
+unfoldable pub bucketsLent : (rate offset maximum width : ℕ) → ℕ
+bucketsLent rate offset maximum width =
+    pick (reachesAllowed offset maximum) (pick (leb 1 width) (bucketsOf rate offset maximum width) 0) 0
 
 -- no length is above the largest place
 abbrev pub countable : ℕ → ℕ

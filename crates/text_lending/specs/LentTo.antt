@@ -10,11 +10,11 @@ use Rattle.text_requests.specs.declared.Call.the-variants.{New, Route, Update, 
 
 -- the buckets a second of a record's windows
 unfoldable pub bucketsHeld : (inputs : Inputs) → ℕ
-bucketsHeld inputs = bucketsLent (inputs .policy .«read_offset») (inputs .policy .«delay_max») (inputs .width)
+bucketsHeld inputs = bucketsLent (inputs .policy .rate) (inputs .policy .«read_offset») (inputs .policy .«delay_max») (inputs .width)
 
 unfoldable pub bySettings : (settings : Settings) (short : Bool) → Sizes
 bySettings settings short =
-    lengthsFor (settings .count) (bucketsLent (settings .«read_offset») (settings .«delay_max») (settings .width)) short
+    lengthsFor (settings .count) (bucketsLent (settings .rate) (settings .«read_offset») (settings .«delay_max») (settings .width)) short
 
 unfoldable pub byRecord : (inputs : Inputs) (short : Bool) → Sizes
 byRecord inputs short = lengthsFor (inputs .count) (bucketsHeld inputs) short

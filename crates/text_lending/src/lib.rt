@@ -66,8 +66,8 @@ pub struct Span {
 
 // The buckets a second of windows with these settings, as the library counts them; none where no supervisor has such an offset or maximum, or the
 // width is 0: the call is refused then before its lists are asked for.
-pub fn buckets(offset: u32, maximum: u32, width: u32) -> usize
-    ensures { λ r. ⌜ r ≡ bucketsLent offset maximum width ⌝ }
+pub fn buckets(rate: u32, offset: u32, maximum: u32, width: u32) -> usize
+    ensures { λ r. ⌜ r ≡ bucketsLent rate offset maximum width ⌝ }
 {
     if !buckets::reaches_allowed(offset, maximum) {
         return 0;
@@ -75,7 +75,7 @@ pub fn buckets(offset: u32, maximum: u32, width: u32) -> usize
     if width == 0 {
         return 0;
     }
-    buckets::core::buckets_of(offset, maximum, width)
+    buckets::core::buckets_of(rate, offset, maximum, width)
 }
 
 // One place less where lists are to be short.
@@ -107,7 +107,12 @@ pub fn buckets_in(inputs: Inputs) -> usize
     ensures { λ r. ⌜ r ≡ bucketsHeld inputs ⌝ }
 {
     let policy = inputs.policy;
-    buckets(policy.read_offset, policy.delay_max, inputs.width)
+    buckets(
+        policy.rate,
+        policy.read_offset,
+        policy.delay_max,
+        inputs.width,
+    )
 }
 
 // The lengths of the lists that a call asks for: `new` by its settings, every other by the record.
@@ -118,7 +123,12 @@ pub fn sizes_for(call: Call, inputs: Inputs, short: bool) -> Sizes
         return lengths(inputs.count, buckets_in(inputs), short);
     };
     let settings = asked.settings;
-    let n = buckets(settings.read_offset, settings.delay_max, settings.width);
+    let n = buckets(
+        settings.rate,
+        settings.read_offset,
+        settings.delay_max,
+        settings.width,
+    );
     lengths(settings.count, n, short)
 }
 

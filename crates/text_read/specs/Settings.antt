@@ -4,7 +4,7 @@ use mathlib.Core.List.{List}
 use lib.Dec.{eqb}
 use Rattle.base.specs.Choice.{pick}
 use Rattle.text_words.specs.Words.{lost}
-use Rattle.text_requests.specs.declared.Setting.the-variants.{Week, Minute, Open}
+use Rattle.text_requests.specs.declared.Setting.the-variants.{Week, Minute, Open, Rate}
 use Rattle.text_requests.specs.Forms.{space, colon, u32At, bitAt, wordEnd}
 use Rattle.text_read.specs.declared.settings.DayWord.{DayWord}
 use Rattle.text_read.specs.declared.settings.SettingLine.{SettingLine}
@@ -50,9 +50,13 @@ minuteLine s at = let word = u32At s (wordEnd s at "minute") space in record { s
 unfoldable pub openLine : (s : List ℕ) (at : ℕ) → SettingLine
 openLine s at = let bit = bitAt s (wordEnd s at "open") space in record { setting = Open (bit .value); next = bit .next }
 
+-- `rate`: u32
+unfoldable pub rateLine : (s : List ℕ) (at : ℕ) → SettingLine
+rateLine s at = let word = u32At s (wordEnd s at "rate") space in record { setting = Rate (word .value); next = word .next }
+
 -- the first that is there
 unfoldable pub orSetting : (first second : SettingLine) → SettingLine
 orSetting first second = pick (eqb (first .next) lost) second first
 
 unfoldable pub settingLine : (s : List ℕ) (at : ℕ) → SettingLine
-settingLine s at = orSetting (orSetting (weekLine s at) (minuteLine s at)) (openLine s at)
+settingLine s at = orSetting (orSetting (orSetting (weekLine s at) (minuteLine s at)) (openLine s at)) (rateLine s at)

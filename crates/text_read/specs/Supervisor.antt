@@ -46,6 +46,7 @@ settingsAt s at =
       settings =
           record {
             count = count .value;
+            rate = 0;
             «read_offset» = offset .value;
             «delay_max» = most .value;
             width = width .value;

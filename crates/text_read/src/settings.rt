@@ -1,6 +1,6 @@
 // The setting lines (compare/README.md): no calls, each is its name and its words, read from place `at`, and sets something for the lines after it.
 ghost use mathlib.Core.Path.{_≡_};
-ghost use Rattle.text_read.specs.Settings.{dayWord, weekLine, minuteLine, openLine, orSetting, settingLine};
+ghost use Rattle.text_read.specs.Settings.{dayWord, weekLine, minuteLine, openLine, rateLine, orSetting, settingLine};
 use recording::Day;
 use recording::Week;
 use text_requests::Setting;
@@ -91,6 +91,17 @@ fn open(s: &[u8], at: usize) -> SettingLine
     }
 }
 
+fn rate(s: &[u8], at: usize) -> SettingLine
+    ensures { λ r. ⌜ r ≡ rateLine (now (s .entry)) at ⌝ }
+{
+    let name = word_end(s, at, b"rate");
+    let word = u32_word(s, name, b' ');
+    SettingLine {
+        setting: Setting::Rate(word.value),
+        next: word.next,
+    }
+}
+
 // The first, unless it was not there.
 fn either(first: SettingLine, second: SettingLine) -> SettingLine
     ensures { λ r. ⌜ r ≡ orSetting first second ⌝ }
@@ -104,5 +115,6 @@ fn either(first: SettingLine, second: SettingLine) -> SettingLine
 pub(crate) fn setting_at(s: &[u8], at: usize) -> SettingLine
     ensures { λ r. ⌜ r ≡ settingLine (now (s .entry)) at ⌝ }
 {
-    either(either(week(s, at), minute(s, at)), open(s, at))
+    let timed = either(week(s, at), minute(s, at));
+    either(either(timed, open(s, at)), rate(s, at))
 }

@@ -87,6 +87,7 @@ fn settings_at(s: &[u8], at: usize) -> SettingsWords
     let confirm = bit_word(s, percent.next, b' ');
     let settings = Settings {
         count: count.value as usize,
+        rate: 0,
         read_offset: offset.value,
         delay_max: most.value,
         width: width.value,

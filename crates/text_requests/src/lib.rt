@@ -204,6 +204,8 @@ pub enum Setting {
     Minute(u32),
     // Whether `next` is told that a window is open.
     Open(bool),
+    // The rate of every `new`, `ms`, `samples`, `index_at`, `time_of`, `wnew` and `next`.
+    Rate(u32),
 }
 
 // ---- a line
