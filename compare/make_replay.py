@@ -15,8 +15,7 @@ import subprocess
 import sys
 
 sys.dont_write_bytecode = True
-from replay import alone, desk, files, settled, sums, supervisor
-from replay import alone, files, recording, settled, sums, supervisor
+from replay import alone, desk, files, rates, recording, settled, sums, supervisor
 from replay.words import LINES, SECTIONS
 
 HERE = pathlib.Path(__file__).resolve().parent
@@ -34,6 +33,7 @@ def main():
     sums.supervised()
     desk.calls()
     recording.calls()
+    rates.calls()
     if sys.argv[1:] == ["--print"]:
         print("\n".join(LINES))
         return

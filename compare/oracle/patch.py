@@ -24,6 +24,13 @@ PATCHES = [
     ("        if held(since) && self.last_change.is_none_or(held) {",
      "        if !crate::recording::inside() && held(since) && self.last_change.is_none_or(held) {", 1,
      "document 02, 7: inside a recording window a due lowering waits; without one the test is the Rust's"),
+    ("use crate::config::{Config, SAMPLE_RATE};", "use crate::config::Config;", 1, "the rate is a setting"),
+    ("SAMPLE_RATE", "crate::shim::rate()", 2, "the rate is a setting: at 48,000 the published number"),
+    ("const DELAY_LOWER_SAMPLES: u32 = 48;", "", 1, "one millisecond by the rate"),
+    ("DELAY_LOWER_SAMPLES", "(crate::shim::rate() / 1000)", 3, "at 48,000 the published 48"),
+    ("config.read_offset_samples + config.input_delay_max_samples + 4800,",
+     "config.read_offset_samples + config.input_delay_max_samples + crate::shim::rate() / 10,", 1,
+     "a tenth of a second by the rate: at 48,000 the published 4800"),
     ("std::fs::read_to_string(path)", "crate::shim::read_to_string(path)", 2,
      "remembered delays come from the script"),
 ]
@@ -63,8 +70,12 @@ def main():
     write("inputs", text + APPEND)
 
     t = read("timing")
-    write("timing",
-        item(t, "pub const NANOS") + item(t, "pub fn index_at") + item(t, "pub fn time_of"))
+    t = item(t, "pub const NANOS") + item(t, "pub fn index_at") + item(t, "pub fn time_of")
+    if t.count("48_000") != 2:
+        sys.exit("patch: the rate of timing.rs")
+    # The rate is a setting: at 48,000 the published number.
+    t = t.replace("* 48_000", "* u128::from(crate::shim::rate())").replace("div_ceil(48_000)", "div_ceil(u128::from(crate::shim::rate()))")
+    write("timing", t)
 
     t = read("state")
     t = "#[derive(Debug, Default)]\n" + item(t, "pub struct Coalesce") + item(t, "impl Coalesce")

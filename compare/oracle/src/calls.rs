@@ -1,13 +1,14 @@
 //! Random calls over the whole range that the papers admit, its boundaries
 //! favoured, and calls that it refuses. Each call goes through the checked Rust,
 //! so that the next one can aim at what the record then holds.
-use crate::checks::{buckets, Checked, Settings, DESK_REACH};
+use crate::checks::{buckets, desk_reach, Checked, Settings};
 use crate::inputs::probe::{self, Policy, View};
 use crate::random::{ms, Random, LATEST, SECOND};
 use std::collections::BTreeMap;
 use std::fmt::Write;
 
 mod files;
+mod rates;
 mod recording;
 mod sums;
 
@@ -18,6 +19,8 @@ pub struct Calls {
     pub lines: Vec<(String, String)>,
     /// The session at hand has recording windows.
     recording: bool,
+    /// The session at hand sets rates.
+    rates: bool,
 }
 
 /// The arguments of `new`.
@@ -135,6 +138,7 @@ impl Calls {
             checked: Checked::new(),
             lines: Vec::new(),
             recording: false,
+            rates: false,
         }
     }
 
@@ -161,6 +165,17 @@ impl Calls {
                 self.recording = false;
                 self.no_recording();
             }
+            "rates" => {
+                self.rates = true;
+                self.rate();
+                if self.r.chance(70) {
+                    self.supervisor();
+                } else {
+                    self.alone();
+                }
+                self.rates = false;
+                self.first_rate();
+            }
             _ if self.r.chance(60) => self.supervisor(),
             _ => self.alone(),
         }
@@ -182,13 +197,14 @@ impl Calls {
             let (offset, max, w) = (self.reach(), self.reach(), self.width());
             if self.r.chance(5) {
                 let sum = 4094 * w + self.r.upto(w - 1);
-                let (offset, max) = (sum.saturating_sub(4800).min(96_000), sum.saturating_sub(4800));
+                let tenth = self.allowed_rate() / 10;
+                let (offset, max) = (sum.saturating_sub(tenth).min(96_000), sum.saturating_sub(tenth));
                 let max = max - offset.min(max);
-                if sum >= 4800 && max <= 96_000 && buckets(offset, max, w) == 4096 {
+                if sum >= tenth && max <= 96_000 && buckets(self.allowed_rate(), offset, max, w) == 4096 {
                     return (offset, max, w);
                 }
             }
-            let b = buckets(offset, max, w);
+            let b = buckets(self.allowed_rate(), offset, max, w);
             if b <= 4096 && (b < 1500 || self.r.chance(15)) {
                 return (offset, max, w);
             }
@@ -252,7 +268,7 @@ impl Calls {
     }
     /// A manual delay of the listening desk, about its limit and the maximum.
     fn desk(&mut self, max: u32) -> f64 {
-        let limit = ms(f64::from(max.min(DESK_REACH)));
+        let limit = ms(f64::from(max.min(desk_reach(crate::shim::rate()))));
         let (near, some) = (self.r.near(limit), self.r.unit() * limit);
         let above = f64::from_bits(limit.to_bits() + 1);
         let (manual, beyond) = (self.manual(max), self.beyond(max));
@@ -313,7 +329,7 @@ impl Calls {
             _ => {
                 // 4,097 buckets, the fewest that are too many (4,802 with W 1)
                 w = self.r.pick(&[1, 1, 2, 4, 40]);
-                let sum = 4095 * w - 4800.min(4095 * w);
+                let sum = 4095 * w - (self.allowed_rate() / 10).min(4095 * w);
                 offset = sum.min(96_000);
                 max = sum - offset;
             }
@@ -376,6 +392,9 @@ impl Calls {
             if self.recording {
                 self.week();
             }
+            if self.rates {
+                self.rate();
+            }
         }
         new.loaded.truncate(6);
         let mut manner = self.manner(&new);
@@ -387,6 +406,9 @@ impl Calls {
             }
             if self.recording && self.r.chance(1) {
                 self.week();
+            }
+            if self.rates && self.r.chance(2) {
+                self.rate();
             }
             if self.r.chance(manner.refusals) {
                 self.refused(now, &mut manner);
@@ -968,7 +990,7 @@ impl Calls {
         if !self.call(format!("wnew {offset} {max} {w}")) {
             return;
         }
-        let total = buckets(offset, max, w);
+        let total = buckets(self.allowed_rate(), offset, max, w);
         let mut now = self.time();
         for _ in 0..self.r.pick(&[10, 40, 200]) {
             let s = SECOND;
@@ -1075,8 +1097,9 @@ impl Calls {
                     let top = offset + max + w;
                     let (a, b, c) = (self.r.upto(top), self.r.upto(max), self.r.upto(calm));
                     let p999 = self.r.pick(&[None, Some(c), Some(c), Some(a), Some(top), Some(offset), Some(480.min(top))]);
-                    // 48 above the need, and the sample before and after
-                    let need = policy.need(p999.unwrap_or(c)) + self.r.pick(&[0, 47, 48, 48, 49]);
+                    // one millisecond above the need, and the sample before and after
+                    let ms = self.allowed_rate() / 1000;
+                    let need = policy.need(p999.unwrap_or(c)) + self.r.pick(&[0, ms - 1, ms, ms, ms + 1, 48]);
                     let current = self.r.pick(&[0, b, b, max, 47.min(max), 48.min(max), need.min(max), need.min(max)]);
                     let edge = offset + current;
                     let lag = self.r.pick(&[None, Some(c), Some(c), Some(a), Some(edge), Some(edge + 1), Some(offset + max), Some(offset + max + 1), Some(u32::MAX)]);
@@ -1183,7 +1206,7 @@ impl Calls {
                     format!("index_at {}", self.r.pick(&[0, 1, 20_833, 20_834, LATEST, LATEST + 1, u64::MAX, any >> 3, block, block + 1]))
                 }
                 _ => {
-                    let most = 885_443_715_538_058;
+                    let most = 885_443_715_538_058 * u64::from(self.allowed_rate() / 48_000);
                     format!("time_of {}", self.r.pick(&[0, 1, 2, 3, 48_000, most, most + 1, u64::MAX, any % most, any]))
                 }
             };

@@ -12,8 +12,10 @@ use std::sync::atomic::{AtomicBool, Ordering::Relaxed};
 const SECOND: u64 = 1_000_000_000;
 const LATEST: u64 = 4_000_000_000_000_000_000;
 const COUNT_MOST: u64 = 4_294_967_295;
-/// The listening desk's limit in samples, where the maximum is not smaller.
-pub const DESK_REACH: u32 = 2_400;
+/// Document 02, 6 and 9: the listening desk's longest delay, 50 ms of samples, where the maximum is not smaller.
+pub fn desk_reach(rate: u32) -> u32 {
+    rate / 20
+}
 
 /// Whether a panic is the Rust's own: it becomes the answer `panic`.
 static IN_THE_RUST: AtomicBool = AtomicBool::new(false);
@@ -177,18 +179,25 @@ pub struct Settings {
     pub stall: u64,
     pub confirm: bool,
     pub week: Week,
+    pub rate: u32,
 }
 impl Settings {
     pub fn limit(&self) -> u32 {
         self.offset + self.max
     }
     pub fn buckets(&self) -> u64 {
-        buckets(self.offset, self.max, self.w)
+        buckets(self.rate, self.offset, self.max, self.w)
     }
 }
 
-pub fn buckets(offset: u32, max: u32, w: u32) -> u64 {
-    (u64::from(offset) + u64::from(max) + 4800) / u64::from(w) + 2
+/// A tenth of a second beyond offset and maximum.
+pub fn buckets(rate: u32, offset: u32, max: u32, w: u32) -> u64 {
+    (u64::from(offset) + u64::from(max) + u64::from(rate) / 10) / u64::from(w) + 2
+}
+
+/// 23: the rate.
+fn rated(rate: u32) -> bool {
+    rate == 48_000 || rate == 96_000
 }
 
 /// 2: offset and maximum.
@@ -199,11 +208,12 @@ fn reaches(offset: u32, max: u32) -> bool {
 fn width(w: u32) -> bool {
     (1..=4800).contains(&w)
 }
-/// 2, then 17, then 18: more than 4,096 buckets.
-fn ranges(offset: u32, max: u32, w: u32) -> Read<()> {
+/// 23, then 2, then 17, then 18: more than 4,096 buckets.
+fn ranges(rate: u32, offset: u32, max: u32, w: u32) -> Read<()> {
+    ask(23, rated(rate))?;
     ask(2, reaches(offset, max))?;
     ask(17, width(w))?;
-    ask(18, buckets(offset, max, w) <= 4096)
+    ask(18, buckets(rate, offset, max, w) <= 4096)
 }
 /// 3: hold and window.
 fn times(hold: u64, window: u64) -> bool {
@@ -286,7 +296,7 @@ impl Checked {
             crafted: [false; 16],
             wrong_sums: Default::default(),
             wrong_lone: BTreeSet::new(),
-            window: (4, 1202),
+            window: (4, buckets(48_000, 0, 0, 4)),
             no: None,
         }
     }
@@ -345,6 +355,10 @@ impl Checked {
             }
             "open" => {
                 w.bit()?;
+                w.end()
+            }
+            "rate" => {
+                w.u32()?;
                 w.end()
             }
             "dump" => w.end().and(self.made()),
@@ -438,7 +452,7 @@ impl Checked {
         }
         w.end()?;
         ask(1, (1..=16).contains(&n))?;
-        ranges(offset, max, bucket)?;
+        ranges(self.driver.rate, offset, max, bucket)?;
         ask(3, times(hold, window) && stall <= 600 * SECOND)?;
         ask(4, margins(margin, percent))?;
         ask(5, !short)?;
@@ -446,8 +460,8 @@ impl Checked {
         ask(22, week_fits(&self.driver.week))?;
         ask(9, flows.len() <= 64)?;
         let n = n as usize;
-        let week = self.driver.week;
-        self.settings = Settings { n, offset, max, w: bucket, hold, window, stall, confirm, week };
+        let (week, rate) = (self.driver.week, self.driver.rate);
+        self.settings = Settings { n, offset, max, w: bucket, hold, window, stall, confirm, week, rate };
         self.flows = flows;
         self.crafted = [false; 16];
         self.wrong_sums = Default::default();
@@ -480,8 +494,9 @@ impl Checked {
         self.record(short)?;
         self.exists(input)?;
         ask(8, now <= LATEST)?;
-        let ms = |n: u32| f64::from(n) * 1000.0 / 48_000.0;
-        let (most, limit) = (ms(self.settings.max), ms(self.settings.max.min(DESK_REACH)));
+        let rate = self.settings.rate;
+        let ms = |n: u32| f64::from(n) * 1000.0 / f64::from(rate);
+        let (most, limit) = (ms(self.settings.max), ms(self.settings.max.min(desk_reach(rate))));
         ask(12, kind.is_none_or(|m| (0.0..=most).contains(&m)))?;
         ask(21, !desk || kind.is_none_or(|m| m <= limit))
     }
@@ -565,11 +580,13 @@ impl Checked {
         match name {
             "ms" => {
                 w.u32()?;
-                w.end()
+                w.end()?;
+                ask(23, rated(self.driver.rate))
             }
             "samples" => {
                 w.double()?;
-                w.end()
+                w.end()?;
+                ask(23, rated(self.driver.rate))
             }
             "need" => {
                 let (offset, max, margin) = (w.u32()?, w.u32()?, w.u32()?);
@@ -581,20 +598,23 @@ impl Checked {
             "index_at" => {
                 let ns = w.u64()?;
                 w.end()?;
+                ask(23, rated(self.driver.rate))?;
                 ask(8, ns <= LATEST)
             }
             "time_of" => {
                 let index = w.u64()?;
                 w.end()?;
-                let time = (u128::from(index) * u128::from(SECOND)).div_ceil(48_000);
+                ask(23, rated(self.driver.rate))?;
+                let time = (u128::from(index) * u128::from(SECOND)).div_ceil(u128::from(self.driver.rate));
                 ask(8, time <= u128::from(u64::MAX))
             }
             "wnew" => {
                 let (offset, max, bucket) = (w.u32()?, w.u32()?, w.u32()?);
                 w.end()?;
-                ranges(offset, max, bucket)?;
+                let rate = self.driver.rate;
+                ranges(rate, offset, max, bucket)?;
                 ask(5, !short)?;
-                self.window = (bucket, buckets(offset, max, bucket));
+                self.window = (bucket, buckets(rate, offset, max, bucket));
                 self.wrong_lone.clear();
                 Ok(())
             }
@@ -640,7 +660,7 @@ impl Checked {
                 maybe(w.word()?, small)?;
                 let (current, now) = (w.u32()?, w.u64()?);
                 w.end()?;
-                ranges(offset, max, bucket)?;
+                ranges(self.driver.rate, offset, max, bucket)?;
                 ask(3, times(hold, window))?;
                 ask(4, margins(margin, percent))?;
                 ask(5, !short)?;

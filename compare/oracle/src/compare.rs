@@ -1,7 +1,7 @@
 //! Feeds the port the same calls as the checked Rust, compares the answers, and
 //! shortens the list of calls that shows the first difference.
 //!
-//! compare SEED CALLS FAMILY PORT [ARGUMENT..]     FAMILY: supervisor, alone, all (both, without windows), recording
+//! compare SEED CALLS FAMILY PORT [ARGUMENT..]     FAMILY: supervisor, alone, all (both, without windows and at 48,000), recording, rates
 //! replay FILE PORT [ARGUMENT..]                   a file of calls, one a line
 use crate::calls::Calls;
 use crate::checks::{at_odds, quiet_rust, Checked, No};

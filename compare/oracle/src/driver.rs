@@ -31,6 +31,10 @@ pub struct Driver {
     pub week: Week,
     pub minute: u32,
     open: bool,
+    /// The rate of the next `new` and of the calls alone.
+    pub rate: u32,
+    /// The rate of the supervisor.
+    own_rate: u32,
     /// The week of the supervisor.
     stored: Week,
     pub out: String,
@@ -93,9 +97,10 @@ impl Driver {
     pub fn new() -> Self {
         // The window alone begins with W 4, whatever a driver before this one had.
         shim::set_w(4);
+        shim::set_rate(48_000);
         Driver {
             sup: None,
-            window: Window::new(4800),
+            window: Window::new(shim::rate() / 10),
             hold: Hold::default(),
             coalesce: Coalesce::default(),
             schedule: Schedule::default(),
@@ -104,6 +109,8 @@ impl Driver {
             week: [(0, 0); 7],
             minute: 0,
             open: false,
+            rate: 48_000,
+            own_rate: 48_000,
             stored: [(0, 0); 7],
             out: String::new(),
         }
@@ -121,6 +128,7 @@ impl Driver {
             name = w.next().unwrap_or("");
         }
         shim::set_w(self.widths.0);
+        shim::set_rate(self.own_rate);
         match name {
             "full" => {
                 self.full = num::<u8>(w) != 0;
@@ -135,6 +143,10 @@ impl Driver {
             }
             "minute" => {
                 self.minute = num(w);
+                self.out.push_str("ok");
+            }
+            "rate" => {
+                self.rate = num(w);
                 self.out.push_str("ok");
             }
             "open" => {
@@ -177,6 +189,7 @@ impl Driver {
     }
 
     fn new_supervisor(&mut self, w: &mut Words) {
+        shim::set_rate(self.rate);
         shim::set_clock(num(w));
         let n: usize = num(w);
         let (offset, max) = (num(w), num(w));
@@ -213,6 +226,7 @@ impl Driver {
         let inputs = Inputs::new(Api, &mut engine, &config, saved);
         self.sup = Some((inputs, engine, hold));
         self.stored = self.week;
+        self.own_rate = self.rate;
         self.out.push_str("ok");
         self.show(None, self.full);
     }
@@ -421,6 +435,7 @@ impl Driver {
         let out = &mut self.out;
         out.push_str("ok");
         shim::set_w(self.widths.1);
+        shim::set_rate(self.rate);
         match name {
             "ms" => bits(out, Some(probe::ms_of(num(w)))),
             "samples" => opt(out, Some(probe::samples_of(double(w.next().unwrap())))),
@@ -436,7 +451,7 @@ impl Driver {
                 let (offset, max): (u32, u32) = (num(w), num(w));
                 self.widths.1 = num(w);
                 shim::set_w(self.widths.1);
-                self.window = Window::new(offset + max + 4800);
+                self.window = Window::new(offset + max + shim::rate() / 10);
                 opt(out, Some(self.window.buckets()));
             }
             "wset" => self.window.set(rows(w)),

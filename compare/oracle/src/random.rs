@@ -47,5 +47,5 @@ impl Random {
 }
 
 pub fn ms(samples: f64) -> f64 {
-    samples * 1000.0 / 48_000.0
+    samples * 1000.0 / f64::from(crate::shim::rate())
 }
