@@ -17,7 +17,7 @@ third-demand = met laws born
 pub stays-whole : demand.StaysWholeAlways
 stays-whole = whole-always born
 
--- no number from 1 to 6 refuses, nor 17, nor 18: `beyond-its-own` without the definition of the record's own numbers
+-- no number from 1 to 6 refuses, nor 17, nor 18, nor 23: `beyond-its-own` without the definition of the record's own numbers
 module _ (night : Night) (calls : List Call) (whole : demand.Whole night calls) (call : Call) where
   pub at-most-six : after (leftBy night calls) call .number ≤ 6 → Accepted (leftBy night calls) call
   at-most-six few = own-to-six (after (leftBy night calls) call .number) (whole .beyond-its-own call) few
@@ -29,3 +29,7 @@ module _ (night : Night) (calls : List Call) (whole : demand.Whole night calls) 
   pub not-18 : after (leftBy night calls) call .number ≡ 18 → ⊥
   unfolding ownNumber
   not-18 e = own-apart (after (leftBy night calls) call .number) 18 (whole .beyond-its-own call) refl e
+
+  pub not-23 : after (leftBy night calls) call .number ≡ 23 → ⊥
+  unfolding ownNumber
+  not-23 e = own-apart (after (leftBy night calls) call .number) 23 (whole .beyond-its-own call) refl e
