@@ -16,7 +16,7 @@ millisecond-requires c κs = search needs
 
 -- a millisecond of samples, as the call told
 millisecond-few : (c : tie.After-millisecond) → c .millisecond .result ≤ samplesLimit
-millisecond-few c = omega (arith, c .millisecond .ensures, rated-few _ (c .before .pre .asked .rated))
+millisecond-few c = omega (arith, c .millisecond .ensures, rated-few _ (c .before .before .before .pre .asked .rated))
 
 started-requires : tie.Need-started-requires
 started-requires c κs = search needs
@@ -63,8 +63,8 @@ worst-requires c κs =
 
 noted-requires : tie.Need-noted-requires
 noted-requires c κs =
-    let c20 = c .before .before .before .before .before .before .before .before .before .before .before .before .before .before .before .before .before .before .before .before in
-    (c20 .before .pre .asked .sound, millisecond-few c20)
+    let c18 = c .before .before .before .before .before .before .before .before .before .before .before .before .before .before .before .before .before .before in
+    (c18 .before .before .before .pre .asked .sound, millisecond-few c18)
 
 with-peaks-requires : tie.Need-with-peaks-requires
 with-peaks-requires c κs = search needs
@@ -78,9 +78,9 @@ decided-requires c κs =
     let c14 = c12 .before .before in
     let c16 = c14 .before .before in
     let c18 = c16 .before .before in
-    let c22 = c18 .before .before .before .before in
-    let c23 = c22 .before in
-    let d = decision-asks (c23 .pre .asked) (c18 .in-startup .result) (c16 .cap2 .result) (c16 .cap2 .ensures) (c23 .args .time) (c9 .larger .result) (c8 .peaks-next .result) (c8 .peaks-next .last .1 .0) (c8 .peaks-next .ensures .0) (c8 .peaks-next .ensures .2) (c2 .worst .result) (c2 .worst .ensures) (c23 .args .max-lag) (c14 .within .result) (c14 .within .ensures) (c9 .larger .ensures) (c12 .late .result) (c .with-peaks .result) (c .before .noted .result) (c22 .millisecond .result) (c .before .noted .ensures) (c .with-peaks .ensures) in (c23 .pre .asked .sound, d .0, d .1, d .2, d .3, millisecond-few c22)
+    let c20 = c18 .before .before in
+    let c23 = c20 .before .before .before in
+    let d = decision-asks (c23 .pre .asked) (c18 .in-startup .result) (c16 .cap2 .result) (c16 .cap2 .ensures) (c23 .args .time) (c9 .larger .result) (c8 .peaks-next .result) (c8 .peaks-next .last .1 .0) (c8 .peaks-next .ensures .0) (c8 .peaks-next .ensures .2) (c2 .worst .result) (c2 .worst .ensures) (c23 .args .max-lag) (c14 .within .result) (c14 .within .ensures) (c9 .larger .ensures) (c12 .late .result) (c .with-peaks .result) (c .before .noted .result) (c20 .millisecond .result) (c .before .noted .ensures) (c .with-peaks .ensures) in (c23 .pre .asked .sound, d .0, d .1, d .2, d .3, millisecond-few c20)
 
 same-length : tie.Need-same-length
 same-length c = search needs
@@ -100,10 +100,10 @@ returns c =
     let c18 = c17 .before in
     let c19 = c18 .before in
     let c20 = c19 .before in
-    let c23 = c20 .before .before .before in
-    let c24 = c23 .before in
-    next-is (c24 .pre .asked) (c19 .in-startup .result) (c17 .cap2 .result) (c17 .cap2 .ensures) (c24 .args .time) (c10 .larger .result) (c9 .peaks-next .result) (c9 .peaks-next .last .1 .0) (c9 .peaks-next .ensures .0) (c9 .peaks-next .ensures .2) (c3 .worst .result) (c3 .worst .ensures) (c24 .args .max-lag) (c15 .within .result) (c15 .within .ensures) (c10 .larger .ensures) (c13 .late .result) (c .before .with-peaks .result) (c2 .noted .result) (c23 .millisecond .result) (c2 .noted .ensures) (c .before .with-peaks .ensures) (c18 .cap .result) _ (c .decided .result) (c24 .args .may-lower) (c19 .in-startup .ensures ∙ ap (λ (t : ℕ). startupAt t (c24 .args .hold .«startup_late») (c24 .args .time)) (c20 .started .ensures)) (c18 .cap .ensures) (c13 .late .ensures) (c9 .peaks-next .ensures .1) (c .decided .ensures)
-    ∙ ap (λ (m : ℕ). nextOf m (c24 .args .may-lower) (c24 .args .policy) (held (c24 .args .hold) (c24 .args .times .now) (c24 .args .lags .now)) (c24 .args .p999) (c24 .args .max-lag) (c24 .args .current) (c24 .args .time)) (c23 .millisecond .ensures)
+    let c21 = c20 .before in
+    let c24 = c21 .before .before .before in
+    next-is (c24 .pre .asked) (c19 .in-startup .result) (c17 .cap2 .result) (c17 .cap2 .ensures) (c24 .args .time) (c10 .larger .result) (c9 .peaks-next .result) (c9 .peaks-next .last .1 .0) (c9 .peaks-next .ensures .0) (c9 .peaks-next .ensures .2) (c3 .worst .result) (c3 .worst .ensures) (c24 .args .max-lag) (c15 .within .result) (c15 .within .ensures) (c10 .larger .ensures) (c13 .late .result) (c .before .with-peaks .result) (c2 .noted .result) (c21 .millisecond .result) (c2 .noted .ensures) (c .before .with-peaks .ensures) (c18 .cap .result) _ (c .decided .result) (c24 .args .may-lower) (c19 .in-startup .ensures ∙ ap (λ (t : ℕ). startupAt t (c24 .args .hold .«startup_late») (c24 .args .time)) (c20 .started .ensures)) (c18 .cap .ensures) (c13 .late .ensures) (c9 .peaks-next .ensures .1) (c .decided .ensures)
+    ∙ ap (λ (m : ℕ). nextOf m (c24 .args .may-lower) (c24 .args .policy) (held (c24 .args .hold) (c24 .args .times .now) (c24 .args .lags .now)) (c24 .args .p999) (c24 .args .max-lag) (c24 .args .current) (c24 .args .time)) (c21 .millisecond .ensures)
 
 pub next-spec : {M : Type 1} → statement M
 next-spec =
