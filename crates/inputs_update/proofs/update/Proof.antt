@@ -71,7 +71,7 @@ samples-requires : tie.Need-samples-requires
 samples-requires c κs = search needs
 
 delay-set-requires : tie.Need-delay-set-requires
-delay-set-requires c κs = manual-asked _ _ (c .before .before .before .before .before .before .before .before .before .before .before .before .before .before .before .before .before .before .before .before .before .before .before .args .commands .now) _ _ _ (c .before .before .before .before .before .before .before .before .before .update-number .ensures) (c .before .before .before .before .before .before .before .before .if1 .left)
+delay-set-requires c κs = manual-asked _ _ (c .before .before .before .before .before .before .before .before .before .before .before .before .before .before .before .before .before .before .before .before .before .before .before .before .args .commands .now) _ _ _ (c .before .before .before .before .before .before .before .before .before .before .update-number .ensures) (c .before .before .before .before .before .before .before .before .before .if1 .left)
 
 same-length-12 : tie.Need-same-length-12
 same-length-12 c = search needs
@@ -101,7 +101,7 @@ same-length-20 : tie.Need-same-length-20
 same-length-20 c = search needs
 
 returns-3 : tie.Need-returns-3
-returns-3 c = update-manual _ _ _ _ _ _ (c .before .before .before .before .before .before .before .before .before .before .before .before .update-number .ensures) (c .before .before .before .before .before .before .before .before .before .before .before .if1 .left) (c .before .before .before .before .before .before .before .before .before .before .kind-of .ensures) (c .before .before .before .before .before .before .before .before .before .slot-at .ensures) (c .before .before .before .before .before .before .before .before .with-kind .ensures) (c .before .before .before .before .before .before .kind .given .1) (c .before .before .before .before .samples .ensures) (c .before .before .delay-set .ensures)
+returns-3 c = update-manual _ _ _ _ _ _ (c .before .before .before .before .before .before .before .before .before .before .before .before .before .update-number .ensures) (c .before .before .before .before .before .before .before .before .before .before .before .before .if1 .left) (c .before .before .before .before .before .before .before .before .before .before .before .kind-of .ensures) (c .before .before .before .before .before .before .before .before .before .before .slot-at .ensures) (c .before .before .before .before .before .before .before .before .before .with-kind .ensures) (c .before .before .before .before .before .before .before .kind .given .1) (c .before .before .before .before .samples .ensures) (c .before .before .delay-set .ensures)
 
 pub update-spec : {M : Type 1} → statement M
 update-spec =
