@@ -105,7 +105,17 @@ fn next(
     number_after(b" ", current as u64);
     number_after(b" ", time);
     text(b"\n");
-    let r = hold.decide_next(times, lags, p999, max_lag, current, policy, width, time);
+    let r = hold.decide_next(
+        times,
+        lags,
+        p999,
+        max_lag,
+        current,
+        policy,
+        width,
+        time,
+        false,
+    );
     let left = r.hold;
     let answer = r.answer;
     match answer {

@@ -191,9 +191,9 @@ fn set(setting: Setting, state: State) -> State {
     match setting {
         Setting::Week(week) => State { week, ..state },
         Setting::Minute(minute) => State { minute, ..state },
-        Setting::Open(open) => {
+        Setting::Open(in_window) => {
             let kept = state.alone;
-            let alone = Alone { open, ..kept };
+            let alone = Alone { in_window, ..kept };
             State { alone, ..state }
         }
         Setting::Rate(rate) => {

@@ -43,7 +43,7 @@ fn next(
     asked: NextAsked,
     times: &mut [u64],
     peaks: &mut [u32],
-    open: bool,
+    in_window: bool,
     rate: u32,
 ) -> HoldAnswered {
     let policy = DelayPolicy {
@@ -66,7 +66,7 @@ fn next(
         policy,
         asked.width,
         asked.time,
-        open,
+        in_window,
     );
     let hold = r.hold;
     let answer = r.answer;
@@ -81,12 +81,12 @@ pub(crate) fn answer(
     kept: DelayHold,
     times: &mut [u64],
     peaks: &mut [u32],
-    open: bool,
+    in_window: bool,
     rate: u32,
 ) -> HoldAnswered {
     match request {
         Lone::HoldNew => new(times, peaks, kept),
-        Lone::Next(asked) => next(kept, asked, times, peaks, open, rate),
+        Lone::Next(asked) => next(kept, asked, times, peaks, in_window, rate),
         _ => HoldAnswered {
             hold: kept,
             answer: Answer::BadLine,

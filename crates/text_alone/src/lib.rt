@@ -35,7 +35,7 @@ pub struct Alone {
     pub coalesce: Coalesce,
     pub schedule: Schedule,
     // `next` is told that a window is open.
-    pub open: bool,
+    pub in_window: bool,
     // The rate of every call that takes one, and of every `new`.
     pub rate: u32,
 }
@@ -63,7 +63,7 @@ pub fn begin() -> Alone {
         hold,
         coalesce,
         schedule,
-        open: false,
+        in_window: false,
         rate: FIRST_RATE,
     }
 }
@@ -165,7 +165,7 @@ fn on_hold(
         kept,
         &mut times[a0..a1],
         &mut peaks[b0..b1],
-        alone.open,
+        alone.in_window,
         alone.rate,
     );
     let left = done.hold;

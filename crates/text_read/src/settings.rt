@@ -80,7 +80,7 @@ fn minute(s: &[u8], at: usize) -> SettingLine
     }
 }
 
-fn open(s: &[u8], at: usize) -> SettingLine
+fn open_line(s: &[u8], at: usize) -> SettingLine
     ensures { λ r. ⌜ r ≡ openLine (now (s .entry)) at ⌝ }
 {
     let name = word_end(s, at, b"open");
@@ -116,5 +116,5 @@ pub(crate) fn setting_at(s: &[u8], at: usize) -> SettingLine
     ensures { λ r. ⌜ r ≡ settingLine (now (s .entry)) at ⌝ }
 {
     let timed = either(week(s, at), minute(s, at));
-    either(either(timed, open(s, at)), rate(s, at))
+    either(either(timed, open_line(s, at)), rate(s, at))
 }

@@ -7,7 +7,7 @@ use Rattle.text_read.proofs.settings.setting_at.Tie as tie
 
 returns : tie.Need-returns
 unfolding settingLine
-returns c = rw (@either3 .ensures, @either2 .ensures, @either .ensures, @week .ensures, @minute .ensures, @open .ensures, @rate .ensures)
+returns c = rw (@either3 .ensures, @either2 .ensures, @either .ensures, @week .ensures, @minute .ensures, @open-line .ensures, @rate .ensures)
 
 pub setting-at-spec : {M : Type 1} → statement M
 setting-at-spec =
@@ -16,7 +16,7 @@ setting-at-spec =
     (λ c κs. search needs)  -- week-requires
     (λ c κs. search needs)  -- minute-requires
     (λ c κs. search needs)  -- either-requires
-    (λ c κs. search needs)  -- open-requires
+    (λ c κs. search needs)  -- open-line-requires
     (λ c κs. search needs)  -- either-requires-2
     (λ c κs. search needs)  -- rate-requires
     (λ c κs. search needs)  -- either-requires-3
