@@ -6,7 +6,7 @@ use mathlib.Core.List.{List, [], _∷_}
 use native.Mathlib.Omega.{arith}
 use lib.Dec.{T}
 use lib.IntN.{pos, negsuc}
-use lib.Ieee.{Float, nan, fin, round, mul, div, ofInt, le}
+use lib.Ieee.{Float, nan, inf, fin, round, mul, div, ofInt, le}
 use lib.ListN.{length}
 use Rattle.base.specs.Choice.{both, ask}
 use Rattle.base.specs.Limits.{samplesLimit}
@@ -37,6 +37,7 @@ use Rattle.rules_calls.specs.Update.{kindOf, updated}
 use Rattle.rules_calls.specs.UpdateReply.{updateReply}
 use Rattle.rules_calls.specs.DeskDelays.{DeskDelays}
 use Rattle.rules_calls.proofs.UpdateDelays.{manual-slot, manual-words}
+use Rattle.rules_calls.proofs.UpdateReplies.{update-refused}
 
 -- ---- the edges, computed
 -- a policy of this rate and maximum
@@ -80,8 +81,10 @@ pub desk-at-its-edges :
     ∷ manualNumber (Desk above-hundred) (ofRate 48000 4800)
     ∷ manualNumber (Desk (fin true 1 (negsuc 1073))) (ofRate 48000 4800)
     ∷ manualNumber (Desk nan) (ofRate 48000 4800)
+    ∷ manualNumber (Desk (inf false)) (ofRate 48000 4800)
+    ∷ manualNumber (Desk (inf true)) (ofRate 48000 4800)
     ∷ []
-    ≡ 0 ∷ 0 ∷ 21 ∷ 21 ∷ 12 ∷ 12 ∷ 12 ∷ []
+    ≡ 0 ∷ 0 ∷ 21 ∷ 21 ∷ 12 ∷ 12 ∷ 12 ∷ 12 ∷ 12 ∷ []
 unfolding manualNumber manualFits deskLimit both ask msOf round div mul ofInt le
 desk-at-its-edges = refl
 
@@ -115,7 +118,7 @@ pub twelve-first : (setting : DelaySetting) (policy : DelayPolicy) → kindFits 
 unfolding manualNumber
 twelve-first setting policy refused = no-ask 12 _ refused
 
--- what 12 lets through is refused by 21 exactly above the limit
+-- what 12 lets through is refused by 21 above the limit
 pub then-twenty-one : (setting : DelaySetting) (policy : DelayPolicy) → kindFits (kindOf setting) policy ≡ true → deskFits setting policy ≡ false → manualNumber setting policy ≡ 21
 unfolding manualNumber
 then-twenty-one setting policy fits beyond = yes-ask 12 _ fits ∙ no-ask 21 0 beyond
@@ -151,9 +154,9 @@ module _ (s : Inputs) (l : Lists) (commands : List ℕ) (input : ℕ) (delay : F
   unfolding deskLimit
   limit-few r = omega (arith, rated-few _ r)
 
-  within : updateNumber s l (length commands) input (Desk delay) time ≡ 0 → samplesOf (s .policy .rate) delay ≤ deskLimit (s .policy)
+  samples-within : updateNumber s l (length commands) input (Desk delay) time ≡ 0 → samplesOf (s .policy .rate) delay ≤ deskLimit (s .policy)
   unfolding manualFits
-  within e =
+  samples-within e =
       let twelve = both-true _ _ (told e .0) in
       let r = rated e in
       manual-fits (s .policy .rate) (rated-some _ r) (omega (arith, rated-few _ r)) delay (deskLimit (s .policy)) (omega (arith, limit-few r)) (subst T (sym (twelve .0)) tt) (subst T (sym (told e .1)) tt)
@@ -196,9 +199,18 @@ module _ (s : Inputs) (l : Lists) (commands : List ℕ) (input : ℕ) (delay : F
   unfolding manualNumber
   up-to e fits = number-is _ refl (scoring-told e .0) (Desk delay) ∙ yes-ask 12 _ (scoring-told e .1) ∙ yes-ask 21 0 fits
 
-  as-scoring-leaves : updateNumber s l (length commands) input (Desk delay) time ≡ 0 → updateReply s l commands input (Desk delay) time ≡ updateReply s l commands input (Ms delay) time
+  same-unless-21 : (updateNumber s l (length commands) input (Desk delay) time ≡ 21 → ⊥) → updateNumber s l (length commands) input (Desk delay) time ≡ updateNumber s l (length commands) input (Ms delay) time
+  same-unless-21 other =
+      by-zero (updateNumber s l (length commands) input (Ms delay) time)
+      (λ none. by-bool (deskFits (Desk delay) (s .policy)) (λ fits. up-to none fits ∙ sym none) (λ above. absurd (other (beyond none above))))
+      alike
+
+  same-reply : updateNumber s l (length commands) input (Desk delay) time ≡ updateNumber s l (length commands) input (Ms delay) time → updateReply s l commands input (Desk delay) time ≡ updateReply s l commands input (Ms delay) time
   unfolding updateReply
-  as-scoring-leaves e = ap (λ (n : ℕ). replied n s l commands (updated input (kindOf (Ms delay)) time s l)) (same-number e)
+  same-reply = ap (λ (n : ℕ). replied n s l commands (updated input (kindOf (Ms delay)) time s l))
+
+  left : updateNumber s l (length commands) input (Desk delay) time ≡ 21 → updateReply s l commands input (Desk delay) time ≡ record { number = 21; inputs = s; lists = l; commands = commands }
+  left e = sym (update-refused s l commands input (Desk delay) time (sym e) (λ z. omega (arith, z)))
 
   legal : updateNumber s l (length commands) input (Ms delay) time ≡ timedNumber s l (length commands) input time (ask 12 (manualFits delay (s .policy)) 0)
   unfolding updateNumber manualNumber
@@ -215,5 +227,13 @@ module _ (s : Inputs) (l : Lists) (commands : List ℕ) (input : ℕ) (delay : F
         ap (λ (r : Reply). r .commands) carried ∙ ap (padded (length commands)) (manual-words s input time low sized l delay),
       )
 
+  within : Sized s → updateNumber s l (length commands) input (Desk delay) time ≡ 0
+      → (slotAt (updateReply s l commands input (Desk delay) time .inputs) input .delay ≡ samplesOf (s .policy .rate) delay)
+      × (samplesOf (s .policy .rate) delay ≤ deskLimit (s .policy))
+  within sized e = (
+    ap (λ (r : Reply). slotAt (r .inputs) input .delay) (same-reply (same-number e)) ∙ uncut sized (sym (same-number e) ∙ e) .0,
+    samples-within e,
+  )
+
   pub desk-delays : DeskDelays s l commands input delay time
-  desk-delays = record { within-limit = within; refused-alike = alike; beyond-limit = beyond; up-to-limit = up-to; as-scoring = as-scoring-leaves; scoring-legal = legal; scoring-uncut = uncut }
+  desk-delays = record { within-limit = within; beyond-limit = beyond; up-to-limit = up-to; as-scoring = λ other. same-reply (same-unless-21 other); refused-leaves = left; scoring-legal = legal; scoring-uncut = uncut }
