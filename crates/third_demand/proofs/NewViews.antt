@@ -51,7 +51,7 @@ pub record Started (settings : Settings) (kinds : List ExtraDelay) (time : ℕ) 
   pub checked : Checked z m
   pub given : SameSettings (blankFor settings) z
   pub lifted : (i : ℕ) → i < settings .count → Lifted (policyOf settings) 0 (freshView (policyOf settings) (settings .width)) (viewOf z m i)
-  pub slot : (i : ℕ) → i < settings .count → AsStarted (kindAt kinds i) time (settings .«delay_max») (slotAt z i)
+  pub slot : (i : ℕ) → i < settings .count → AsStarted (kindAt kinds i) time (policyOf settings) (slotAt z i)
 
 module _ (settings : Settings) (kinds : List ExtraDelay) (bytes delays : List ℕ) (time : ℕ) (l : Lists) (commands : List ℕ) (accepted : newNumber settings bytes delays time l (length commands) ≡ 0) where
   abbrev effect : Effect

@@ -73,7 +73,7 @@ module _ (i : ℕ) (largest : Lag) (time : ℕ) (s : Inputs) (l : Lists) (low : 
   unfolding nextFor
   above delay e off =
       let current : currentOf (slotAt s i) ≡ slotAt s i .delay = ap (λ (x : Proposal). proposedOr x (slotAt s i .delay)) (none off) in
-      let rises = next-never-lowers oneMillisecond (s .policy) (heldOf s l i) (p999Of (s .policy) (windowOf s l i)) largest (currentOf (slotAt s i)) time in
+      let rises = next-never-lowers (oneMillisecond (s .policy)) (s .policy) (heldOf s l i) (p999Of (s .policy) (windowOf s l i)) largest (currentOf (slotAt s i)) time in
       omega (arith, current, subst (λ (x : Change). currentOf (slotAt s i) ≤ delayAfter (currentOf (slotAt s i)) x) e rises)
 
   auto-rises : slotAt s i .delay ≤ slotAt (autoDelayed i largest time false s l .inputs) i .delay
