@@ -1,6 +1,6 @@
 -- A night of calls that meets what the floor and the ceiling ask, computed on the definitions: neither is empty. `new`, a route, a tick with a lag
--- of 4,000, then one every 5 s with a lag of 480 and a refused call among them. Hold 0, window 1 s, W 480. Assumes nothing.
-use Prim.Native.Nat.{ℕ, _+_, _*_, _≤_}
+-- of 4,000, then one every 5 s with a lag of 480 and a refused call among them. Hold 0, window 1 s, W 480; at both rates. Assumes nothing.
+use Prim.Native.Nat.{ℕ, _+_, _-_, _*_, _≤_}
 use mathlib.Core.Path.{_≡_, refl, sym, subst, _∙_}
 use mathlib.Core.Bool.{Bool, true, false, not}
 use mathlib.Core.List.{List, [], _∷_}
@@ -17,6 +17,7 @@ use Rattle.base.specs.Choice.{pick, both}
 use Rattle.base.proofs.Choices.{yes-pick, no-pick, by-zero, accepted-new, refused-old}
 use Rattle.base.proofs.Points.{both-true}
 use Rattle.base.proofs.Tests.{not-both}
+use Rattle.rates.specs.Rates.{millisecond}
 use Rattle.policy.specs.Need.{needOf}
 use Rattle.delay_hold.specs.declared.Lag.the-variants as Lag
 use Rattle.rules_record.specs.declared.AutoTag.the-variants as AutoTag
@@ -47,18 +48,18 @@ use Rattle.third_demand.proofs.Opened.{base-opened, week-opened, window
 abbrev tuesdays : Week
 tuesdays = record { monday = noDay; tuesday = record { opens = 540; closes = 600 }; wednesday = noDay; thursday = noDay; friday = noDay; saturday = noDay; sunday = noDay }
 
-abbrev small : Settings
-small = record { count = 1; rate = 48_000; «read_offset» = 480; «delay_max» = 4800; width = 480; hold = 0; window = nanos; stall = 600 * nanos; margin = 96; percent = fin false 25 (pos 1); confirm = false; week = tuesdays }
+abbrev small : (rate : ℕ) → Settings
+small rate = record { count = 1; rate = rate; «read_offset» = 480; «delay_max» = 4800; width = 480; hold = 0; window = nanos; stall = 600 * nanos; margin = 96; percent = fin false 25 (pos 1); confirm = false; week = tuesdays }
 
--- one input on automatic; 23 buckets a second
-abbrev night : Night
-night = record {
-  settings = small;
+-- one input on automatic
+abbrev night : (rate buckets : ℕ) → Night
+night rate buckets = record {
+  settings = small rate;
   kinds = ExtraDelay.Auto AutoTag.Auto ∷ [];
   bytes = [];
   delays = [];
   time = 0;
-  lists = lists (replicate 11 0) (replicate 11 0) (replicate 253 0) (replicate 23 0) (replicate 600 0) (replicate 600 0);
+  lists = lists (replicate 11 0) (replicate 11 0) (replicate (11 * buckets) 0) (replicate buckets 0) (replicate 600 0) (replicate 600 0);
   commands = replicate 12 0;
 }
 
@@ -160,20 +161,21 @@ along-stretch i L before r (call ∷ calls) h =
 
 -- ---- what is computed
 -- what the floor asks of the late tick, what the ceiling asks of the stretch, and the delays
-record Computed : Type 0 where
-  new : fresh night .number ≡ 0
-  late-taken : Accepted (leftBy night (opens ∷ [])) (tickAt 0 4000)
-  late-runs : RunsOn 0 (leftBy night (opens ∷ tickAt 0 4000 ∷ []))
+record Computed (rate buckets : ℕ) : Type 0 where
+  new : fresh (night rate buckets) .number ≡ 0
+  late-taken : Accepted (leftBy (night rate buckets) (opens ∷ [])) (tickAt 0 4000)
+  late-runs : RunsOn 0 (leftBy (night rate buckets) (opens ∷ tickAt 0 4000 ∷ []))
   late-lag : largestOf (lagsOf looks (4000 ∷ []) 0) ≡ Lag.Of 4000
-  late-delay : delayOf 0 night (opens ∷ tickAt 0 4000 ∷ []) ≡ 4800
-  first-taken : Accepted (leftBy night (opens ∷ tickAt 0 4000 ∷ [])) (tickAt 5 480)
-  first-in : InStretch tuesdays 0 480 (5 * nanos) looks (480 ∷ []) (5 * nanos) 2040 (after (leftBy night (opens ∷ tickAt 0 4000 ∷ [])) (tickAt 5 480))
-  goes-along : along 0 480 (5 * nanos) (after (leftBy night (opens ∷ tickAt 0 4000 ∷ [])) (tickAt 5 480)) later ≡ true
-  long : 5 * nanos + (30 * nanos + policyIn night .window + 3 * policyIn night .hold) ≤ ending (5 * nanos) (after (leftBy night (opens ∷ tickAt 0 4000 ∷ [])) (tickAt 5 480)) later
-  last-delay : delayOf 0 night (opens ∷ tickAt 0 4000 ∷ tickAt 5 480 ∷ later) ≡ 816
-  last-need : needOf (policyIn night) (bucketEnd (policyIn night) 480 480) ≡ 816
+  late-delay : delayOf 0 (night rate buckets) (opens ∷ tickAt 0 4000 ∷ []) ≡ 4800
+  first-taken : Accepted (leftBy (night rate buckets) (opens ∷ tickAt 0 4000 ∷ [])) (tickAt 5 480)
+  first-in : InStretch tuesdays 0 480 (5 * nanos) looks (480 ∷ []) (5 * nanos) 2040 (after (leftBy (night rate buckets) (opens ∷ tickAt 0 4000 ∷ [])) (tickAt 5 480))
+  goes-along : along 0 480 (5 * nanos) (after (leftBy (night rate buckets) (opens ∷ tickAt 0 4000 ∷ [])) (tickAt 5 480)) later ≡ true
+  long : 5 * nanos + (30 * nanos + policyIn (night rate buckets) .window + 3 * policyIn (night rate buckets) .hold) ≤ ending (5 * nanos) (after (leftBy (night rate buckets) (opens ∷ tickAt 0 4000 ∷ [])) (tickAt 5 480)) later
+  last-delay : delayOf 0 (night rate buckets) (opens ∷ tickAt 0 4000 ∷ tickAt 5 480 ∷ later) ≡ 816
+  last-need : needOf (policyIn (night rate buckets)) (bucketEnd (policyIn (night rate buckets)) 480 480) ≡ 816
 
-computed : Computed
+-- 23 buckets a second
+computed : Computed 48_000 23
 unfolding along base-opened week-opened window-opened hold-opened record-opened routing-opened calls-opened tick-opened lastDelay delayTold bucketEnd after run told toldBy delayOf lastTick ending
 computed = record {
   new = refl;
@@ -189,24 +191,49 @@ computed = record {
   last-need = refl;
 }
 
--- ---- the theorems of this night
-floor-here : 4000 ≤ delayOf 0 night (opens ∷ tickAt 0 4000 ∷ []) + 480
-unfolding policyOf
-floor-here =
-    third-demand .floor night (opens ∷ []) looks (4000 ∷ []) (0 * nanos) 2040 0 4000
-    (record { new = computed .new; unconfirmed = refl; few = omega arith; orderly = rising-orderly 0 0 (fresh night) (opens ∷ tickAt 0 4000 ∷ []) (omega arith) (omega arith, (omega arith, tt)) })
-    (omega arith) (computed .late-taken) (computed .late-runs) (computed .late-lag) (omega arith)
+-- 33 buckets a second
+computed-at-96000 : Computed 96_000 33
+unfolding along base-opened week-opened window-opened hold-opened record-opened routing-opened calls-opened tick-opened lastDelay delayTold bucketEnd after run told toldBy delayOf lastTick ending
+computed-at-96000 = record {
+  new = refl;
+  late-taken = refl;
+  late-runs = refl;
+  late-lag = refl;
+  late-delay = refl;
+  first-taken = refl;
+  first-in = record { soon = leb-true _ _ refl; runs = refl; lagged = tt; none-above = (leb-true _ _ refl, tt); outside = refl };
+  goes-along = refl;
+  long = leb-true _ _ refl;
+  last-delay = refl;
+  last-need = refl;
+}
 
-ceiling-here : delayOf 0 night (opens ∷ tickAt 0 4000 ∷ tickAt 5 480 ∷ later) ≤ needOf (policyIn night) (bucketEnd (policyIn night) 480 480) + 47
-unfolding policyOf
-ceiling-here =
-    third-demand .ceiling night (opens ∷ tickAt 0 4000 ∷ []) looks (480 ∷ []) (5 * nanos) 2040 0 480 later
-    (record {
-      new = computed .new;
-      unconfirmed = refl;
-      few = omega arith;
-      orderly =
-          rising-orderly 0 0 (fresh night) (opens ∷ tickAt 0 4000 ∷ tickAt 5 480 ∷ later) (omega arith)
-          (omega arith, (omega arith, (omega arith, (omega arith, (omega arith, (omega arith, (omega arith, (omega arith, (omega arith, (omega arith, (omega arith, tt)))))))))));
-    })
-    (omega arith) (computed .first-taken) (computed .first-in) (along-stretch 0 480 (5 * nanos) _ later (computed .goes-along)) (computed .long)
+-- ---- the theorems of this night
+module _ (rate buckets : ℕ) (computed : Computed rate buckets) where
+  floor-here : 4000 ≤ delayOf 0 (night rate buckets) (opens ∷ tickAt 0 4000 ∷ []) + 480
+  unfolding policyOf
+  floor-here =
+      third-demand .floor (night rate buckets) (opens ∷ []) looks (4000 ∷ []) (0 * nanos) 2040 0 4000
+      (record { new = computed .new; unconfirmed = refl; few = omega arith; orderly = rising-orderly 0 0 (fresh (night rate buckets)) (opens ∷ tickAt 0 4000 ∷ []) (omega arith) (omega arith, (omega arith, tt)) })
+      (omega arith) (computed .late-taken) (computed .late-runs) (computed .late-lag) (omega arith)
+
+  ceiling-here : delayOf 0 (night rate buckets) (opens ∷ tickAt 0 4000 ∷ tickAt 5 480 ∷ later) ≤ needOf (policyIn (night rate buckets)) (bucketEnd (policyIn (night rate buckets)) 480 480) + (millisecond rate - 1)
+  unfolding policyOf
+  ceiling-here =
+      third-demand .ceiling (night rate buckets) (opens ∷ tickAt 0 4000 ∷ []) looks (480 ∷ []) (5 * nanos) 2040 0 480 later
+      (record {
+        new = computed .new;
+        unconfirmed = refl;
+        few = omega arith;
+        orderly =
+            rising-orderly 0 0 (fresh (night rate buckets)) (opens ∷ tickAt 0 4000 ∷ tickAt 5 480 ∷ later) (omega arith)
+            (omega arith, (omega arith, (omega arith, (omega arith, (omega arith, (omega arith, (omega arith, (omega arith, (omega arith, (omega arith, (omega arith, tt)))))))))));
+      })
+      (omega arith) (computed .first-taken) (computed .first-in) (along-stretch 0 480 (5 * nanos) _ later (computed .goes-along)) (computed .long)
+
+-- 47 samples above the need at 48,000, 95 at 96,000
+ceiling-at-48000 : delayOf 0 (night 48_000 23) (opens ∷ tickAt 0 4000 ∷ tickAt 5 480 ∷ later) ≤ needOf (policyIn (night 48_000 23)) (bucketEnd (policyIn (night 48_000 23)) 480 480) + 47
+ceiling-at-48000 = ceiling-here 48_000 23 computed
+
+ceiling-at-96000 : delayOf 0 (night 96_000 33) (opens ∷ tickAt 0 4000 ∷ tickAt 5 480 ∷ later) ≤ needOf (policyIn (night 96_000 33)) (bucketEnd (policyIn (night 96_000 33)) 480 480) + 95
+ceiling-at-96000 = ceiling-here 96_000 33 computed-at-96000
