@@ -1,5 +1,5 @@
 -- What `route` and `status` come to where they do little, and `settled` at its edges, in the papers' words. Assumes nothing.
-use Prim.Native.Nat.{ℕ, _-_}
+use Prim.Native.Nat.{ℕ, _+_, _-_}
 use mathlib.Core.Bool.{true, false, not}
 use mathlib.Core.Path.{_≡_, refl, sym, ap}
 use mathlib.Core.List.{List, [], _∷_}
@@ -8,6 +8,9 @@ use Rattle.base.specs.Choice.{both}
 use Rattle.base.proofs.Choices.{yes-pick, no-pick, pick-all}
 use Rattle.base.proofs.Points.{true-both}
 use borrow.Author.Tests.{ne-eqb}
+use Rattle.rates.specs.Rates.{rateAllowed}
+use Rattle.doubles.specs.Answers.{msBy, msAnswer}
+use Rattle.doubles.proofs.Rates.{ms-answered}
 use Rattle.rules_record.specs.declared.State.{State}
 use Rattle.rules_record.specs.declared.State.the-variants.{Unrouted, Waiting, Running, Stalled}
 use Rattle.rules_record.specs.declared.Route.{Route}
@@ -26,7 +29,7 @@ use Rattle.rules_calls.specs.declared.Milliseconds.the-variants as Milli
 use Rattle.rules_calls.specs.Route.{equalRoute, otherFlow, startsOver, zeroing, startedOver, routedSlot, routedTo}
 use Rattle.rules_calls.specs.RouteChecks.{routeNumber}
 use Rattle.rules_calls.specs.RouteReply.{routeReply}
-use Rattle.rules_calls.specs.Status.{channelsShown, worstMs}
+use Rattle.rules_calls.specs.Status.{channelsShown, worstMs, statusFor, statusOf}
 use Rattle.rules_calls.specs.Settled.{settledSlot}
 use Rattle.rules_calls.proofs.RouteReplies.{route-refused}
 
@@ -71,6 +74,14 @@ channels-routed Stalled routed channels = refl
 pub worst-of-manual : (rate : ℕ) (slot : Slot) (lags : List ℕ) → isAuto (slot .config .«extra_delay») ≡ false → worstMs rate slot lags ≡ Milliseconds.None
 unfolding worstMs
 worst-of-manual rate slot lags manual = no-pick _ _ manual
+
+-- "`ms` of applied, of offset + applied, .. of the last lag"; document 02, §9: what the call `ms` answers at the record's rate
+pub shown-as-ms-answers : (s : Inputs) (l : Lists) (i applied channels : ℕ) → rateAllowed (s .policy .rate) ≡ true
+    → msAnswer (s .policy .rate) applied ∷ msAnswer (s .policy .rate) (s .policy .«read_offset» + applied) ∷ msAnswer (s .policy .rate) (slotAt s i .«last_lag») ∷ []
+    ≡ msBy 0 (statusOf s l i applied channels .«extra_delay_ms») ∷ msBy 0 (statusOf s l i applied channels .«effective_delay_ms») ∷ msBy 0 (statusOf s l i applied channels .«lag_ms») ∷ []
+unfolding statusFor
+shown-as-ms-answers s l i applied channels one =
+    (λ t. ms-answered (s .policy .rate) applied one t ∷ ms-answered (s .policy .rate) (s .policy .«read_offset» + applied) one t ∷ ms-answered (s .policy .rate) (slotAt s i .«last_lag») one t ∷ [])
 
 -- ---- `settled`
 -- document 02, §4, of a Running input with hold 10: "neither a SetDelay nor a SetInput went to the input within the last hold (the last of each is at least hold old, or none ever went)"
