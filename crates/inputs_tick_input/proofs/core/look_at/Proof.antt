@@ -25,19 +25,19 @@ watch-requires : tie.Need-watch-requires
 watch-requires c κs = search needs
 
 returns : tie.Need-returns
-returns c = let unrouted = ap stateNumber (@enum-told .given .1) in did-by (looked-rests _ _ _ _ (@slot-at .ensures) refl (λ waits. omega (arith, unrouted, waits)) (omega (arith, unrouted))) (did-quiet refl)
+returns c = let unrouted = ap stateNumber (c .enum-told .given .1) in did-by (looked-rests _ _ _ _ (c .before .before .before .slot-at .ensures) refl (λ waits. omega (arith, unrouted, waits)) (omega (arith, unrouted))) (did-quiet refl)
 
 same-length : tie.Need-same-length
 same-length c = search needs
 
 returns-2 : tie.Need-returns-2
-returns-2 c = did-by (looked-opens _ _ _ _ (@slot-at .ensures) refl (ap stateNumber (@enum-told2 .given .1))) (@try-open .ensures)
+returns-2 c = did-by (looked-opens _ _ _ _ (c .before .before .before .before .before .before .before .slot-at .ensures) refl (ap stateNumber (c .before .before .before .before .enum-told2 .given .1))) (c .before .before .try-open .ensures)
 
 same-length-2 : tie.Need-same-length-2
 same-length-2 c = search needs
 
 returns-3 : tie.Need-returns-3
-returns-3 c = let high = watches (@slot-at .result .state) (@match .keys3) in did-by (looked-watches _ _ _ _ (@slot-at .ensures) refl (λ waits. omega (arith, high, waits)) high) (@watch .ensures)
+returns-3 c = let high = watches (c .before .before .before .before .before .before .slot-at .result .state) (c .before .before .before .before .match .keys3) in did-by (looked-watches _ _ _ _ (c .before .before .before .before .before .before .slot-at .ensures) refl (λ waits. omega (arith, high, waits)) high) (c .before .before .watch .ensures)
 
 pub look-at-spec : {M : Type 1} → statement M
 look-at-spec =

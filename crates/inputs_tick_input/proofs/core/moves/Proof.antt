@@ -20,7 +20,7 @@ enum-told : tie.Need-enum-told
 enum-told c = search needs
 
 returns-2 : tie.Need-returns-2
-returns-2 c = λ e. only-moves _ _ (@code .ensures) (omega (arith, @if1 .left)) (@finds .ensures) (@enum-told .given .1)
+returns-2 c = λ e. only-moves _ _ (c .before .before .before .before .before .code .ensures) (omega (arith, c .before .before .before .before .if1 .left)) (c .before .before .finds .ensures) (c .enum-told .given .1)
 
 returns-3 : tie.Need-returns-3
 returns-3 c = λ e. absurd (not-both e refl)

@@ -14,7 +14,7 @@ returns : tie.Need-returns
 returns c = λ e. absurd (not-both e refl)
 
 returns-2 : tie.Need-returns-2
-returns-2 c = λ e. still-unrouted _ _ (@code .ensures) (omega (arith, @if1 .left)) (@if2 .taken)
+returns-2 c = λ e. still-unrouted _ _ (c .before .before .code .ensures) (omega (arith, c .before .if1 .left)) (c .if2 .taken)
 
 enum-told : tie.Need-enum-told
 enum-told c = search needs
@@ -23,7 +23,7 @@ enum-told-2 : tie.Need-enum-told-2
 enum-told-2 c = search needs
 
 returns-3 : tie.Need-returns-3
-returns-3 c = λ e. still-waiting _ _ (@code .ensures) (@if2 .left) (@enum-told2 .given .1)
+returns-3 c = λ e. still-waiting _ _ (c .before .before .before .before .before .code .ensures) (c .before .before .before .if2 .left) (c .enum-told2 .given .1)
 
 returns-4 : tie.Need-returns-4
 returns-4 c = λ e. absurd (not-both e refl)
