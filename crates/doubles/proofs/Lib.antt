@@ -7,6 +7,7 @@ pub mod Bounds
 pub mod Rounding
 pub mod Delays
 pub mod Rates
+pub mod ComesHome
 pub mod Places
 pub mod Bracket
 pub mod Nearest
