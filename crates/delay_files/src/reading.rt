@@ -6,9 +6,11 @@ ghost use lib.ListN.{length};
 ghost use Rattle.base.specs.Choice.{pick};
 ghost use Rattle.base.specs.Lists.{padded, listed};
 ghost use Rattle.byte_order.specs.Bytes.{AllBytes};
-ghost use Rattle.rules_files.specs.Files.{lowerFlow, rises, flowIn, delayIn, headed};
-ghost use Rattle.rules_files.specs.ReadFile.{readNumber, flowByteIn, leftRead, readReply};
+ghost use Rattle.rules_files.specs.Files.{lowerFlow, rises, rateIn, flowIn, delayIn, headed};
+ghost use Rattle.rules_files.specs.Rates.{rateAllowed};
+ghost use Rattle.rules_files.specs.ReadFile.{fileNumber, listsLong, readNumber, flowByteIn, leftRead, readReply, leftRated, ratedReply};
 use rules_files::DelayRead;
+use rules_files::RatedRead;
 use rules_record::Flow;
 
 // Is the first flow lower by its bytes?
@@ -25,7 +27,7 @@ pub(crate) fn lower(a: Flow, b: Flow) -> bool
 }
 
 // The flow of entry k.
-fn flow_in(file: &[u8], head: usize, k: usize) -> Flow
+pub(crate) fn flow_in(file: &[u8], head: usize, k: usize) -> Flow
     requires { ⌜ (head ≤ 11) × (k < 64) × (head + k * 20 + 20 ≤ length (now file)) ⌝ }
     ensures { λ r. ⌜ r ≡ flowIn (now (file .entry)) head k ⌝ }
 {
@@ -80,18 +82,42 @@ fn is_headed(version: usize, head: usize, file: &[u8]) -> bool
     file.len() == head + count * 20
 }
 
-// The number of the first of 19 5 20 that says no, or 0, with so many flow bytes and delays lent.
-fn read_number(version: usize, head: usize, file: &[u8], flows: usize, delays: usize) -> u32
+// Is this one of the two rates?
+pub(crate) fn rate_allowed(rate: u32) -> bool
+    ensures { λ r. ⌜ r ≡ rateAllowed rate ⌝ }
+{
+    if rate == 48_000 {
+        return true;
+    }
+    rate == 96_000
+}
+
+// The rate of a file: that of version 1, whose head has none, is 48,000.
+pub(crate) fn rate_in(file: &[u8], head: usize) -> u32
+    requires { ⌜ head ≤ length (now file) ⌝ }
+    ensures { λ r. ⌜ r ≡ rateIn (now (file .entry)) head ⌝ }
+{
+    if head < 11 {
+        return 48_000;
+    }
+    byte_order::core::little_four(file, 7)
+}
+
+// The number of the first of 19 25 5 20 that says no, or 0; `wanted` says whether the rate that is wanted is one of the two, `lists` whether the lent lists have their lengths.
+pub(crate) fn file_number(version: usize, head: usize, file: &[u8], wanted: bool, lists: bool) -> u32
     requires { ⌜ (7 ≤ head) × (head ≤ 11) ⌝ }
-    ensures { λ r. ⌜ r ≡ readNumber version head (now (file .entry)) flows delays ⌝ }
+    ensures { λ r. ⌜ r ≡ fileNumber version head (now (file .entry)) wanted lists 0 ⌝ }
 {
     if !is_headed(version, head, file) {
         return 19;
     }
-    if flows != 1024 {
-        return 5;
+    if !rate_allowed(rate_in(file, head)) {
+        return 25;
     }
-    if delays != 64 {
+    if !wanted {
+        return 25;
+    }
+    if !lists {
         return 5;
     }
     let count = byte_order::core::little_two(file, 5);
@@ -99,6 +125,24 @@ fn read_number(version: usize, head: usize, file: &[u8], flows: usize, delays: u
         return 20;
     }
     0
+}
+
+// Have the lent lists their lengths (check 5)?
+fn lists_long(flows: usize, delays: usize) -> bool
+    ensures { λ r. ⌜ r ≡ listsLong flows delays ⌝ }
+{
+    if flows != 1024 {
+        return false;
+    }
+    delays == 64
+}
+
+// The number of the reader's first check that says no, or 0, with so many flow bytes and delays lent.
+fn read_number(version: usize, head: usize, file: &[u8], flows: usize, delays: usize) -> u32
+    requires { ⌜ (7 ≤ head) × (head ≤ 11) ⌝ }
+    ensures { λ r. ⌜ r ≡ readNumber version head (now (file .entry)) flows delays ⌝ }
+{
+    file_number(version, head, file, true, lists_long(flows, delays))
 }
 
 // Byte i of the flows, zero after the last.
@@ -167,4 +211,31 @@ pub(crate) fn read(
     fill_flows(file, head, count, flows);
     fill_delays(file, head, count, delays);
     DelayRead { number, count }
+}
+
+// The same with the rate of the file.
+pub(crate) fn read_rated(
+    version: usize,
+    head: usize,
+    file: &[u8],
+    flows: &mut [u8],
+    delays: &mut [u32],
+) -> RatedRead
+    requires { ⌜ (7 ≤ head) × (head ≤ 11) ⌝ }
+    ensures { λ r. ⌜ leftRated r (now (flows .exit)) (now (delays .exit)) ≡ ratedReply version head (now (file .entry)) (now (flows .entry)) (now (delays .entry)) ⌝ }
+    ensures { λ _. ⌜ AllBytes (now (file .entry)) ⌝ }
+{
+    let answer = read(version, head, file, flows, delays);
+    if answer.number != 0 {
+        return RatedRead {
+            number: answer.number,
+            count: answer.count,
+            rate: 0,
+        };
+    }
+    RatedRead {
+        number: answer.number,
+        count: answer.count,
+        rate: rate_in(file, head),
+    }
 }

@@ -2,3 +2,4 @@
 pub mod FromFile
 pub mod WrittenRead
 pub mod Claimed
+pub mod Editions

@@ -1,2 +1,3 @@
 -- The delay file as a whole.
 pub mod FileClaims
+pub mod EditionClaims

@@ -12,8 +12,9 @@ use Rattle.rules_record.specs.declared.FlowEntry.{FlowEntry}
 use Rattle.rules_record.specs.declared.Remembered.{Remembered}
 use Rattle.rules_record.specs.declared.Remembered.the-variants.{Never, Delay}
 use Rattle.rules_record.specs.Flows.{emptyEntry}
-use Rattle.rules_files.specs.Files.{lowerFlow, rises, headByte, flowByte, entryByte, fileByte, fileOf, countIn, flowIn, delayIn, headed}
-use Rattle.rules_files.specs.ReadFile.{readNumber, flowByteIn, flowsRead, delaysRead, readReply}
+use Rattle.rules_files.specs.Files.{lowerFlow, rises, headByte, flowByte, entryByte, fileByte, fileOf, countIn, rateIn, flowIn, delayIn, headed}
+use Rattle.rules_files.specs.Rates.{rateAllowed}
+use Rattle.rules_files.specs.ReadFile.{fileNumber, listsLong, readNumber, flowByteIn, flowsRead, delaysRead, readReply}
 use Rattle.rules_files.specs.Table.{held, heldCount, rank, rankedBelow, sortedFlow, sortedDelay}
 
 abbrev flow : (high low : ℕ) → Flow
@@ -59,31 +60,31 @@ pub wrong-files :
     ∷ read (padded 1307 (68 ∷ 76 ∷ 89 ∷ 1 ∷ 0 ∷ 65 ∷ 0 ∷ []))
     ∷ []
     ≡ 0 ∷ 19 ∷ 19 ∷ 19 ∷ 19 ∷ 19 ∷ 19 ∷ 19 ∷ []
-unfolding readNumber ask headed both littleAt countIn rises all flowIn bytesAt lowerFlow padded
+unfolding readNumber fileNumber listsLong rateIn rateAllowed ask headed both littleAt countIn rises all flowIn bytesAt lowerFlow padded
 wrong-files = refl
 
 -- "20 for flows that do not rise": rising, equal, falling; "up to 64": 64 entries are asked for their flows
 pub flows-that-rise : read (fileOfTwo 1 2) ∷ read (fileOfTwo 1 1) ∷ read (fileOfTwo 2 1) ∷ read (padded 1287 (68 ∷ 76 ∷ 89 ∷ 1 ∷ 0 ∷ 64 ∷ 0 ∷ [])) ∷ [] ≡ 0 ∷ 20 ∷ 20 ∷ 20 ∷ []
-unfolding readNumber ask headed both littleAt countIn rises all flowIn bytesAt lowerFlow padded
+unfolding readNumber fileNumber listsLong rateIn rateAllowed ask headed both littleAt countIn rises all flowIn bytesAt lowerFlow padded
 flows-that-rise = refl
 
 -- 19 "asked first in the reader", 20 "asked last in the reader", 5 between them
 pub order-of-the-checks :
     readNumber 1 7 [] 1023 64 ∷ readNumber 1 7 fileOfOne 1023 64 ∷ readNumber 1 7 fileOfOne 1025 64 ∷ readNumber 1 7 fileOfOne 1024 63 ∷ readNumber 1 7 (fileOfTwo 1 1) 1024 65 ∷ []
     ≡ 19 ∷ 5 ∷ 5 ∷ 5 ∷ 5 ∷ []
-unfolding readNumber ask headed both littleAt countIn rises all flowIn bytesAt lowerFlow
+unfolding readNumber fileNumber listsLong rateIn rateAllowed ask headed both littleAt countIn rises all flowIn bytesAt lowerFlow
 order-of-the-checks = refl
 
 -- "The reader fills 1,024 flow bytes and 64 delays, unused ones zero, and answers the count"
 pub reads-one :
     readReply 1 7 fileOfOne (replicate 1024 7) (replicate 64 7)
     ≡ record { number = 0; count = 1; flows = (1 ∷ 2 ∷ 3 ∷ 4 ∷ 5 ∷ 6 ∷ 7 ∷ 8 ∷ 9 ∷ 10 ∷ 11 ∷ 12 ∷ 13 ∷ 14 ∷ 15 ∷ 16 ∷ []) ++ replicate 1008 0; delays = 16909060 ∷ replicate 63 0 }
-unfolding readReply readNumber ask headed both littleAt countIn rises all flowIn bytesAt lowerFlow flowsRead flowByteIn delaysRead delayIn listed padded
+unfolding readReply readNumber fileNumber listsLong rateIn rateAllowed ask headed both littleAt countIn rises all flowIn bytesAt lowerFlow flowsRead flowByteIn delaysRead delayIn listed padded
 reads-one = refl
 
 -- a refused file writes nothing
 pub refused-writes-nothing : readReply 1 7 (fileOfOne ++ (0 ∷ [])) (replicate 1024 7) (replicate 64 7) ≡ record { number = 19; count = 0; flows = replicate 1024 7; delays = replicate 64 7 }
-unfolding readReply readNumber ask headed both littleAt countIn
+unfolding readReply readNumber fileNumber listsLong rateIn rateAllowed ask headed both littleAt countIn
 refused-writes-nothing = refl
 
 -- "A known flow with no remembered delay is not written", the lowest flow first; a remembered 0 is remembered

@@ -1,5 +1,5 @@
 -- The file of a strictly rising list of at most 64 entries is accepted, and gives its entries back. Assumes nothing.
-use Prim.Native.Nat.{ℕ, _+_, _-_, _*_, _/_, _%_, _<_, _≤_}
+use Prim.Native.Nat.{ℕ, _+_, _-_, _*_, _/_, _%_, _^_, _<_, _≤_}
 use mathlib.Core.Bool.{true}
 use mathlib.Core.Path.{_≡_, refl, sym, ap, ap₂, _∙_}
 use mathlib.Core.List.{List}
@@ -13,7 +13,8 @@ use Rattle.base.proofs.Tests.{all-cong}
 use Rattle.byte_order.specs.Bytes.{byteOf}
 use Rattle.byte_order.proofs.Inverse.{weight, big-of, little-of}
 use Rattle.rules_record.specs.declared.Flow.{Flow}
-use Rattle.rules_files.specs.Files.{lowerFlow, rises, headByte, flowByte, entryByte, fileByte, fileOf, Widths, countIn, flowIn, delayIn}
+use Rattle.rules_files.specs.Files.{lowerFlow, rises, headByte, flowByte, entryByte, fileByte, fileOf, Widths, countIn, rateIn, flowIn, delayIn}
+use Rattle.rules_files.specs.Rates.{rateAllowed}
 use Rattle.rules_files.specs.ReadFile.{readNumber, flowByteIn, flowsRead, delaysRead}
 use Rattle.rules_files.proofs.ReadCases.{Readable, accepts}
 
@@ -59,6 +60,19 @@ module _ (version head rate n : ℕ) (flows : ℕ → Flow) (delays : ℕ → �
       head-at (5 + j) (omega arith)
       ∙ no-pick _ _ (ne-eqb (5 + j) 0 (λ e. omega arith)) ∙ no-pick _ _ (ne-eqb (5 + j) 1 (λ e. omega arith)) ∙ no-pick _ _ (ne-eqb (5 + j) 2 (λ e. omega arith))
       ∙ lt-no (5 + j) 5 _ _ (omega arith) ∙ lt-yes (5 + j) 7 _ _ (omega arith) ∙ ap (λ (k : ℕ). byteOf k n) q
+
+  -- the rate that the reader of a longer head gives
+  rate-at : 11 ≤ head → (j : ℕ) → j < 4 → getD file (7 + j) 0 ≡ byteOf j rate
+  unfolding headByte
+  rate-at far j l =
+      let q : 7 + j - 7 ≡ j = omega arith in
+      head-at (7 + j) (omega arith)
+      ∙ no-pick _ _ (ne-eqb (7 + j) 0 (λ e. omega arith)) ∙ no-pick _ _ (ne-eqb (7 + j) 1 (λ e. omega arith)) ∙ no-pick _ _ (ne-eqb (7 + j) 2 (λ e. omega arith))
+      ∙ lt-no (7 + j) 5 _ _ (omega arith) ∙ lt-no (7 + j) 7 _ _ (omega arith) ∙ ap (λ (k : ℕ). byteOf k rate) q
+
+  pub rate-back : 11 ≤ head → rate < 2 ^ 32 → rateIn file head ≡ rate
+  unfolding rateIn weight
+  rate-back far small = lt-no head 11 _ _ far ∙ little-of file 7 4 rate small (rate-at far)
 
   module _ (few : n ≤ 64) where
     pub count-back : countIn file ≡ n
@@ -106,14 +120,17 @@ module _ (version head rate n : ℕ) (flows : ℕ → Flow) (delays : ℕ → �
       unfolding rises
       rises-back = all-cong _ _ (n - 1) (λ k l. ap₂ lowerFlow (flow-back k (omega arith)) (flow-back (k + 1) (omega arith)))
 
-      pub file-readable : version < weight 2 → rises flows n ≡ true → Readable version head file 1024 64
-      unfolding headByte
-      file-readable v up = record {
-        headed = record { first = head-at 0 (omega arith); second = head-at 1 (omega arith); third = head-at 2 (omega arith); edition = little-of file 3 2 version v edition-at; few = omega (arith, count-back); long = file-long ∙ ap (λ (c : ℕ). head + c * 20) (sym count-back) };
-        bytes-long = refl;
-        delays-long = refl;
-        rising = ap (rises (flowIn file head)) count-back ∙ rises-back ∙ up;
-      }
+      -- where its rate is one of the two
+      module _ (v : version < weight 2) (up : rises flows n ≡ true) (allowed : rateAllowed (rateIn file head) ≡ true) where
+        pub file-readable : Readable version head file 1024 64
+        unfolding headByte
+        file-readable = record {
+          headed = record { first = head-at 0 (omega arith); second = head-at 1 (omega arith); third = head-at 2 (omega arith); edition = little-of file 3 2 version v edition-at; few = omega (arith, count-back); long = file-long ∙ ap (λ (c : ℕ). head + c * 20) (sym count-back) };
+          rated = allowed;
+          bytes-long = refl;
+          delays-long = refl;
+          rising = ap (rises (flowIn file head)) count-back ∙ rises-back ∙ up;
+        }
 
-      pub file-accepted : version < weight 2 → rises flows n ≡ true → readNumber version head file 1024 64 ≡ 0
-      file-accepted v up = accepts version head file 1024 64 (file-readable v up)
+        pub file-accepted : readNumber version head file 1024 64 ≡ 0
+        file-accepted = accepts version head file 1024 64 file-readable

@@ -1,22 +1,36 @@
 -- A file of bytes whose head is right is the file of its own entries. Assumes nothing.
 use Prim.Native.Nat.{ℕ, _+_, _-_, _*_, _/_, _%_, _<_, _≤_}
-use mathlib.Core.Path.{_≡_, sym, ap, _∙_}
+use mathlib.Core.Path.{_≡_, sym, ap, ap₂, _∙_}
 use mathlib.Core.List.{List}
 use native.Mathlib.Omega.{arith}
-use lib.Dec.{eqb}
+use lib.Dec.{eqb, ltb}
 use lib.ListN.{getD}
 use lib.Seq.{ext-getD}
 use borrow.Author.Tests.{eqb-true, eqb-false}
-use Rattle.base.proofs.Choices.{pick-rule, lt-rule}
-use Rattle.base.proofs.Listed.{listed-length, listed-at}
+use Rattle.base.specs.Choice.{pick}
+use Rattle.base.proofs.Choices.{pick-rule, lt-rule, lt-yes, by-le}
+use Rattle.base.proofs.Listed.{listed-length, listed-at, listed-cong}
 use Rattle.byte_order.specs.Bytes.{bytesAt, littleAt, byteOf, AllBytes}
 use Rattle.byte_order.proofs.Inverse.{weight, big-byte, little-byte, big-small, little-small}
-use Rattle.rules_files.specs.Files.{headByte, flowByte, entryByte, fileByte, fileOf, Widths, countIn, flowIn, delayIn}
+use Rattle.rules_record.specs.declared.Flow.{Flow}
+use Rattle.rules_files.specs.Files.{headByte, flowByte, entryByte, fileByte, fileOf, Widths, countIn, rateIn, flowIn, delayIn}
 use Rattle.rules_files.proofs.Heads.{Headed}
 
 -- the rate in a head that is longer than 7 bytes
 abbrev pub Rated : (head rate : ℕ) → List ℕ → Type 0
 Rated head rate file = (i : ℕ) → 7 ≤ i → i < head → getD file i 0 ≡ byteOf (i - 7) rate
+
+-- of bytes, such a head says its rate
+pub rate-again : (file : List ℕ) → AllBytes file → Rated 11 (rateIn file 11) file
+unfolding rateIn
+rate-again file small i a b =
+    let j : i - 7 < 4 = omega arith in
+    let q : i ≡ 7 + (i - 7) = omega arith in
+    ap (λ (k : ℕ). getD file k 0) q ∙ sym (little-byte file 7 4 (i - 7) small j)
+
+-- a head of 7 bytes has none
+pub rate-none : (rate : ℕ) (file : List ℕ) → Rated 7 rate file
+rate-none rate file i a b = absurd (omega arith)
 
 from-three : (i : ℕ) → (i ≡ 0 → ⊥) → (i ≡ 1 → ⊥) → (i ≡ 2 → ⊥) → 3 ≤ i
 from-three i a b c = omega (arith, a, b, c)
@@ -77,6 +91,19 @@ module _ (version head rate : ℕ) (file : List ℕ) (small : AllBytes file) (h 
       at i l =
           lt-rule i head _ _ (λ (v : ℕ). getD file i 0 ≡ v) (λ m. head-same i m)
           (λ m. let q : i ≡ head + (i - head) / 20 * 20 + (i - head) % 20 = omega arith in ap (λ (p : ℕ). getD file p 0) q ∙ entry-same ((i - head) / 20) ((i - head) % 20) (omega arith))
+
+-- the same flows and delays make the same file
+pub file-cong : (version head rate count : ℕ) (flows other : ℕ → Flow) (delays late : ℕ → ℕ) → ((k : ℕ) → k < count → flows k ≡ other k) → ((k : ℕ) → k < count → delays k ≡ late k)
+    → fileOf version head rate count flows delays ≡ fileOf version head rate count other late
+unfolding fileOf fileByte
+file-cong version head rate count flows other delays late f d =
+    listed-cong _ _ (head + count * 20) at
+  where
+    at : (i : ℕ) → i < head + count * 20 → fileByte version head rate count flows delays i ≡ fileByte version head rate count other late i
+    at i l =
+        by-le head i
+        (λ m. let k : (i - head) / 20 < count = omega arith in ap₂ (λ (x : Flow) (y : ℕ). pick (ltb i head) (headByte version rate count i) (entryByte x y ((i - head) % 20))) (f _ k) (d _ k))
+        (λ m. lt-yes i head _ _ m ∙ sym (lt-yes i head _ _ m))
 
 -- its flows and delays have their widths
 pub widths-in : (file : List ℕ) (head : ℕ) → AllBytes file → Widths (countIn file) (flowIn file head) (delayIn file head)

@@ -9,3 +9,7 @@ pub mod FileAgain
 pub mod FileAccepted
 pub mod Ranks
 pub mod InOrder
+pub mod Counterparts
+pub mod ConvertCases
+pub mod Converted
+pub mod EditionEdges

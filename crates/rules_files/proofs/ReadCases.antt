@@ -1,64 +1,106 @@
 -- The reader's checks and replies, case by case. Assumes nothing.
 use Prim.Native.Nat.{ℕ, _*_, _<_, _≤_}
-use mathlib.Core.Bool.{true, false}
+use mathlib.Core.Bool.{Bool, true, false}
 use mathlib.Core.Path.{_≡_, refl, sym, ap, _∙_}
 use mathlib.Core.List.{List}
 use native.Mathlib.Omega.{arith}
 use lib.ListN.{length}
-use borrow.Author.Tests.{eq-eqb, ne-eqb, eqb-true}
+use borrow.Author.Tests.{eq-eqb, eqb-true}
 use Rattle.base.specs.Lists.{padded, listed}
-use Rattle.base.proofs.Choices.{yes-ask, no-ask, asked, refused-old, accepted-new, accepted-all}
-use Rattle.rules_files.specs.Files.{rises, countIn, flowIn, delayIn, headed}
-use Rattle.rules_files.specs.ReadFile.{readNumber, flowByteIn, flowsRead, delaysRead, LeftByReader, leftRead, readReply}
+use Rattle.base.proofs.All.{both-yes, both-no}
+use Rattle.base.proofs.Choices.{yes-ask, no-ask, asked, same-refusal, refused-old, accepted-new, accepted-all}
+use Rattle.base.proofs.Points.{both-true, true-both}
+use Rattle.rules_files.specs.Files.{rises, countIn, rateIn, flowIn, delayIn, headed}
+use Rattle.rules_files.specs.Rates.{rateAllowed}
+use Rattle.rules_files.specs.ReadFile.{fileNumber, listsLong, readNumber, flowByteIn, flowsRead, delaysRead, LeftByReader, leftRead, readReply, LeftByRatedReader, leftRated, ratedReply}
 use Rattle.rules_files.proofs.Heads.{Headed, headed-of, of-headed, unheaded}
 
--- what the reader's checks let through
+-- what 19 25 5 20 let through
+pub record Passed (version head : ℕ) (file : List ℕ) (wanted lists : Bool) : Type 0 where
+  pub headed : Headed version head file
+  pub rated : rateAllowed (rateIn file head) ≡ true
+  pub wanted-allowed : wanted ≡ true
+  pub lists-long : lists ≡ true
+  pub rising : rises (flowIn file head) (countIn file) ≡ true
+
+module _ (version head : ℕ) (file : List ℕ) (wanted lists : Bool) (rest : ℕ) where
+  pub file-first : headed version head file ≡ false → 19 ≡ fileNumber version head file wanted lists rest
+  unfolding fileNumber
+  file-first h = sym (no-ask 19 _ h)
+
+  module _ (h : headed version head file ≡ true) where
+    pub file-rate : rateAllowed (rateIn file head) ≡ false → 25 ≡ fileNumber version head file wanted lists rest
+    unfolding fileNumber
+    file-rate n = sym (yes-ask 19 _ h ∙ no-ask 25 _ (sym (both-no _ _ n)))
+
+    module _ (r : rateAllowed (rateIn file head) ≡ true) where
+      pub file-wanted : wanted ≡ false → 25 ≡ fileNumber version head file wanted lists rest
+      unfolding fileNumber
+      file-wanted n = sym (yes-ask 19 _ h ∙ no-ask 25 _ (sym (both-yes _ _ _ r (sym n))))
+
+      module _ (w : wanted ≡ true) where
+        pub file-lists : lists ≡ false → 5 ≡ fileNumber version head file wanted lists rest
+        unfolding fileNumber
+        file-lists n = sym (yes-ask 19 _ h ∙ yes-ask 25 _ (true-both _ _ r w) ∙ no-ask 5 _ n)
+
+        module _ (l : lists ≡ true) where
+          pub file-falls : rises (flowIn file head) (countIn file) ≡ false → 20 ≡ fileNumber version head file wanted lists rest
+          unfolding fileNumber
+          file-falls n = sym (yes-ask 19 _ h ∙ yes-ask 25 _ (true-both _ _ r w) ∙ yes-ask 5 _ l ∙ no-ask 20 _ n)
+
+          pub file-rises : rises (flowIn file head) (countIn file) ≡ true → rest ≡ fileNumber version head file wanted lists rest
+          unfolding fileNumber
+          file-rises n = sym (yes-ask 19 _ h ∙ yes-ask 25 _ (true-both _ _ r w) ∙ yes-ask 5 _ l ∙ yes-ask 20 _ n)
+
+  -- number 0 says all of it, and that the checks after them gave 0
+  pub passed : fileNumber version head file wanted lists rest ≡ 0 → Passed version head file wanted lists × (rest ≡ 0)
+  unfolding fileNumber
+  passed e =
+      let a = asked 18 _ _ e in
+      let b = asked 24 _ _ (a .1) in
+      let c = asked 4 _ _ (b .1) in
+      let d = asked 19 _ _ (c .1) in
+      let r = both-true _ _ (b .0) in
+      (record { headed = headed-of version head file (a .0); rated = r .0; wanted-allowed = r .1; lists-long = c .0; rising = d .0 }, d .1)
+
+  -- and where they pass, the number is that of the checks after them
+  pub past : Passed version head file wanted lists → fileNumber version head file wanted lists rest ≡ rest
+  past p = sym (file-rises (of-headed version head file (p .headed)) (p .rated) (p .wanted-allowed) (p .lists-long) (p .rising))
+
+-- a refusal by 19 25 5 20 is the same whatever comes after them
+pub refused-alike : (version head : ℕ) (file : List ℕ) (wanted lists : Bool) (rest : ℕ) → (fileNumber version head file wanted lists 0 ≡ 0 → ⊥)
+    → fileNumber version head file wanted lists 0 ≡ fileNumber version head file wanted lists rest
+unfolding fileNumber
+refused-alike version head file wanted lists rest none = sym (same-refusal 19 _ (same-refusal 25 _ (same-refusal 5 _ (same-refusal 20 _ (λ h. absurd (h refl))))) none)
+
+-- ---- the reader
+-- what its checks let through
 pub record Readable (version head : ℕ) (file : List ℕ) (bytes delays : ℕ) : Type 0 where
   pub headed : Headed version head file
+  pub rated : rateAllowed (rateIn file head) ≡ true
   pub bytes-long : bytes ≡ 1024
   pub delays-long : delays ≡ 64
   pub rising : rises (flowIn file head) (countIn file) ≡ true
 
 module _ (version head : ℕ) (file : List ℕ) (bytes delays : ℕ) where
-  pub read-first : headed version head file ≡ false → 19 ≡ readNumber version head file bytes delays
-  unfolding readNumber
-  read-first h = sym (no-ask 19 _ h)
-
   -- a file longer than any edition can be, a head of at most 11 bytes and 64 entries, is refused by 19 whatever its bytes
   pub too-long : head ≤ 11 → 1291 < length file → 19 ≡ readNumber version head file bytes delays
-  too-long low far = read-first (sym (unheaded version head file (λ h. omega (arith, h .few, h .long))))
-
-  module _ (h : headed version head file ≡ true) where
-    pub read-bytes : (bytes ≡ 1024 → ⊥) → 5 ≡ readNumber version head file bytes delays
-    unfolding readNumber
-    read-bytes n = sym (yes-ask 19 _ h ∙ no-ask 5 _ (ne-eqb _ _ n))
-
-    module _ (b : bytes ≡ 1024) where
-      pub read-delays-long : (delays ≡ 64 → ⊥) → 5 ≡ readNumber version head file bytes delays
-      unfolding readNumber
-      read-delays-long n = sym (yes-ask 19 _ h ∙ yes-ask 5 _ (eq-eqb _ _ b) ∙ no-ask 5 _ (ne-eqb _ _ n))
-
-      module _ (d : delays ≡ 64) where
-        pub read-falls : rises (flowIn file head) (countIn file) ≡ false → 20 ≡ readNumber version head file bytes delays
-        unfolding readNumber
-        read-falls n = sym (yes-ask 19 _ h ∙ yes-ask 5 _ (eq-eqb _ _ b) ∙ yes-ask 5 _ (eq-eqb _ _ d) ∙ no-ask 20 0 n)
-
-        pub read-rises : rises (flowIn file head) (countIn file) ≡ true → 0 ≡ readNumber version head file bytes delays
-        unfolding readNumber
-        read-rises n = sym (yes-ask 19 _ h ∙ yes-ask 5 _ (eq-eqb _ _ b) ∙ yes-ask 5 _ (eq-eqb _ _ d) ∙ yes-ask 20 0 n)
+  unfolding readNumber
+  too-long low far = file-first version head file true (listsLong bytes delays) 0 (sym (unheaded version head file (λ h. omega (arith, h .few, h .long))))
 
   -- number 0 says all of it, and is said of all of it
   pub readable : readNumber version head file bytes delays ≡ 0 → Readable version head file bytes delays
-  unfolding readNumber
+  unfolding readNumber listsLong
   readable e =
-      let a = asked 18 _ _ e in
-      let b = asked 4 _ _ (a .1) in
-      let c = asked 4 _ _ (b .1) in
-      let d = asked 19 _ _ (c .1) in
-      record { headed = headed-of version head file (a .0); bytes-long = eqb-true _ _ (b .0); delays-long = eqb-true _ _ (c .0); rising = d .0 }
+      let p = passed version head file true (listsLong bytes delays) 0 e .0 in
+      let l = both-true _ _ (p .lists-long) in
+      record { headed = p .headed; rated = p .rated; bytes-long = eqb-true _ _ (l .0); delays-long = eqb-true _ _ (l .1); rising = p .rising }
 
   pub accepts : Readable version head file bytes delays → readNumber version head file bytes delays ≡ 0
-  accepts r = sym (read-rises (of-headed version head file (r .headed)) (r .bytes-long) (r .delays-long) (r .rising))
+  unfolding readNumber listsLong
+  accepts r =
+      past version head file true (listsLong bytes delays) 0
+      (record { headed = r .headed; rated = r .rated; wanted-allowed = refl; lists-long = true-both _ _ (eq-eqb _ _ (r .bytes-long)) (eq-eqb _ _ (r .delays-long)); rising = r .rising })
 
 -- ---- the replies
 module _ (version head : ℕ) (file flows delays : List ℕ) where
@@ -86,3 +128,26 @@ module _ (version head : ℕ) (file flows delays : List ℕ) {number : ℕ} (e :
   unfolding readReply flowsRead delaysRead
   read-accepted h {count} c {fs} {ds} f d =
       rw (f, d, c, h) (sym (read-reply-accepted version head file flows delays (sym e ∙ h)))
+
+-- ---- the reader of version 2
+module _ (version head : ℕ) (file flows delays : List ℕ) where
+  pub rated-reply-accepted : readNumber version head file (length flows) (length delays) ≡ 0
+      → ratedReply version head file flows delays ≡ record { read = record { number = 0; count = countIn file; flows = flowsRead file head; delays = delaysRead file head }; rate = rateIn file head }
+  unfolding ratedReply
+  rated-reply-accepted z =
+      (λ i. record { read = read-reply-accepted version head file flows delays z i; rate = accepted-new (readNumber version head file (length flows) (length delays)) 0 (rateIn file head) z i })
+
+  -- an answer with the rate in place of 0 where it is accepted
+  module _ {number count : ℕ} {fs ds : List ℕ} (e : leftRead (record { number = number; count = count }) fs ds ≡ readReply version head file flows delays) where
+    same-number : number ≡ readNumber version head file (length flows) (length delays)
+    same-number = ap (λ (r : LeftByReader). r .number) e ∙ read-reply-number version head file flows delays
+
+    pub rated-refused : (number ≡ 0 → ⊥) → leftRated (record { number = number; count = count; rate = 0 }) fs ds ≡ ratedReply version head file flows delays
+    unfolding ratedReply
+    rated-refused h =
+        (λ i. record { read = e i; rate = sym (refused-old (readNumber version head file (length flows) (length delays)) 0 (rateIn file head) (λ z. h (same-number ∙ z))) i })
+
+    pub rated-accepted : number ≡ 0 → {rate : ℕ} → rate ≡ rateIn file head → leftRated (record { number = number; count = count; rate = rate }) fs ds ≡ ratedReply version head file flows delays
+    unfolding ratedReply
+    rated-accepted h q =
+        (λ i. record { read = e i; rate = (q ∙ sym (accepted-new (readNumber version head file (length flows) (length delays)) 0 (rateIn file head) (sym same-number ∙ h))) i })

@@ -1,4 +1,4 @@
--- The delay file (document 02, §2). Its edition is a parameter: its version, how many bytes its head has, and the rate that stands in the head after the
+-- The delay file (document 02, §2, §11). Its edition is a parameter: its version, how many bytes its head has, and the rate that stands in the head after the
 -- count (a head of 7 bytes has none). Assumes nothing.
 use Prim.Native.Nat.{ℕ, _+_, _-_, _*_, _/_, _%_, _^_, _<_}
 use mathlib.Core.Bool.{Bool, true}
@@ -21,7 +21,7 @@ unfoldable pub rises : (flows : (ℕ → Flow)) (n : ℕ) → Bool
 rises flows n = all (λ k. lowerFlow (flows k) (flows (k + 1))) (n - 1)
 
 -- ---- the file of so many flows with their delays
--- "the letters DLY, a 16-bit version .., a 16-bit count", "Numbers are little-endian"; in a longer head the rate follows
+-- "the letters DLY, a 16-bit version .., a 16-bit count", "Numbers are little-endian"; "Version 2 carries a 32-bit rate after the count"
 unfoldable pub headByte : (version rate count i : ℕ) → ℕ
 headByte version rate count i =
     pick (eqb i 0) 68
@@ -56,6 +56,10 @@ pub record Widths (count : ℕ) (flows : (ℕ → Flow)) (delays : (ℕ → ℕ)
 -- ---- what a file holds
 unfoldable pub countIn : (file : List ℕ) → ℕ
 countIn file = littleAt file 5 2
+
+-- "Version 2 carries a 32-bit rate after the count and is otherwise as version 1, whose rate is 48,000."
+unfoldable pub rateIn : (file : List ℕ) (head : ℕ) → ℕ
+rateIn file head = pick (ltb head 11) 48_000 (littleAt file 7 4)
 
 -- the flow and the delay of entry k
 unfoldable pub flowIn : (file : List ℕ) (head k : ℕ) → Flow

@@ -1,21 +1,32 @@
 -- The reader of a delay file: its checks and what it leaves. Assumes nothing.
 use Prim.Native.Nat.{ℕ, _+_, _*_, _/_, _%_}
+use mathlib.Core.Bool.{Bool, true}
 use mathlib.Core.List.{List}
 use lib.Dec.{eqb}
 use lib.ListN.{getD, length}
-use Rattle.base.specs.Choice.{ask, accepted}
+use Rattle.base.specs.Choice.{both, ask, accepted}
 use Rattle.base.specs.Lists.{padded, listed}
 use Rattle.rules_files.specs.declared.DelayRead.{DelayRead}
-use Rattle.rules_files.specs.Files.{rises, countIn, flowIn, delayIn, headed}
+use Rattle.rules_files.specs.declared.RatedRead.{RatedRead}
+use Rattle.rules_files.specs.Files.{rises, countIn, rateIn, flowIn, delayIn, headed}
+use Rattle.rules_files.specs.Rates.{rateAllowed}
 
--- "Number 19 is for a wrong mark, version, count or length, asked first in the reader; 20 for flows that do not rise, asked last in the reader":
--- 19 5 20, with so many flow bytes and delays lent
-unfoldable pub readNumber : (version head : ℕ) (file : List ℕ) (bytes delays : ℕ) → ℕ
-readNumber version head file bytes delays =
+-- "Number 19 is for a wrong mark, version, count or length, asked first in the reader; 20 for flows that do not rise, asked last in the reader";
+-- "Number 25 is for a rate, in the file or wanted, other than the two .., asked straight after 19": 19 25 5 20, where `wanted` says whether the rate that is
+-- wanted is one of the two and `lists` whether the lent lists have their lengths; then the number that the checks after them give
+unfoldable pub fileNumber : (version head : ℕ) (file : List ℕ) (wanted lists : Bool) (rest : ℕ) → ℕ
+fileNumber version head file wanted lists rest =
     ask 19 (headed version head file)
-    (ask 5 (eqb bytes 1024)
-    (ask 5 (eqb delays 64)
-    (ask 20 (rises (flowIn file head) (countIn file)) 0)))
+    (ask 25 (both (rateAllowed (rateIn file head)) wanted)
+    (ask 5 lists
+    (ask 20 (rises (flowIn file head) (countIn file)) rest)))
+
+-- a reader wants no rate; so many flow bytes and delays are lent (a file of version 1 is never refused by 25)
+unfoldable pub listsLong : (bytes delays : ℕ) → Bool
+listsLong bytes delays = both (eqb bytes 1024) (eqb delays 64)
+
+unfoldable pub readNumber : (version head : ℕ) (file : List ℕ) (bytes delays : ℕ) → ℕ
+readNumber version head file bytes delays = fileNumber version head file true (listsLong bytes delays) 0
 
 -- byte i of the flows of a file: 16 to each entry
 unfoldable pub flowByteIn : (file : List ℕ) (head i : ℕ) → ℕ
@@ -44,3 +55,15 @@ readReply version head file flows delays =
     accepted (readNumber version head file (length flows) (length delays))
     (record { number = readNumber version head file (length flows) (length delays); count = 0; flows = flows; delays = delays })
     (record { number = 0; count = countIn file; flows = flowsRead file head; delays = delaysRead file head })
+
+-- version 2: "Its reader answers the rate too."
+pub record LeftByRatedReader : Type 0 where
+  pub read : LeftByReader
+  pub rate : ℕ
+
+abbrev pub leftRated : (answer : RatedRead) (flows delays : List ℕ) → LeftByRatedReader
+leftRated answer flows delays = record { read = record { number = answer .number; count = answer .count; flows = flows; delays = delays }; rate = answer .rate }
+
+unfoldable pub ratedReply : (version head : ℕ) (file flows delays : List ℕ) → LeftByRatedReader
+ratedReply version head file flows delays =
+    record { read = readReply version head file flows delays; rate = accepted (readNumber version head file (length flows) (length delays)) 0 (rateIn file head) }
