@@ -15,7 +15,7 @@ import subprocess
 import sys
 
 sys.dont_write_bytecode = True
-from replay import alone, files, settled, sums, supervisor
+from replay import alone, editions, files, settled, sums, supervisor
 from replay.words import LINES, SECTIONS
 
 HERE = pathlib.Path(__file__).resolve().parent
@@ -26,6 +26,7 @@ CRATE = HERE.parent / "crates" / "supervise"
 def main():
     alone.calls()
     files.reading()
+    editions.editions()
     sums.alone()
     supervisor.calls()
     files.writing()

@@ -3,6 +3,7 @@
 //! Rust. So does a refused one where the Rust has an answer of its own for it (a
 //! missing input, a manual delay out of range, no proposal): it must refuse it too.
 use crate::driver::Driver;
+use crate::editions;
 use crate::files;
 use crate::inputs::probe::{self, HoldFields, Second};
 use std::collections::BTreeSet;
@@ -622,6 +623,33 @@ impl Checked {
                 let entries = files::entries(&file).ok_or(Refused(19))?;
                 ask(5, !short)?;
                 ask(20, files::rise(&entries))
+            }
+            "dread2" => {
+                let file = files::bytes_of(w.word()?).ok_or(BadLine)?;
+                w.end()?;
+                let (rate, entries) = editions::second(&file).ok_or(Refused(19))?;
+                ask(25, editions::RATES.contains(&rate))?;
+                ask(5, !short)?;
+                ask(20, files::rise(&entries))
+            }
+            "dconv12" => {
+                let wanted = w.u32()?;
+                let file = files::bytes_of(w.word()?).ok_or(BadLine)?;
+                w.end()?;
+                let entries = files::entries(&file).ok_or(Refused(19))?;
+                ask(25, editions::RATES.contains(&wanted))?;
+                ask(5, !short)?;
+                ask(20, files::rise(&entries))?;
+                ask(26, editions::across(48_000, wanted, &entries).is_some())
+            }
+            "dconv21" => {
+                let file = files::bytes_of(w.word()?).ok_or(BadLine)?;
+                w.end()?;
+                let (rate, entries) = editions::second(&file).ok_or(Refused(19))?;
+                ask(25, editions::RATES.contains(&rate))?;
+                ask(5, !short)?;
+                ask(20, files::rise(&entries))?;
+                ask(26, editions::across(rate, 48_000, &entries).is_some())
             }
             "co_set" => {
                 maybe(w.word()?, decimal)?;

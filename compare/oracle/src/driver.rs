@@ -2,6 +2,7 @@
 use crate::config::Config;
 use crate::coalesce::Coalesce;
 use crate::engine::Engine;
+use crate::editions;
 use crate::files;
 use crate::inputs::probe::{self, bits, opt, Hold, HoldFields, Policy, Window};
 use crate::inputs::{AutoTag, ExtraDelay, InputConfig, Inputs, Route};
@@ -440,7 +441,25 @@ impl Driver {
             }
             "dread1" => {
                 let file = files::bytes_of(w.next().unwrap()).expect("hex");
-                files::show_entries(&files::entries(&file).expect("a delay file"), out);
+                files::show_entries(None, &files::entries(&file).expect("a delay file"), out);
+            }
+            "dread2" => {
+                let file = files::bytes_of(w.next().unwrap()).expect("hex");
+                let (rate, entries) = editions::second(&file).expect("a delay file");
+                files::show_entries(Some(rate), &entries, out);
+            }
+            "dconv12" => {
+                let wanted = num(w);
+                let file = files::bytes_of(w.next().unwrap()).expect("hex");
+                let entries = files::entries(&file).expect("a delay file");
+                let over = editions::across(48_000, wanted, &entries).expect("counterparts");
+                files::show_file(&editions::second_of(wanted, over), out);
+            }
+            "dconv21" => {
+                let file = files::bytes_of(w.next().unwrap()).expect("hex");
+                let (rate, entries) = editions::second(&file).expect("a delay file");
+                let back = editions::across(rate, 48_000, &entries).expect("counterparts");
+                files::show_file(&files::file_of(back), out);
             }
             "co_set" => self.coalesce.due = maybe(w.next().unwrap()).map(Instant),
             "co_changed" => {

@@ -72,15 +72,19 @@ pub fn word_of(file: &[u8]) -> String {
     }
 }
 
-/// The answer of `dread1`: the count and each flow with its delay.
-pub fn show_entries(entries: &[Entry], out: &mut String) {
+/// The answer of `dread1`: the count and each flow with its delay; of `dread2` the rate
+/// besides, after the count.
+pub fn show_entries(rate: Option<u32>, entries: &[Entry], out: &mut String) {
     write!(out, " {}", entries.len()).unwrap();
+    if let Some(rate) = rate {
+        write!(out, " {rate}").unwrap();
+    }
     for (flow, delay) in entries {
         write!(out, " {:x}={delay}", u128::from_be_bytes(*flow)).unwrap();
     }
 }
 
-/// The answer of `dwrite1`: the length and the bytes.
+/// The answer of `dwrite1`, and of the converters: the length and the bytes.
 pub fn show_file(file: &[u8], out: &mut String) {
     write!(out, " {} {}", file.len(), word_of(file)).unwrap();
 }

@@ -13,6 +13,7 @@ mod compare;
 mod config;
 mod driver;
 mod engine;
+mod editions;
 mod files;
 #[path = "gen/inputs.rs"]
 mod inputs;

@@ -1,6 +1,7 @@
 -- The claims of the delay file. Assumes nothing.
 use Prim.Native.Nat.{ℕ, _<_}
-use mathlib.Core.Path.{_≡_, sym, ap, ap₂, subst, _∙_}
+use mathlib.Core.Bool.{true}
+use mathlib.Core.Path.{_≡_, refl, sym, ap, ap₂, subst, _∙_}
 use mathlib.Core.List.{List}
 use native.Mathlib.Omega.{arith}
 use lib.ListN.{length}
@@ -13,7 +14,8 @@ use Rattle.rules_record.specs.Reply.{Reply}
 use Rattle.rules_calls.specs.declared.Settings.{Settings}
 use Rattle.rules_calls.specs.NewChecks.{newNumber}
 use Rattle.rules_calls.specs.NewReply.{newReply}
-use Rattle.rules_files.specs.Files.{countIn, flowIn, delayIn}
+use Rattle.rules_files.specs.Files.{countIn, rateIn, flowIn, delayIn}
+use Rattle.rules_files.specs.Rates.{rateAllowed}
 use Rattle.rules_files.specs.ReadFile.{LeftByReader, readNumber}
 use Rattle.rules_files.proofs.ReadCases.{Readable, readable, read-reply-number, read-reply-accepted}
 use Rattle.rules_files.proofs.WriteCases.{write-reply-number}
@@ -26,6 +28,11 @@ use Rattle.file_claims.proofs.WrittenRead.{table-read, table-remembered
 one-small : 1 < weight 2
 unfolding weight
 one-small = omega arith
+
+-- a head of 7 bytes has the rate of version 1
+allowed-1 : (file : List ℕ) → rateAllowed (rateIn file 7) ≡ true
+unfolding rateIn rateAllowed
+allowed-1 file = refl
 
 -- ---- an accepted file given to `new`
 module _ (file flows delays : List ℕ) (taken : readDelays file flows delays .number ≡ 0) where
@@ -65,13 +72,13 @@ pub read-again : ReadAgain
 read-again s l out t taken flows delays flows-long delays-long =
     let z = sym (write-reply-number 1 7 0 s l out) ∙ taken in
     ap (λ (file : List ℕ). readDelays file flows delays) (file-left 1 7 0 s l out z)
-    ∙ table-read s l (whole-written 1 7 0 s l out z) 1 7 0 (omega arith) one-small t flows delays flows-long delays-long
+    ∙ table-read s l (whole-written 1 7 0 s l out z) 1 7 0 (omega arith) one-small (allowed-1 _) t flows delays flows-long delays-long
 
 pub gives-the-remembered : GivesTheRemembered
 gives-the-remembered s l out t taken flows delays flows-long delays-long =
     let z = sym (write-reply-number 1 7 0 s l out) ∙ taken in
     subst (λ (file : List ℕ). ExactlyRemembered s (readDelays file flows delays)) (sym (file-left 1 7 0 s l out z))
-    (table-remembered s l (whole-written 1 7 0 s l out z) 1 7 0 (omega arith) one-small t flows delays flows-long delays-long)
+    (table-remembered s l (whole-written 1 7 0 s l out z) 1 7 0 (omega arith) one-small (allowed-1 _) t flows delays flows-long delays-long)
 
 -- ---- which files are accepted
 pub accepts-exactly : AcceptsExactly
@@ -91,7 +98,7 @@ accepts-exactly file flows delays = (λ small taken. entries small (is-read file
     of-entries : OfEntries file → readNumber 1 7 file 1024 64 ≡ 0
     of-entries e =
         subst (λ (f : List ℕ). readNumber 1 7 f 1024 64 ≡ 0) (sym (e .same))
-        (file-accepted 1 7 0 (e .count) (e .flows) (e .delays) (omega arith) (e .few) (e .widths) one-small (e .rising))
+        (file-accepted 1 7 0 (e .count) (e .flows) (e .delays) (omega arith) (e .few) (e .widths) one-small (e .rising) (allowed-1 _))
 
 pub file-claims : FileClaims
 file-claims = record { round-trip = round-trip; never-nine = never-nine; read-again = read-again; gives-the-remembered = gives-the-remembered; accepts-exactly = accepts-exactly }

@@ -23,7 +23,8 @@ use Rattle.rules_record.specs.Facts.{Whole}
 use Rattle.rules_record.proofs.Checked.{settings-told}
 use Rattle.rules_record.proofs.FlowTable.{distinct-places}
 use Rattle.rules_calls.specs.NewLoading.{loadedFlow, Remembers}
-use Rattle.rules_files.specs.Files.{rises, flowByte, fileOf, Widths, countIn, flowIn, delayIn}
+use Rattle.rules_files.specs.Files.{rises, flowByte, fileOf, Widths, countIn, rateIn, flowIn, delayIn}
+use Rattle.rules_files.specs.Rates.{rateAllowed}
 use Rattle.rules_files.specs.ReadFile.{readNumber, flowsRead, delaysRead, LeftByReader, readReply}
 use Rattle.rules_files.specs.Table.{hasDelay, delayOf, flowOf, held, heldCount, rank, rankedBelow, sortedFlow, sortedDelay, TableWidths}
 use Rattle.rules_files.specs.WriteFile.{tableFile, writeNumber, writeReply}
@@ -55,7 +56,7 @@ module _ (s : Inputs) (l : Lists) (whole : Whole s l) where
   rising : rises (sortedFlow table) (heldCount table) ≡ true
   rising = sorted-rises table places-apart
 
-  module _ (version head rate : ℕ) (long-head : 7 ≤ head) (small : version < weight 2) (t : TableWidths table) where
+  module _ (version head rate : ℕ) (long-head : 7 ≤ head) (small : version < weight 2) (allowed : rateAllowed (rateIn (tableFile version head rate table) head) ≡ true) (t : TableWidths table) where
     widths : Widths (heldCount table) (sortedFlow table) (sortedDelay table)
     widths = sorted-widths table t
 
@@ -64,7 +65,7 @@ module _ (s : Inputs) (l : Lists) (whole : Whole s l) where
 
     table-accepted : readNumber version head file 1024 64 ≡ 0
     unfolding tableFile
-    table-accepted = file-accepted version head rate (heldCount table) (sortedFlow table) (sortedDelay table) long-head (held-most table) widths small rising
+    table-accepted = file-accepted version head rate (heldCount table) (sortedFlow table) (sortedDelay table) long-head (held-most table) widths small rising allowed
 
     table-count : countIn file ≡ heldCount table
     unfolding tableFile

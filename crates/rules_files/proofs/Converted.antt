@@ -52,7 +52,7 @@ module _
   few : countIn file ≤ 64
   few = c .headed .few
 
-  has : (k : ℕ) → k < count → hasCounterpart rate wanted (delayIn file head k) ≡ true
+  pub has : (k : ℕ) → k < count → hasCounterpart rate wanted (delayIn file head k) ≡ true
   unfolding allConvert
   has k l = all-at _ count (c .converts) k l
 

@@ -39,7 +39,7 @@ module _ (rate wanted delay : ℕ) where
 
 -- ---- over and back
 module _ (rate wanted delay : ℕ) (h : hasCounterpart rate wanted delay ≡ true) where
-  even : wanted < rate → delay % 2 ≡ 0
+  pub even : wanted < rate → delay % 2 ≡ 0
   even l = eqb-true _ _ (sym (halves rate wanted delay l) ∙ h)
 
   fits : rate < wanted → delay * 2 < 4_294_967_296

@@ -83,10 +83,14 @@ pub record Readable (version head : ℕ) (file : List ℕ) (bytes delays : ℕ) 
   pub rising : rises (flowIn file head) (countIn file) ≡ true
 
 module _ (version head : ℕ) (file : List ℕ) (bytes delays : ℕ) where
+  -- a file that is not headed right is refused by 19
+  pub unread : (Headed version head file → ⊥) → 19 ≡ readNumber version head file bytes delays
+  unfolding readNumber
+  unread f = file-first version head file true (listsLong bytes delays) 0 (sym (unheaded version head file f))
+
   -- a file longer than any edition can be, a head of at most 11 bytes and 64 entries, is refused by 19 whatever its bytes
   pub too-long : head ≤ 11 → 1291 < length file → 19 ≡ readNumber version head file bytes delays
-  unfolding readNumber
-  too-long low far = file-first version head file true (listsLong bytes delays) 0 (sym (unheaded version head file (λ h. omega (arith, h .few, h .long))))
+  too-long low far = unread (λ h. omega (arith, h .few, h .long))
 
   -- number 0 says all of it, and is said of all of it
   pub readable : readNumber version head file bytes delays ≡ 0 → Readable version head file bytes delays

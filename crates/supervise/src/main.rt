@@ -94,12 +94,26 @@ pub struct Brought {
     pub place: usize,
 }
 
+// Where the bytes of a file begin.
+enum Begins {
+    At(usize),
+    Nowhere,
+}
+
+fn file_of(call: Lone) -> Begins {
+    match call {
+        Lone::ReadDelays(at) | Lone::ReadDelays2(at) | Lone::Convert2To1(at) => Begins::At(at),
+        Lone::Convert1To2(asked) => Begins::At(asked.file),
+        _ => Begins::Nowhere,
+    }
+}
+
 // The bytes of a file go to the output buffer, whose answers are written out first.
 fn bring(request: Request, s: &[u8], out: &mut Out, place: usize) -> Brought {
     let Request::Alone(call) = request else {
         return Brought { length: 0, place };
     };
-    let Lone::ReadDelays(at) = call else {
+    let Begins::At(at) = file_of(call) else {
         return Brought { length: 0, place };
     };
     text_lines::write(out, place);
@@ -126,9 +140,12 @@ fn lone(
     heard: &mut Heard,
 ) -> text_alone::Answered {
     match request {
-        Lone::ReadDelays(_) => text_alone::Answered {
+        Lone::ReadDelays(_)
+        | Lone::ReadDelays2(_)
+        | Lone::Convert2To1(_)
+        | Lone::Convert1To2(_) => text_alone::Answered {
             alone: kept,
-            answer: text_alone::read_delays(file, short, bytes, heard),
+            answer: text_alone::on_file(request, file, short, bytes, heard),
         },
         Lone::WindowSet(asked) => {
             let mut window = kept.window;
@@ -617,7 +634,7 @@ fn main() {
     let mut times = [0u64; 10_200];
     let mut peaks = [0u32; 10_200];
     let mut commands = [0u32; 192];
-    let mut bytes = [0u8; 1_287];
+    let mut bytes = [0u8; 1_291];
     let mut heard = [0u32; 524_288];
     run(
         &mut input,

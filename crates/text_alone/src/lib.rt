@@ -199,12 +199,51 @@ fn listless(request: Lone, alone: Alone) -> Answered {
 }
 
 // A delay file that is read, on lists of the lengths that the reader asks for.
-pub fn read_delays(file: &[u8], short: bool, flows: &mut [u8], delays: &mut [u32]) -> Answer {
+fn read_delays(file: &[u8], short: bool, flows: &mut [u8], delays: &mut [u32]) -> Answer {
     let z = file_sizes(short);
     let a = least_usize(z.flows, flows.len());
     let b = least_usize(z.delays, delays.len());
     let r = delay_files::read_delays(file, &mut flows[..a], &mut delays[..b]);
     unless(r.number, Answer::Delays(r.count))
+}
+
+fn read_delays_2(file: &[u8], short: bool, flows: &mut [u8], delays: &mut [u32]) -> Answer {
+    let z = file_sizes(short);
+    let a = least_usize(z.flows, flows.len());
+    let b = least_usize(z.delays, delays.len());
+    let r = delay_files::read_delays_2(file, &mut flows[..a], &mut delays[..b]);
+    unless(r.number, Answer::Rated(r.count, r.rate))
+}
+
+// A delay file that is converted, on a list of the length that the converter asks for.
+fn convert_1_to_2(file: &[u8], wanted: u32, short: bool, out: &mut [u8]) -> Answer {
+    let z = file_sizes(short);
+    let a = least_usize(z.file_2, out.len());
+    let r = delay_files::convert_1_to_2(file, wanted, &mut out[..a]);
+    unless(r.number, Answer::File(r.length))
+}
+
+fn convert_2_to_1(file: &[u8], short: bool, out: &mut [u8]) -> Answer {
+    let z = file_sizes(short);
+    let a = least_usize(z.file, out.len());
+    let r = delay_files::convert_2_to_1(file, &mut out[..a]);
+    unless(r.number, Answer::File(r.length))
+}
+
+// The answer of a call that brings a delay file.
+pub fn on_file(
+    request: Lone,
+    file: &[u8],
+    short: bool,
+    bytes: &mut [u8],
+    delays: &mut [u32],
+) -> Answer {
+    match request {
+        Lone::ReadDelays2(_) => read_delays_2(file, short, bytes, delays),
+        Lone::Convert1To2(asked) => convert_1_to_2(file, asked.wanted, short, bytes),
+        Lone::Convert2To1(_) => convert_2_to_1(file, short, bytes),
+        _ => read_delays(file, short, bytes, delays),
+    }
 }
 
 // The answer of a call, but for what is crafted and for a file.

@@ -25,6 +25,8 @@ pub enum Answer {
     Status(InputStatus),
     // How many flows a delay file has, and each of them with its delay.
     Delays(usize),
+    // The same, and the file's rate.
+    Rated(usize, u32),
     // How long the delay file is that was written, and its bytes.
     File(usize),
     // The window alone, whole.

@@ -32,9 +32,9 @@ lengthsFor n buckets short =
       words = cutTo (countable (n * 12)) short;
     }
 
--- document 02: "The reader fills 1,024 flow bytes and 64 delays", "The writer's list is 1,287 bytes"
+-- document 02: "The reader fills 1,024 flow bytes and 64 delays", "The writer's list is 1,287 bytes"; of version 2: "Its list is 1,291 bytes"
 unfoldable pub filesLent : (short : Bool) → FileSizes
-filesLent short = record { file = cutTo 1287 short; flows = cutTo 1024 short; delays = cutTo 64 short }
+filesLent short = record { file = cutTo 1287 short; «file_2» = cutTo 1291 short; flows = cutTo 1024 short; delays = cutTo 64 short }
 
 -- `count` places from `first` on, as far as the list has them
 unfoldable pub placesFrom : (first count most : ℕ) → Span

@@ -40,7 +40,7 @@ pub type Words = [u32; 192];
 pub type Heard = [u32; 524_288];
 
 // The flows of a delay file that is read, or a file that is written.
-pub type Bytes = [u8; 1_287];
+pub type Bytes = [u8; 1_291];
 
 // The lengths that a call asks for.
 pub struct Sizes {
@@ -51,9 +51,10 @@ pub struct Sizes {
     pub words: usize,
 }
 
-// The lengths of a delay file that is written, and of the flows and the delays that one is read into.
+// The lengths of a delay file that is written, of version 1 and of version 2, and of the flows and the delays that one is read into.
 pub struct FileSizes {
     pub file: usize,
+    pub file_2: usize,
     pub flows: usize,
     pub delays: usize,
 }
@@ -122,12 +123,13 @@ pub fn sizes_for(call: Call, inputs: Inputs, short: bool) -> Sizes
     lengths(settings.count, n, short)
 }
 
-// The lengths of the lists that the reader and the writer of a delay file ask for.
+// The lengths of the lists that the readers, the writer and the converters of a delay file ask for.
 pub fn file_sizes(short: bool) -> FileSizes
     ensures { λ r. ⌜ r ≡ filesLent short ⌝ }
 {
     FileSizes {
         file: cut(1_287, short),
+        file_2: cut(1_291, short),
         flows: cut(1_024, short),
         delays: cut(64, short),
     }

@@ -7,7 +7,7 @@ use lib.Ieee.{binary64, ofBits}
 use Rattle.base.specs.Choice.{pick}
 use Rattle.text_words.specs.Words.{lost, below}
 use Rattle.text_files.specs.Files.{fileAt}
-use Rattle.text_requests.specs.declared.Lone.the-variants.{Ms, Samples, Need, IndexAt, TimeOf, WindowNew, WindowSet, WindowSum, Push, Clear, Span, Quantile, HoldNew, HoldSet, Next, CoalesceSet, Changed, Pending, Take, TakeDue, QuerySet, QueryUp, QueryFailed, ReadDelays}
+use Rattle.text_requests.specs.declared.Lone.the-variants.{Ms, Samples, Need, IndexAt, TimeOf, WindowNew, WindowSet, WindowSum, Push, Clear, Span, Quantile, HoldNew, HoldSet, Next, CoalesceSet, Changed, Pending, Take, TakeDue, QuerySet, QueryUp, QueryFailed, ReadDelays, ReadDelays2, Convert1To2, Convert2To1}
 use Rattle.text_requests.specs.Forms.{space, u64At, hexAt, u32At, u8At, bitAt, maybeU64At, maybeU32At, pairAt, wordEnd}
 use Rattle.text_requests.specs.Lists.{peaksEnd, rowsAt}
 use Rattle.text_requests.specs.Parts.{lagOf, dueOf, downOf, momentOf, timerOf, seedOf}
@@ -243,6 +243,28 @@ dread1Line s at =
     let file = fileAt s name space in
     record { lone = ReadDelays (file .at); next = file .next }
 
+-- `dread2`: the same
+unfoldable pub dread2Line : (s : List ℕ) (at : ℕ) → LoneLine
+dread2Line s at =
+    let name = wordEnd s at "dread2" in
+    let file = fileAt s name space in
+    record { lone = ReadDelays2 (file .at); next = file .next }
+
+-- `dconv12`: the wanted rate u32, the bytes of a delay file
+unfoldable pub dconv12Line : (s : List ℕ) (at : ℕ) → LoneLine
+dconv12Line s at =
+    let name = wordEnd s at "dconv12" in
+    let wanted = u32At s name space in
+    let file = fileAt s (wanted .next) space in
+    record { lone = Convert1To2 (record { wanted = wanted .value; file = file .at }); next = file .next }
+
+-- `dconv21`: the bytes of a delay file
+unfoldable pub dconv21Line : (s : List ℕ) (at : ℕ) → LoneLine
+dconv21Line s at =
+    let name = wordEnd s at "dconv21" in
+    let file = fileAt s name space in
+    record { lone = Convert2To1 (file .at); next = file .next }
+
 -- ---- all lines: the first that is there
 unfoldable pub orElse : (first second : LoneLine) → LoneLine
 orElse first second = pick (eqb (first .next) lost) second first
@@ -282,9 +304,15 @@ clockLines s at = coSetLine s at
     or qUpLine s at
     or qFailedLine s at
 
+unfoldable pub fileLines : (s : List ℕ) (at : ℕ) → LoneLine
+fileLines s at = dread1Line s at
+    or dread2Line s at
+    or dconv12Line s at
+    or dconv21Line s at
+
 unfoldable pub loneLine : (s : List ℕ) (at buckets : ℕ) → LoneLine
 loneLine s at buckets = numberLines s at
     or windowLines s at buckets
     or holdLines s at
     or clockLines s at
-    or dread1Line s at
+    or fileLines s at

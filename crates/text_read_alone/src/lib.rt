@@ -1,11 +1,12 @@
 // The lines of the calls that need no supervisor (compare/README.md): each is its name and its words, read from place `at`. Where the name is
 // another, or a word is missing or of another form, the place after the words is LOST.
 ghost use mathlib.Core.Path.{_≡_};
-ghost use Rattle.text_read_alone.specs.Alone.{orElse, holdAt, msLine, samplesLine, needLine, indexAtLine, timeOfLine, wnewLine, wsetLine, sumAt, wsumLine, wpushLine, wclearLine, wspanLine, wquantLine, hnewLine, hsetLine, nextLine, coSetLine, coChangedLine, coPendingLine, coTakeLine, coTakeDueLine, qSetLine, qUpLine, qFailedLine, dread1Line, numberLines, windowLines, holdLines, clockLines, loneLine};
+ghost use Rattle.text_read_alone.specs.Alone.{orElse, holdAt, msLine, samplesLine, needLine, indexAtLine, timeOfLine, wnewLine, wsetLine, sumAt, wsumLine, wpushLine, wclearLine, wspanLine, wquantLine, hnewLine, hsetLine, nextLine, coSetLine, coChangedLine, coPendingLine, coTakeLine, coTakeDueLine, qSetLine, qUpLine, qFailedLine, dread1Line, dread2Line, dconv12Line, dconv21Line, numberLines, windowLines, holdLines, clockLines, fileLines, loneLine};
 use delay_hold::DelayHold;
 use text_files::file_word;
 use text_print::bits::double;
 use text_requests::ChangedAsked;
+use text_requests::ConvertAsked;
 use text_requests::HoldAsked;
 use text_requests::Lone;
 use text_requests::NeedAsked;
@@ -440,6 +441,43 @@ fn dread1(s: &[u8], at: usize) -> LoneLine
     }
 }
 
+fn dread2(s: &[u8], at: usize) -> LoneLine
+    ensures { λ r. ⌜ r ≡ dread2Line (now (s .entry)) at ⌝ }
+{
+    let name = word_end(s, at, b"dread2");
+    let file = file_word(s, name, b' ');
+    LoneLine {
+        lone: Lone::ReadDelays2(file.at),
+        next: file.next,
+    }
+}
+
+fn dconv12(s: &[u8], at: usize) -> LoneLine
+    ensures { λ r. ⌜ r ≡ dconv12Line (now (s .entry)) at ⌝ }
+{
+    let name = word_end(s, at, b"dconv12");
+    let wanted = u32_word(s, name, b' ');
+    let file = file_word(s, wanted.next, b' ');
+    LoneLine {
+        lone: Lone::Convert1To2(ConvertAsked {
+            wanted: wanted.value,
+            file: file.at,
+        }),
+        next: file.next,
+    }
+}
+
+fn dconv21(s: &[u8], at: usize) -> LoneLine
+    ensures { λ r. ⌜ r ≡ dconv21Line (now (s .entry)) at ⌝ }
+{
+    let name = word_end(s, at, b"dconv21");
+    let file = file_word(s, name, b' ');
+    LoneLine {
+        lone: Lone::Convert2To1(file.at),
+        next: file.next,
+    }
+}
+
 // ---- the lines in groups, and all
 
 fn number_lines(s: &[u8], at: usize) -> LoneLine
@@ -485,6 +523,15 @@ fn clock_lines(s: &[u8], at: usize) -> LoneLine
     either(g, q_failed(s, at))
 }
 
+fn file_lines(s: &[u8], at: usize) -> LoneLine
+    ensures { λ r. ⌜ r ≡ fileLines (now (s .entry)) at ⌝ }
+{
+    let first = dread1(s, at);
+    let b = either(first, dread2(s, at));
+    let c = either(b, dconv12(s, at));
+    either(c, dconv21(s, at))
+}
+
 // The line that stands at this place, of the calls that need no supervisor.
 pub fn lone_at(s: &[u8], at: usize, buckets: usize) -> LoneLine
     ensures { λ r. ⌜ r ≡ loneLine (now (s .entry)) at buckets ⌝ }
@@ -493,5 +540,5 @@ pub fn lone_at(s: &[u8], at: usize, buckets: usize) -> LoneLine
     let b = either(a, window_lines(s, at, buckets));
     let c = either(b, hold_lines(s, at));
     let d = either(c, clock_lines(s, at));
-    either(d, dread1(s, at))
+    either(d, file_lines(s, at))
 }

@@ -82,6 +82,12 @@ pub struct HoldAsked {
     pub hold: DelayHold,
 }
 
+// A delay file to convert: the rate that is wanted, and the place of its bytes.
+pub struct ConvertAsked {
+    pub wanted: u32,
+    pub file: usize,
+}
+
 // A call that needs no supervisor.
 pub enum Lone {
     Ms(u32),
@@ -107,8 +113,11 @@ pub enum Lone {
     QuerySet(QueryDown),
     QueryUp(u64),
     QueryFailed(u64),
-    // A delay file, by the place of its bytes.
+    // A delay file, by the place of its bytes: read as version 1, as version 2, converted from 2 to 1.
     ReadDelays(usize),
+    ReadDelays2(usize),
+    Convert2To1(usize),
+    Convert1To2(ConvertAsked),
 }
 
 // ---- what the calls on a supervisor ask

@@ -37,7 +37,7 @@ fn first_of(answer: Answer) -> Word {
     match answer {
         Answer::Refused(number) => Word::Number(number as u64),
         Answer::Number(value) | Answer::Failed(value, _) => Word::Number(value),
-        Answer::Delays(n) | Answer::File(n) => Word::Number(n as u64),
+        Answer::Delays(n) | Answer::Rated(n, _) | Answer::File(n) => Word::Number(n as u64),
         Answer::Maybe(lag) | Answer::Next(lag) => words::lag(lag),
         Answer::Double(x) => words::double(x),
         Answer::Bit(bit) | Answer::Taken(bit, _) | Answer::Ticked(bit) => Word::Number(bit as u64),
@@ -51,6 +51,7 @@ fn second_of(answer: Answer) -> Word {
     match answer {
         Answer::Taken(_, due) => words::due(due),
         Answer::Failed(_, down) => words::down(down),
+        Answer::Rated(_, rate) => Word::Number(rate as u64),
         _ => Word::End,
     }
 }
@@ -129,7 +130,7 @@ pub fn show(
     let a = show_words(out, place, answer);
     let b = match answer {
         Answer::Status(status) => put_words(out, a, status::words_of(status)),
-        Answer::Delays(n) => files::show_delays(out, a, n, bytes, heard),
+        Answer::Delays(n) | Answer::Rated(n, _) => files::show_delays(out, a, n, bytes, heard),
         Answer::File(n) => files::show_file(out, a, n, bytes),
         Answer::Window => windows::show(
             out,

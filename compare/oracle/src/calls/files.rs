@@ -1,6 +1,7 @@
-//! Delay files: random good ones, damaged copies of them and of what a session writes,
-//! words that are no bytes.
+//! Delay files of both editions: random good ones, damaged copies of them and of what a
+//! session writes, words that are no bytes; files converted, and converted back.
 use super::Calls;
+use crate::editions::{second, second_of};
 use crate::files::{bytes_of, entries, file_of, word_of, Entry};
 use std::collections::BTreeMap;
 
@@ -12,7 +13,11 @@ impl Calls {
     pub(super) fn files(&mut self) {
         for _ in 0..self.r.pick(&[5, 20, 60]) {
             let file = self.good_file();
-            self.read(file);
+            match self.r.below(3) {
+                0 => self.read(file),
+                1 => self.read_second(file),
+                _ => self.convert(file),
+            }
         }
     }
 
@@ -56,10 +61,94 @@ impl Calls {
         if self.r.chance(75) {
             self.damage(&mut file);
         }
-        let word = word_of(&file);
+        self.ask("dread1", &file);
+    }
+
+    /// A call with this file, now and then with short lists, or with a word that is no
+    /// bytes.
+    fn ask(&mut self, name: &str, file: &[u8]) -> bool {
+        let word = word_of(file);
         let word = if self.r.chance(6) { self.no_bytes(word) } else { word };
         let short = if self.r.chance(6) { "!5 " } else { "" };
-        self.call(format!("{short}dread1 {word}"));
+        self.call(format!("{short}{name} {word}"))
+    }
+
+    /// A rate, mostly one of the two.
+    fn rate(&mut self) -> u32 {
+        let any = self.r.next() as u32;
+        self.r.pick(&[48_000, 48_000, 48_000, 96_000, 96_000, 96_000, 0, 44_100, u32::MAX, 48_000 << 8, any])
+    }
+
+    /// The same with the second edition, and a file of the one given to the reader of the
+    /// other.
+    fn read_second(&mut self, file: Vec<u8>) {
+        let mut file = self.as_second(file);
+        match self.r.below(8) {
+            0 => file.truncate(self.r.below(12) as usize),
+            1 if file.len() > 10 => file[7 + self.r.below(4) as usize] ^= 1 << self.r.below(8),
+            2 => file.extend(&[0; 4][..self.r.pick(&[1, 4])]),
+            _ => (),
+        }
+        let name = if self.r.chance(6) { "dread1" } else { "dread2" };
+        self.ask(name, &file);
+    }
+
+    /// A file of version 1, damaged or not, with the second edition's version and a rate.
+    fn as_second(&mut self, mut file: Vec<u8>) -> Vec<u8> {
+        if !file.is_empty() && self.r.chance(50) {
+            self.damage(&mut file);
+        }
+        let rate = self.rate();
+        if let Some(version) = file.get_mut(3) {
+            *version = version.wrapping_add(1);
+        }
+        let at = file.len().min(HEAD);
+        file.splice(at..at, rate.to_le_bytes());
+        file
+    }
+
+    /// A file converted; what comes of it read, and converted back.
+    fn convert(&mut self, file: Vec<u8>) {
+        // Half of the files have delays that can be doubled and halved, but for one at most.
+        let mut table = entries(&file).expect("a delay file");
+        if self.r.chance(50) {
+            table.iter_mut().for_each(|e| e.1 = e.1 >> 1 & !1);
+            let odd = self.r.pick(&[1, 3, 0x7fff_ffff, 0x8000_0000, 0x8000_0001, 0xffff_fffe, u32::MAX]);
+            if let (true, Some(one)) = (self.r.chance(30), table.last_mut()) {
+                one.1 = odd;
+            }
+        }
+        let (wanted, rate) = (self.rate(), self.rate());
+        let mut first = file_of(table.clone());
+        let mut other = second_of(rate, table);
+        if self.r.chance(20) {
+            self.damage(&mut first);
+            other = self.as_second(first.clone());
+        }
+        if self.r.chance(5) {
+            std::mem::swap(&mut first, &mut other);
+        }
+        if self.ask(&format!("dconv12 {wanted}"), &first) {
+            let over = self.answered();
+            self.ask("dread2", &over);
+            if self.call(format!("dconv21 {}", word_of(&over))) {
+                assert_eq!(self.answered(), first, "over and back is another file");
+            }
+        }
+        if self.ask("dconv21", &other) {
+            let back = self.answered();
+            self.ask("dread1", &back);
+            let (rate, _) = second(&other).expect("a delay file");
+            if self.call(format!("dconv12 {rate} {}", word_of(&back))) {
+                assert_eq!(self.answered(), other, "back and over is another file");
+            }
+        }
+    }
+
+    /// The file that the last line answered.
+    fn answered(&self) -> Vec<u8> {
+        let answer = &self.lines.last().expect("a line").1;
+        bytes_of(answer.rsplit(' ').next().expect("a word")).expect("hex")
     }
 
     fn good_file(&mut self) -> Vec<u8> {

@@ -7,7 +7,7 @@ use Rattle.text_read_alone.proofs.lone_at.Tie as tie
 
 returns : tie.Need-returns
 unfolding loneLine
-returns c = rw (c .either4 .ensures, c .before .dread1 .ensures, c .before .before .either3 .ensures, c .before .before .before .clock-lines .ensures, c .before .before .before .before .either2 .ensures, c .before .before .before .before .before .hold-lines .ensures, c .before .before .before .before .before .before .either .ensures, c .before .before .before .before .before .before .before .window-lines .ensures, c .before .before .before .before .before .before .before .before .number-lines .ensures)
+returns c = rw (c .either4 .ensures, c .before .file-lines .ensures, c .before .before .either3 .ensures, c .before .before .before .clock-lines .ensures, c .before .before .before .before .either2 .ensures, c .before .before .before .before .before .hold-lines .ensures, c .before .before .before .before .before .before .either .ensures, c .before .before .before .before .before .before .before .window-lines .ensures, c .before .before .before .before .before .before .before .before .number-lines .ensures)
 
 pub lone-at-spec : {M : Type 1} → statement M
 lone-at-spec =
@@ -20,6 +20,6 @@ lone-at-spec =
     (λ c κs. search needs)  -- either-requires-2
     (λ c κs. search needs)  -- clock-lines-requires
     (λ c κs. search needs)  -- either-requires-3
-    (λ c κs. search needs)  -- dread1-requires
+    (λ c κs. search needs)  -- file-lines-requires
     (λ c κs. search needs)  -- either-requires-4
     returns)
