@@ -7,15 +7,14 @@ ghost use Rattle.base.specs.Choice.{pick};
 ghost use Rattle.base.specs.Lists.{all, padded, listed};
 ghost use Rattle.byte_order.specs.Bytes.{AllBytes};
 ghost use Rattle.rules_files.specs.Files.{entryByte, fileByte, flowIn, delayIn};
-ghost use Rattle.rules_files.specs.Rates.{counterpart, hasCounterpart};
 ghost use Rattle.rules_files.specs.WriteFile.{leftWritten};
-ghost use Rattle.rules_files.specs.ConvertFile.{convertNumber, convertReply};
+ghost use Rattle.rules_files.specs.ConvertFile.{counterpart, hasCounterpart, convertNumber, convertReply};
 use crate::reading::file_number;
 use crate::reading::flow_in;
-use crate::reading::rate_allowed;
 use crate::reading::rate_in;
 use crate::writing::entry_byte;
 use crate::writing::head_byte;
+use rates::rate_allowed;
 use rules_files::DelayWritten;
 
 // The delay at the wanted rate.

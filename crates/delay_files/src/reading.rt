@@ -7,8 +7,8 @@ ghost use Rattle.base.specs.Choice.{pick};
 ghost use Rattle.base.specs.Lists.{padded, listed};
 ghost use Rattle.byte_order.specs.Bytes.{AllBytes};
 ghost use Rattle.rules_files.specs.Files.{lowerFlow, rises, rateIn, flowIn, delayIn, headed};
-ghost use Rattle.rules_files.specs.Rates.{rateAllowed};
 ghost use Rattle.rules_files.specs.ReadFile.{fileNumber, listsLong, readNumber, flowByteIn, leftRead, readReply, leftRated, ratedReply};
+use rates::rate_allowed;
 use rules_files::DelayRead;
 use rules_files::RatedRead;
 use rules_record::Flow;
@@ -80,16 +80,6 @@ fn is_headed(version: usize, head: usize, file: &[u8]) -> bool
         return false;
     }
     file.len() == head + count * 20
-}
-
-// Is this one of the two rates?
-pub(crate) fn rate_allowed(rate: u32) -> bool
-    ensures { λ r. ⌜ r ≡ rateAllowed rate ⌝ }
-{
-    if rate == 48_000 {
-        return true;
-    }
-    rate == 96_000
 }
 
 // The rate of a file: that of version 1, whose head has none, is 48,000.

@@ -8,6 +8,7 @@ use lib.ListN.{length}
 use Rattle.base.specs.Lists.{padded}
 use Rattle.byte_order.specs.Bytes.{AllBytes}
 use Rattle.byte_order.proofs.Inverse.{weight}
+use Rattle.rates.specs.Rates.{rateAllowed}
 use Rattle.rules_record.specs.declared.ExtraDelay.{ExtraDelay}
 use Rattle.rules_record.specs.Lent.{Lists}
 use Rattle.rules_record.specs.Reply.{Reply}
@@ -15,7 +16,6 @@ use Rattle.rules_calls.specs.declared.Settings.{Settings}
 use Rattle.rules_calls.specs.NewChecks.{newNumber}
 use Rattle.rules_calls.specs.NewReply.{newReply}
 use Rattle.rules_files.specs.Files.{countIn, rateIn, flowIn, delayIn}
-use Rattle.rules_files.specs.Rates.{rateAllowed}
 use Rattle.rules_files.specs.ReadFile.{LeftByReader, readNumber}
 use Rattle.rules_files.proofs.ReadCases.{Readable, readable, read-reply-number, read-reply-accepted}
 use Rattle.rules_files.proofs.WriteCases.{write-reply-number}

@@ -12,10 +12,10 @@ use Rattle.base.proofs.Listed.{listed-length, listed-padded}
 use Rattle.base.proofs.Pads.{take-padded}
 use Rattle.byte_order.specs.Bytes.{AllBytes}
 use Rattle.byte_order.proofs.Inverse.{weight}
+use Rattle.rates.specs.Rates.{rateAllowed}
 use Rattle.rules_files.specs.Files.{fileOf, countIn, rateIn, flowIn, delayIn}
-use Rattle.rules_files.specs.Rates.{rateAllowed, counterpart}
 use Rattle.rules_files.specs.ReadFile.{LeftByReader, readNumber, delaysRead, readReply, ratedReply}
-use Rattle.rules_files.specs.ConvertFile.{convertNumber, convertedFile, convertReply}
+use Rattle.rules_files.specs.ConvertFile.{counterpart, convertNumber, convertedFile, convertReply}
 use Rattle.rules_files.proofs.ReadCases.{unread, accepts, read-reply-number, read-reply-accepted}
 use Rattle.rules_files.proofs.Counterparts.{doubled, halved, kept, even, allowed-small}
 use Rattle.rules_files.proofs.ConvertCases.{Convertible, convertible, convert-reply-number, convert-reply-accepted}

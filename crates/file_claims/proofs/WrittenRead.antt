@@ -13,6 +13,7 @@ use Rattle.base.proofs.Listed.{listed-length}
 use Rattle.base.proofs.Pads.{take-padded}
 use Rattle.base.proofs.Tests.{not-both}
 use Rattle.byte_order.proofs.Inverse.{weight}
+use Rattle.rates.specs.Rates.{rateAllowed}
 use Rattle.rules_record.specs.declared.FlowEntry.{FlowEntry}
 use Rattle.rules_record.specs.declared.Inputs.{Inputs}
 use Rattle.rules_record.specs.declared.Output.the-variants.{Bytes}
@@ -24,7 +25,6 @@ use Rattle.rules_record.proofs.Checked.{settings-told}
 use Rattle.rules_record.proofs.FlowTable.{distinct-places}
 use Rattle.rules_calls.specs.NewLoading.{loadedFlow, Remembers}
 use Rattle.rules_files.specs.Files.{rises, flowByte, fileOf, Widths, countIn, rateIn, flowIn, delayIn}
-use Rattle.rules_files.specs.Rates.{rateAllowed}
 use Rattle.rules_files.specs.ReadFile.{readNumber, flowsRead, delaysRead, LeftByReader, readReply}
 use Rattle.rules_files.specs.Table.{hasDelay, delayOf, flowOf, held, heldCount, rank, rankedBelow, sortedFlow, sortedDelay, TableWidths}
 use Rattle.rules_files.specs.WriteFile.{tableFile, writeNumber, writeReply}

@@ -9,11 +9,11 @@ use borrow.Author.Tests.{eq-eqb, eqb-true}
 use Rattle.base.specs.Choice.{ask}
 use Rattle.base.specs.Lists.{padded, listed}
 use Rattle.base.proofs.Choices.{yes-ask, no-ask, asked, refused-old, accepted-new, accepted-all}
+use Rattle.rates.specs.Rates.{rateAllowed}
 use Rattle.rules_files.specs.Files.{rises, fileByte, fileOf, countIn, rateIn, flowIn, delayIn}
-use Rattle.rules_files.specs.Rates.{rateAllowed, counterpart}
 use Rattle.rules_files.specs.ReadFile.{fileNumber}
 use Rattle.rules_files.specs.WriteFile.{LeftByWriter, leftWritten}
-use Rattle.rules_files.specs.ConvertFile.{allConvert, convertNumber, convertedFile, convertReply}
+use Rattle.rules_files.specs.ConvertFile.{counterpart, allConvert, convertNumber, convertedFile, convertReply}
 use Rattle.rules_files.proofs.Heads.{Headed}
 use Rattle.rules_files.proofs.ReadCases.{Passed, passed, past, refused-alike}
 

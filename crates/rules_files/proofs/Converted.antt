@@ -10,11 +10,11 @@ use Rattle.base.specs.Lists.{padded, listed}
 use Rattle.base.proofs.Points.{all-at, all-intro}
 use Rattle.byte_order.specs.Bytes.{AllBytes}
 use Rattle.byte_order.proofs.Inverse.{weight}
+use Rattle.rates.specs.Rates.{rateAllowed}
 use Rattle.rules_record.specs.declared.Flow.{Flow}
 use Rattle.rules_files.specs.Files.{fileOf, Widths, countIn, rateIn, flowIn, delayIn}
-use Rattle.rules_files.specs.Rates.{rateAllowed, counterpart, hasCounterpart}
 use Rattle.rules_files.specs.ReadFile.{flowsRead, delaysRead}
-use Rattle.rules_files.specs.ConvertFile.{allConvert, convertedFile, convertReply}
+use Rattle.rules_files.specs.ConvertFile.{counterpart, hasCounterpart, allConvert, convertedFile, convertReply}
 use Rattle.rules_files.proofs.Counterparts.{counterpart-back, counterpart-small, counterpart-has}
 use Rattle.rules_files.proofs.ConvertCases.{Convertible, converts-all, convert-reply-accepted}
 use Rattle.rules_files.proofs.FileAccepted.{count-back, flow-back, delay-back, delays-back, flow-bytes-back, file-readable}

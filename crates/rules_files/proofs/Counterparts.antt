@@ -1,12 +1,14 @@
 -- A delay and its counterpart at the other rate. Assumes nothing.
 use Prim.Native.Nat.{ℕ, _*_, _/_, _%_, _^_, _<_}
-use mathlib.Core.Bool.{true, false}
+use mathlib.Core.Bool.{true}
 use mathlib.Core.Path.{_≡_, sym, ap, _∙_}
 use native.Mathlib.Omega.{arith}
 use lib.Dec.{eqb, ltb}
-use borrow.Author.Tests.{eq-eqb, eqb-true, eqb-false, lt-ltb, ltb-true}
-use Rattle.base.proofs.Choices.{lt-yes, lt-no, by-le, pick-rule}
-use Rattle.rules_files.specs.Rates.{rateAllowed, counterpart, hasCounterpart}
+use borrow.Author.Tests.{eq-eqb, eqb-true, lt-ltb, ltb-true}
+use Rattle.base.proofs.Choices.{lt-yes, lt-no, by-le}
+use Rattle.rates.specs.Rates.{rateAllowed}
+use Rattle.rates.proofs.Told.{rate-told, rated-few}
+use Rattle.rules_files.specs.ConvertFile.{counterpart, hasCounterpart}
 
 by-order : {C : Type 0} (m n : ℕ) → (m < n → C) → (n < m → C) → (m ≡ n → C) → C
 by-order m n less more same = by-le n m (λ a. by-le m n (λ b. same (omega arith)) (λ b. more b)) (λ a. less a)
@@ -68,12 +70,5 @@ module _ (rate wanted delay : ℕ) (h : hasCounterpart rate wanted delay ≡ tru
         (λ e. keeps wanted rate _ (sym e))
 
 -- ---- the two rates
-pub allowed-one : (rate : ℕ) → rateAllowed rate ≡ true → {C : Type 0} → (rate ≡ 48_000 → C) → (rate ≡ 96_000 → C) → C
-unfolding rateAllowed
-allowed-one rate h {C} low high = go h
-  where
-    go : rateAllowed rate ≡ true → C
-    go = pick-rule (λ b. b ≡ true → C) (eqb rate 48_000) true (eqb rate 96_000) (λ e q. low (eqb-true _ _ e)) (λ e q. high (eqb-true _ _ q))
-
 pub allowed-small : (rate : ℕ) → rateAllowed rate ≡ true → rate < 2 ^ 32
-allowed-small rate h = allowed-one rate h (λ e. omega arith) (λ e. omega arith)
+allowed-small rate h = omega (arith, rated-few rate (rate-told rate h))

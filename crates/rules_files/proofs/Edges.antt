@@ -12,8 +12,8 @@ use Rattle.rules_record.specs.declared.FlowEntry.{FlowEntry}
 use Rattle.rules_record.specs.declared.Remembered.{Remembered}
 use Rattle.rules_record.specs.declared.Remembered.the-variants.{Never, Delay}
 use Rattle.rules_record.specs.Flows.{emptyEntry}
+use Rattle.rates.specs.Rates.{rateAllowed}
 use Rattle.rules_files.specs.Files.{lowerFlow, rises, headByte, flowByte, entryByte, fileByte, fileOf, countIn, rateIn, flowIn, delayIn, headed}
-use Rattle.rules_files.specs.Rates.{rateAllowed}
 use Rattle.rules_files.specs.ReadFile.{fileNumber, listsLong, readNumber, flowByteIn, flowsRead, delaysRead, readReply}
 use Rattle.rules_files.specs.Table.{held, heldCount, rank, rankedBelow, sortedFlow, sortedDelay}
 

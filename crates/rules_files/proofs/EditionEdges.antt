@@ -8,10 +8,10 @@ use Rattle.base.specs.Choice.{both, ask}
 use Rattle.base.specs.Lists.{padded, listed, all}
 use Rattle.byte_order.specs.Bytes.{bytesAt, littleAt, byteOf}
 use Rattle.rules_record.specs.declared.Flow.{Flow}
+use Rattle.rates.specs.Rates.{rateAllowed}
 use Rattle.rules_files.specs.Files.{lowerFlow, rises, headByte, flowByte, entryByte, fileByte, fileOf, countIn, rateIn, flowIn, delayIn, headed}
-use Rattle.rules_files.specs.Rates.{rateAllowed, counterpart, hasCounterpart}
 use Rattle.rules_files.specs.ReadFile.{fileNumber, listsLong, readNumber, flowByteIn, flowsRead, delaysRead, readReply, ratedReply}
-use Rattle.rules_files.specs.ConvertFile.{allConvert, convertNumber, convertedFile, convertReply}
+use Rattle.rules_files.specs.ConvertFile.{counterpart, hasCounterpart, allConvert, convertNumber, convertedFile, convertReply}
 
 -- the head of version 2 with so many entries, "a 32-bit rate after the count": 48,000 is 80 bb 00 00, 96,000 is 00 77 01 00
 abbrev headOf : (count : ℕ) (rate : List ℕ) → List ℕ

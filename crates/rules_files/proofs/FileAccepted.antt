@@ -13,8 +13,8 @@ use Rattle.base.proofs.Tests.{all-cong}
 use Rattle.byte_order.specs.Bytes.{byteOf}
 use Rattle.byte_order.proofs.Inverse.{weight, big-of, little-of}
 use Rattle.rules_record.specs.declared.Flow.{Flow}
+use Rattle.rates.specs.Rates.{rateAllowed}
 use Rattle.rules_files.specs.Files.{lowerFlow, rises, headByte, flowByte, entryByte, fileByte, fileOf, Widths, countIn, rateIn, flowIn, delayIn}
-use Rattle.rules_files.specs.Rates.{rateAllowed}
 use Rattle.rules_files.specs.ReadFile.{readNumber, flowByteIn, flowsRead, delaysRead}
 use Rattle.rules_files.proofs.ReadCases.{Readable, accepts}
 

@@ -10,8 +10,8 @@ use Rattle.base.specs.Lists.{padded, listed}
 use Rattle.base.proofs.All.{both-yes, both-no}
 use Rattle.base.proofs.Choices.{yes-ask, no-ask, asked, same-refusal, refused-old, accepted-new, accepted-all}
 use Rattle.base.proofs.Points.{both-true, true-both}
+use Rattle.rates.specs.Rates.{rateAllowed}
 use Rattle.rules_files.specs.Files.{rises, countIn, rateIn, flowIn, delayIn, headed}
-use Rattle.rules_files.specs.Rates.{rateAllowed}
 use Rattle.rules_files.specs.ReadFile.{fileNumber, listsLong, readNumber, flowByteIn, flowsRead, delaysRead, LeftByReader, leftRead, readReply, LeftByRatedReader, leftRated, ratedReply}
 use Rattle.rules_files.proofs.Heads.{Headed, headed-of, of-headed, unheaded}
 

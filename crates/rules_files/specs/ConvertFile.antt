@@ -1,15 +1,23 @@
 -- The converter from one edition of the delay file to the other: its checks and what it leaves (document 02, §11). Assumes nothing.
-use Prim.Native.Nat.{ℕ, _+_, _*_}
-use mathlib.Core.Bool.{Bool}
+use Prim.Native.Nat.{ℕ, _+_, _*_, _/_, _%_}
+use mathlib.Core.Bool.{Bool, true}
 use mathlib.Core.List.{List}
-use lib.Dec.{eqb}
+use lib.Dec.{eqb, ltb}
 use lib.ListN.{length}
-use Rattle.base.specs.Choice.{ask, accepted}
+use Rattle.base.specs.Choice.{pick, ask, accepted}
 use Rattle.base.specs.Lists.{all, padded}
+use Rattle.rates.specs.Rates.{rateAllowed}
 use Rattle.rules_files.specs.Files.{fileOf, countIn, rateIn, flowIn, delayIn}
-use Rattle.rules_files.specs.Rates.{rateAllowed, counterpart, hasCounterpart}
 use Rattle.rules_files.specs.ReadFile.{fileNumber}
 use Rattle.rules_files.specs.WriteFile.{LeftByWriter}
+
+-- "to 96,000 each delay is doubled", "a 96,000 delay is halved"; where the rate stays the delay does
+unfoldable pub counterpart : (rate wanted delay : ℕ) → ℕ
+counterpart rate wanted delay = pick (ltb rate wanted) (delay * 2) (pick (ltb wanted rate) (delay / 2) delay)
+
+-- "A delay that cannot be halved or doubled without loss": a double needs 32 bits at most, and a half is whole
+unfoldable pub hasCounterpart : (rate wanted delay : ℕ) → Bool
+hasCounterpart rate wanted delay = pick (ltb rate wanted) (ltb (delay * 2) 4_294_967_296) (pick (ltb wanted rate) (eqb (delay % 2) 0) true)
 
 -- every delay of the file has a counterpart at the wanted rate
 unfoldable pub allConvert : (file : List ℕ) (head wanted : ℕ) → Bool

@@ -1,6 +1,5 @@
 -- The delay file: its bytes, its reader and its writer, and the converter between its editions.
 pub mod Files
-pub mod Rates
 pub mod ReadFile
 pub mod Table
 pub mod WriteFile

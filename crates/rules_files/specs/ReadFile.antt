@@ -6,10 +6,10 @@ use lib.Dec.{eqb}
 use lib.ListN.{getD, length}
 use Rattle.base.specs.Choice.{both, ask, accepted}
 use Rattle.base.specs.Lists.{padded, listed}
+use Rattle.rates.specs.Rates.{rateAllowed}
 use Rattle.rules_files.specs.declared.DelayRead.{DelayRead}
 use Rattle.rules_files.specs.declared.RatedRead.{RatedRead}
 use Rattle.rules_files.specs.Files.{rises, countIn, rateIn, flowIn, delayIn, headed}
-use Rattle.rules_files.specs.Rates.{rateAllowed}
 
 -- "Number 19 is for a wrong mark, version, count or length, asked first in the reader; 20 for flows that do not rise, asked last in the reader";
 -- "Number 25 is for a rate, in the file or wanted, other than the two .., asked straight after 19": 19 25 5 20, where `wanted` says whether the rate that is

@@ -1,0 +1,2 @@
+-- The definitions that the contracts of `rates` cite.
+pub mod Rates
