@@ -68,8 +68,8 @@ fn convert_number(
     file: &[u8],
     bytes: usize,
 ) -> u32
-    requires { ⌜ (7 ≤ head) × (head ≤ 11) × (target_head ≤ 11) ⌝ }
-    ensures { λ r. ⌜ r ≡ convertNumber version head target_head wanted (now (file .entry)) bytes ⌝ }
+    requires { ⌜ (7 ≤ head) × (head ≤ 11) × («target_head» ≤ 11) ⌝ }
+    ensures { λ r. ⌜ r ≡ convertNumber version head «target_head» wanted (now (file .entry)) bytes ⌝ }
 {
     let long = bytes == target_head + 1280;
     let number = file_number(version, head, file, rate_allowed(wanted), long);
@@ -104,8 +104,8 @@ fn target_byte(
     count: usize,
     i: usize,
 ) -> u8
-    requires { ⌜ (head ≤ 11) × (target_head ≤ 11) × (count ≤ 64) × (head + count * 20 ≤ length (now file)) ⌝ }
-    ensures { λ r. ⌜ r ≡ pick (ltb i (target_head + count * 20)) (fileByte target_version target_head wanted count (flowIn (now (file .entry)) head) (λ k. counterpart rate wanted (delayIn (now (file .entry)) head k)) i) 0 ⌝ }
+    requires { ⌜ (head ≤ 11) × («target_head» ≤ 11) × (count ≤ 64) × (head + count * 20 ≤ length (now file)) ⌝ }
+    ensures { λ r. ⌜ r ≡ pick (ltb i («target_head» + count * 20)) (fileByte «target_version» «target_head» wanted count (flowIn (now (file .entry)) head) (λ k. counterpart rate wanted (delayIn (now (file .entry)) head k)) i) 0 ⌝ }
 {
     if target_head + count * 20 <= i {
         return 0;
@@ -126,8 +126,8 @@ fn fill_target(
     count: usize,
     out: &mut [u8],
 )
-    requires { ⌜ (head ≤ 11) × (target_head ≤ 11) × (count ≤ 64) × (head + count * 20 ≤ length (now file)) × (length (now out) ≡ target_head + 1280) ⌝ }
-    ensures { λ _. ⌜ now (out .exit) ≡ padded (target_head + 1280) (listed (fileByte target_version target_head wanted count (flowIn (now (file .entry)) head) (λ k. counterpart rate wanted (delayIn (now (file .entry)) head k))) (target_head + count * 20)) ⌝ }
+    requires { ⌜ (head ≤ 11) × («target_head» ≤ 11) × (count ≤ 64) × (head + count * 20 ≤ length (now file)) × (length (now out) ≡ «target_head» + 1280) ⌝ }
+    ensures { λ _. ⌜ now (out .exit) ≡ padded («target_head» + 1280) (listed (fileByte «target_version» «target_head» wanted count (flowIn (now (file .entry)) head) (λ k. counterpart rate wanted (delayIn (now (file .entry)) head k))) («target_head» + count * 20)) ⌝ }
 {
     let n = out.len();
     let mut i: usize = 0;
@@ -156,8 +156,8 @@ pub(crate) fn convert(
     file: &[u8],
     out: &mut [u8],
 ) -> DelayWritten
-    requires { ⌜ (7 ≤ head) × (head ≤ 11) × (target_head ≤ 11) ⌝ }
-    ensures { λ r. ⌜ leftWritten r (now (out .exit)) ≡ convertReply version head target_version target_head wanted (now (file .entry)) (now (out .entry)) ⌝ }
+    requires { ⌜ (7 ≤ head) × (head ≤ 11) × («target_head» ≤ 11) ⌝ }
+    ensures { λ r. ⌜ leftWritten r (now (out .exit)) ≡ convertReply version head «target_version» «target_head» wanted (now (file .entry)) (now (out .entry)) ⌝ }
     ensures { λ _. ⌜ AllBytes (now (file .entry)) ⌝ }
 {
     let number = convert_number(version, head, target_head, wanted, file, out.len());

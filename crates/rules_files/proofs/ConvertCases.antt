@@ -1,21 +1,26 @@
 -- The converter's checks, its bytes and its replies, case by case. Assumes nothing.
 use Prim.Native.Nat.{ℕ, _+_, _*_}
-use mathlib.Core.Bool.{true, false}
-use mathlib.Core.Path.{_≡_, refl, sym, ap, _∙_}
+use mathlib.Core.Bool.{Bool, true, false}
+use mathlib.Core.Path.{_≡_, refl, sym, ap, ap₂, _∙_}
 use mathlib.Core.List.{List}
 use lib.Dec.{eqb}
 use lib.ListN.{length}
 use borrow.Author.Tests.{eq-eqb, eqb-true}
 use Rattle.base.specs.Choice.{ask}
-use Rattle.base.specs.Lists.{padded, listed}
+use Rattle.base.specs.Lists.{all, padded, listed}
 use Rattle.base.proofs.Choices.{yes-ask, no-ask, asked, refused-old, accepted-new, accepted-all}
 use Rattle.rates.specs.Rates.{rateAllowed}
 use Rattle.rules_files.specs.Files.{rises, fileByte, fileOf, countIn, rateIn, flowIn, delayIn}
 use Rattle.rules_files.specs.ReadFile.{fileNumber}
 use Rattle.rules_files.specs.WriteFile.{LeftByWriter, leftWritten}
-use Rattle.rules_files.specs.ConvertFile.{counterpart, allConvert, convertNumber, convertedFile, convertReply}
+use Rattle.rules_files.specs.ConvertFile.{counterpart, hasCounterpart, allConvert, convertNumber, convertedFile, convertReply}
 use Rattle.rules_files.proofs.Heads.{Headed}
 use Rattle.rules_files.proofs.ReadCases.{Passed, passed, past, refused-alike}
+
+-- the delays asked by a rate and a count that were read
+pub all-by : (file : List ℕ) (head wanted : ℕ) {rate count : ℕ} → rate ≡ rateIn file head → count ≡ countIn file → all (λ k. hasCounterpart rate wanted (delayIn file head k)) count ≡ allConvert file head wanted
+unfolding allConvert
+all-by file head wanted r c = ap₂ (λ (rate n : ℕ). all (λ k. hasCounterpart rate wanted (delayIn file head k)) n) r c
 
 -- what the converter's checks let through
 pub record Convertible (version head targetHead wanted : ℕ) (file : List ℕ) (bytes : ℕ) : Type 0 where
@@ -27,25 +32,26 @@ pub record Convertible (version head targetHead wanted : ℕ) (file : List ℕ) 
   pub converts : allConvert file head wanted ≡ true
 
 module _ (version head targetHead wanted : ℕ) (file : List ℕ) (bytes : ℕ) where
-  -- 19 25 5 20 alone
-  abbrev pub before26 : ℕ
-  before26 = fileNumber version head file (rateAllowed wanted) (eqb bytes (targetHead + 1280)) 0
+  -- 19 25 5 20 alone, with what was told of the wanted rate
+  module _ {number : ℕ} {allowed : Bool} (told : allowed ≡ rateAllowed wanted) (e : number ≡ fileNumber version head file allowed (eqb bytes (targetHead + 1280)) 0) where
+    first-four : number ≡ fileNumber version head file (rateAllowed wanted) (eqb bytes (targetHead + 1280)) 0
+    first-four = e ∙ ap (λ (b : Bool). fileNumber version head file b (eqb bytes (targetHead + 1280)) 0) told
 
-  pub convert-first : {number : ℕ} → number ≡ before26 → (number ≡ 0 → ⊥) → number ≡ convertNumber version head targetHead wanted file bytes
-  unfolding convertNumber
-  convert-first e n = e ∙ refused-alike version head file (rateAllowed wanted) (eqb bytes (targetHead + 1280)) _ (λ z. n (e ∙ z))
-
-  module _ {number : ℕ} (e : number ≡ before26) (z : number ≡ 0) where
-    pub convert-passed : Passed version head file (rateAllowed wanted) (eqb bytes (targetHead + 1280))
-    convert-passed = passed version head file (rateAllowed wanted) (eqb bytes (targetHead + 1280)) 0 (sym e ∙ z) .0
-
-    pub convert-lost : allConvert file head wanted ≡ false → 26 ≡ convertNumber version head targetHead wanted file bytes
+    pub convert-first : (number ≡ 0 → ⊥) → number ≡ convertNumber version head targetHead wanted file bytes
     unfolding convertNumber
-    convert-lost n = sym (past version head file (rateAllowed wanted) (eqb bytes (targetHead + 1280)) _ convert-passed ∙ no-ask 26 0 n)
+    convert-first n = first-four ∙ refused-alike version head file (rateAllowed wanted) (eqb bytes (targetHead + 1280)) _ (λ z. n (first-four ∙ z))
 
-    pub convert-all : allConvert file head wanted ≡ true → 0 ≡ convertNumber version head targetHead wanted file bytes
-    unfolding convertNumber
-    convert-all y = sym (past version head file (rateAllowed wanted) (eqb bytes (targetHead + 1280)) _ convert-passed ∙ yes-ask 26 0 y)
+    module _ (z : number ≡ 0) where
+      pub convert-passed : Passed version head file (rateAllowed wanted) (eqb bytes (targetHead + 1280))
+      convert-passed = passed version head file (rateAllowed wanted) (eqb bytes (targetHead + 1280)) 0 (sym first-four ∙ z) .0
+
+      pub convert-lost : allConvert file head wanted ≡ false → 26 ≡ convertNumber version head targetHead wanted file bytes
+      unfolding convertNumber
+      convert-lost n = sym (past version head file (rateAllowed wanted) (eqb bytes (targetHead + 1280)) _ convert-passed ∙ no-ask 26 0 n)
+
+      pub convert-all : allConvert file head wanted ≡ true → 0 ≡ convertNumber version head targetHead wanted file bytes
+      unfolding convertNumber
+      convert-all y = sym (past version head file (rateAllowed wanted) (eqb bytes (targetHead + 1280)) _ convert-passed ∙ yes-ask 26 0 y)
 
   -- number 0 says all of it, and is said of all of it
   pub convertible : convertNumber version head targetHead wanted file bytes ≡ 0 → Convertible version head targetHead wanted file bytes

@@ -146,6 +146,10 @@ module _ (version head : ℕ) (file flows delays : List ℕ) where
     same-number : number ≡ readNumber version head file (length flows) (length delays)
     same-number = ap (λ (r : LeftByReader). r .number) e ∙ read-reply-number version head file flows delays
 
+    -- its head is there where it is accepted
+    pub rated-long : number ≡ 0 → head ≤ length file
+    rated-long h = omega (arith, readable version head file (length flows) (length delays) (sym same-number ∙ h) .headed .long)
+
     pub rated-refused : (number ≡ 0 → ⊥) → leftRated (record { number = number; count = count; rate = 0 }) fs ds ≡ ratedReply version head file flows delays
     unfolding ratedReply
     rated-refused h =
