@@ -14,7 +14,7 @@ use Rattle.byte_order.specs.Bytes.{AllBytes}
 use Rattle.byte_order.proofs.Inverse.{weight}
 use Rattle.rates.specs.Rates.{rateAllowed}
 use Rattle.rules_files.specs.Files.{fileOf, countIn, rateIn, flowIn, delayIn}
-use Rattle.rules_files.specs.ReadFile.{LeftByReader, readNumber, delaysRead, readReply, ratedReply}
+use Rattle.rules_files.specs.ReadFile.{LeftByReader, readNumber, flowsRead, delaysRead, readReply, ratedReply}
 use Rattle.rules_files.specs.ConvertFile.{counterpart, convertNumber, convertedFile, convertReply}
 use Rattle.rules_files.proofs.ReadCases.{unread, accepts, read-reply-number, read-reply-accepted}
 use Rattle.rules_files.proofs.Counterparts.{doubled, halved, kept, even, allowed-small}
@@ -142,7 +142,7 @@ module _
     across : Across (readReply version head file flows delays) (rateIn file head) (readReply targetVersion targetHead left flows delays) wanted
     across =
         subst (λ (r : LeftByReader). Across r (rateIn file head) (readReply targetVersion targetHead left flows delays) wanted) (sym (read-reply-accepted version head file flows delays source-number))
-        (subst (λ (r : LeftByReader). Across _ (rateIn file head) r wanted) (sym (read-reply-accepted targetVersion targetHead left flows delays target-number))
+        (subst (λ (r : LeftByReader). Across (record { number = 0; count = countIn file; flows = flowsRead file head; delays = delaysRead file head }) (rateIn file head) r wanted) (sym (read-reply-accepted targetVersion targetHead left flows delays target-number))
         (record {
           number = refl;
           count = left-count version head targetVersion targetHead wanted file bytes small c long-head rated long-target v target;
