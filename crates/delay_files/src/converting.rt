@@ -113,7 +113,14 @@ fn target_byte(
     if i < target_head {
         return head_byte(target_version, wanted, count, i);
     }
-    entry_at(file, head, rate, wanted, (i - target_head) / 20, (i - target_head) % 20)
+    entry_at(
+        file,
+        head,
+        rate,
+        wanted,
+        (i - target_head) / 20,
+        (i - target_head) % 20,
+    )
 }
 
 fn fill_target(

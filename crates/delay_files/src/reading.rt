@@ -94,7 +94,13 @@ pub(crate) fn rate_in(file: &[u8], head: usize) -> u32
 }
 
 // The number of the first of 19 25 5 20 that says no, or 0; `wanted` says whether the rate that is wanted is one of the two, `lists` whether the lent lists have their lengths.
-pub(crate) fn file_number(version: usize, head: usize, file: &[u8], wanted: bool, lists: bool) -> u32
+pub(crate) fn file_number(
+    version: usize,
+    head: usize,
+    file: &[u8],
+    wanted: bool,
+    lists: bool,
+) -> u32
     requires { ⌜ (7 ≤ head) × (head ≤ 11) ⌝ }
     ensures { λ r. ⌜ r ≡ fileNumber version head (now (file .entry)) wanted lists 0 ⌝ }
 {

@@ -82,88 +82,87 @@ back-and-over file small back z out long =
 
 -- ---- the target is read
 module _
-  (version head targetVersion targetHead wanted : ℕ)
-  (file : List ℕ)
-  (bytes : ℕ)
-  (small : AllBytes file)
-  (c : Convertible version head targetHead wanted file bytes)
-  (long-head : 7 ≤ head)
-  (rated : Rated head (rateIn file head) file)
-  (long-target : 7 ≤ targetHead)
-  (v : targetVersion < weight 2)
-  (target : rateIn (convertedFile head targetVersion targetHead wanted file) targetHead ≡ wanted)
+    (version head targetVersion targetHead wanted : ℕ)
+    (file : List ℕ)
+    (bytes : ℕ)
+    (small : AllBytes file)
+    (c : Convertible version head targetHead wanted file bytes)
+    (long-head : 7 ≤ head)
+    (rated : Rated head (rateIn file head) file)
+    (long-target : 7 ≤ targetHead)
+    (v : targetVersion < weight 2)
+    (target : rateIn (convertedFile head targetVersion targetHead wanted file) targetHead ≡ wanted)
   where
-  abbrev left : List ℕ
-  left = convertedFile head targetVersion targetHead wanted file
+    abbrev left : List ℕ
+    left = convertedFile head targetVersion targetHead wanted file
 
-  -- one delay, and the places after the last
-  one-delay : (k : ℕ) → k < countIn file → Delays (rateIn file head) wanted (delayIn file head k) (counterpart (rateIn file head) wanted (delayIn file head k))
-  one-delay k l =
-      let h = has version head targetVersion targetHead wanted file bytes small c long-head rated long-target v target k l in
-      record {
-        doubled = λ a b. doubled (rateIn file head) wanted (delayIn file head k) (omega arith);
-        halved = λ a b. let m : wanted < rateIn file head = omega arith in omega (arith, halved (rateIn file head) wanted (delayIn file head k) m, even (rateIn file head) wanted (delayIn file head k) h m);
-        kept = λ a. kept (rateIn file head) wanted (delayIn file head k) a;
-      }
+    -- one delay, and the places after the last
+    one-delay : (k : ℕ) → k < countIn file → Delays (rateIn file head) wanted (delayIn file head k) (counterpart (rateIn file head) wanted (delayIn file head k))
+    one-delay k l =
+        let h = has version head targetVersion targetHead wanted file bytes small c long-head rated long-target v target k l in
+        record {
+          doubled = λ a b. doubled (rateIn file head) wanted (delayIn file head k) (omega arith);
+          halved = λ a b. let m : wanted < rateIn file head = omega arith in omega (arith, halved (rateIn file head) wanted (delayIn file head k) m, even (rateIn file head) wanted (delayIn file head k) h m);
+          kept = λ a. kept (rateIn file head) wanted (delayIn file head k) a;
+        }
 
-  none : Delays (rateIn file head) wanted 0 0
-  none = record { doubled = λ a b. refl; halved = λ a b. refl; kept = λ a. refl }
+    none : Delays (rateIn file head) wanted 0 0
+    none = record { doubled = λ a b. refl; halved = λ a b. refl; kept = λ a. refl }
 
-  source-at : (k : ℕ) → getD (delaysRead file head) k 0 ≡ pick (ltb k (countIn file)) (delayIn file head k) 0
-  unfolding delaysRead
-  source-at k = listed-padded (delayIn file head) 64 (countIn file) k
+    source-at : (k : ℕ) → getD (delaysRead file head) k 0 ≡ pick (ltb k (countIn file)) (delayIn file head k) 0
+    unfolding delaysRead
+    source-at k = listed-padded (delayIn file head) 64 (countIn file) k
 
-  target-at : (k : ℕ) → getD (delaysRead left targetHead) k 0 ≡ pick (ltb k (countIn file)) (counterpart (rateIn file head) wanted (delayIn file head k)) 0
-  target-at k =
-      ap (λ (xs : List ℕ). getD xs k 0) (left-delays-read version head targetVersion targetHead wanted file bytes small c long-head rated long-target v target)
-      ∙ listed-padded (λ k. counterpart (rateIn file head) wanted (delayIn file head k)) 64 (countIn file) k
+    target-at : (k : ℕ) → getD (delaysRead left targetHead) k 0 ≡ pick (ltb k (countIn file)) (counterpart (rateIn file head) wanted (delayIn file head k)) 0
+    target-at k =
+        ap (λ (xs : List ℕ). getD xs k 0) (left-delays-read version head targetVersion targetHead wanted file bytes small c long-head rated long-target v target)
+        ∙ listed-padded (λ k. counterpart (rateIn file head) wanted (delayIn file head k)) 64 (countIn file) k
 
-  each : (k : ℕ) → Delays (rateIn file head) wanted (getD (delaysRead file head) k 0) (getD (delaysRead left targetHead) k 0)
-  each k =
-      by-le (countIn file) k
-      (λ m. both k 0 0 (source-at k ∙ lt-no k (countIn file) _ _ m) (target-at k ∙ lt-no k (countIn file) _ _ m) none)
-      (λ m. both k _ _ (source-at k ∙ lt-yes k (countIn file) _ _ m) (target-at k ∙ lt-yes k (countIn file) _ _ m) (one-delay k m))
-    where
-      both : (k d e : ℕ) → getD (delaysRead file head) k 0 ≡ d → getD (delaysRead left targetHead) k 0 ≡ e → Delays (rateIn file head) wanted d e
-          → Delays (rateIn file head) wanted (getD (delaysRead file head) k 0) (getD (delaysRead left targetHead) k 0)
-      both k d e p q x = subst (λ (n : ℕ). Delays (rateIn file head) wanted n (getD (delaysRead left targetHead) k 0)) (sym p) (subst (λ (n : ℕ). Delays (rateIn file head) wanted d n) (sym q) x)
+    each : (k : ℕ) → Delays (rateIn file head) wanted (getD (delaysRead file head) k 0) (getD (delaysRead left targetHead) k 0)
+    each k =
+        by-le (countIn file) k
+        (λ m. both k 0 0 (source-at k ∙ lt-no k (countIn file) _ _ m) (target-at k ∙ lt-no k (countIn file) _ _ m) none)
+        (λ m. both k _ _ (source-at k ∙ lt-yes k (countIn file) _ _ m) (target-at k ∙ lt-yes k (countIn file) _ _ m) (one-delay k m))
+      where
+        both : (k d e : ℕ) → getD (delaysRead file head) k 0 ≡ d → getD (delaysRead left targetHead) k 0 ≡ e → Delays (rateIn file head) wanted d e
+            → Delays (rateIn file head) wanted (getD (delaysRead file head) k 0) (getD (delaysRead left targetHead) k 0)
+        both k d e p q x = subst (λ (n : ℕ). Delays (rateIn file head) wanted n (getD (delaysRead left targetHead) k 0)) (sym p) (subst (λ (n : ℕ). Delays (rateIn file head) wanted d n) (sym q) x)
 
-  module _ (flows delays : List ℕ) (flows-long : length flows ≡ 1024) (delays-long : length delays ≡ 64) where
-    source-number : readNumber version head file (length flows) (length delays) ≡ 0
-    source-number =
-        ap₂ (readNumber version head file) flows-long delays-long
-        ∙ accepts version head file 1024 64 (record { headed = c .headed; rated = c .rated; bytes-long = refl; delays-long = refl; rising = c .rising })
+    module _ (flows delays : List ℕ) (flows-long : length flows ≡ 1024) (delays-long : length delays ≡ 64) where
+      source-number : readNumber version head file (length flows) (length delays) ≡ 0
+      source-number =
+          ap₂ (readNumber version head file) flows-long delays-long
+          ∙ accepts version head file 1024 64 (record { headed = c .headed; rated = c .rated; bytes-long = refl; delays-long = refl; rising = c .rising })
 
-    target-number : readNumber targetVersion targetHead left (length flows) (length delays) ≡ 0
-    target-number =
-        ap₂ (readNumber targetVersion targetHead left) flows-long delays-long
-        ∙ accepts targetVersion targetHead left 1024 64 (left-readable version head targetVersion targetHead wanted file bytes small c long-head rated long-target v target)
+      target-number : readNumber targetVersion targetHead left (length flows) (length delays) ≡ 0
+      target-number =
+          ap₂ (readNumber targetVersion targetHead left) flows-long delays-long
+          ∙ accepts targetVersion targetHead left 1024 64 (left-readable version head targetVersion targetHead wanted file bytes small c long-head rated long-target v target)
 
-    across : Across (readReply version head file flows delays) (rateIn file head) (readReply targetVersion targetHead left flows delays) wanted
-    across =
-        subst (λ (r : LeftByReader). Across r (rateIn file head) (readReply targetVersion targetHead left flows delays) wanted) (sym (read-reply-accepted version head file flows delays source-number))
-        (subst (λ (r : LeftByReader). Across (record { number = 0; count = countIn file; flows = flowsRead file head; delays = delaysRead file head }) (rateIn file head) r wanted) (sym (read-reply-accepted targetVersion targetHead left flows delays target-number))
-        (record {
-          number = refl;
-          count = left-count version head targetVersion targetHead wanted file bytes small c long-head rated long-target v target;
-          flows = left-flows-read version head targetVersion targetHead wanted file bytes small c long-head rated long-target v target;
-          delays = each;
-        }))
+      across : Across (readReply version head file flows delays) (rateIn file head) (readReply targetVersion targetHead left flows delays) wanted
+      across =
+          subst (λ (r : LeftByReader). Across r (rateIn file head) (readReply targetVersion targetHead left flows delays) wanted) (sym (read-reply-accepted version head file flows delays source-number))
+          (subst (λ (r : LeftByReader). Across (record { number = 0; count = countIn file; flows = flowsRead file head; delays = delaysRead file head }) (rateIn file head) r wanted) (sym (read-reply-accepted targetVersion targetHead left flows delays target-number))
+          (record {
+            number = refl;
+            count = left-count version head targetVersion targetHead wanted file bytes small c long-head rated long-target v target;
+            flows = left-flows-read version head targetVersion targetHead wanted file bytes small c long-head rated long-target v target;
+            delays = each;
+          }))
 
 pub over : Over
 unfolding ratedReply
 over file small wanted out z flows delays flows-long delays-long =
     let c = asked-all 1 7 2 11 wanted file out z in
     let w = file-left 1 7 2 11 wanted file out z in
-    let t = rate-of-2 7 wanted file (c .wanted-allowed) in
-    (
+    let t = rate-of-2 7 wanted file (c .wanted-allowed) in (
       subst (λ (f : List ℕ). Across (readReply 1 7 file flows delays) 48_000 (readReply 2 11 f flows delays) wanted) (sym w)
-      (subst (λ (rate : ℕ). Across (readReply 1 7 file flows delays) rate (readReply 2 11 (convertedFile 7 2 11 wanted file) flows delays) wanted) (rate-of-1 file)
-      (across 1 7 2 11 wanted file (length out) small c (omega arith) (rate-none _ file) (omega arith) two-small t flows delays flows-long delays-long)),
+          (subst (λ (rate : ℕ). Across (readReply 1 7 file flows delays) rate (readReply 2 11 (convertedFile 7 2 11 wanted file) flows delays) wanted) (rate-of-1 file)
+          (across 1 7 2 11 wanted file (length out) small c (omega arith) (rate-none _ file) (omega arith) two-small t flows delays flows-long delays-long)),
       ap (λ (f : List ℕ). ratedReply 2 11 f flows delays .rate) w
-      ∙ accepted-new (readNumber 2 11 (convertedFile 7 2 11 wanted file) (length flows) (length delays)) 0 (rateIn (convertedFile 7 2 11 wanted file) 11)
-        (target-number 1 7 2 11 wanted file (length out) small c (omega arith) (rate-none _ file) (omega arith) two-small t flows delays flows-long delays-long)
-      ∙ t,
+          ∙ accepted-new (readNumber 2 11 (convertedFile 7 2 11 wanted file) (length flows) (length delays)) 0 (rateIn (convertedFile 7 2 11 wanted file) 11)
+          (target-number 1 7 2 11 wanted file (length out) small c (omega arith) (rate-none _ file) (omega arith) two-small t flows delays flows-long delays-long)
+          ∙ t,
     )
 
 pub back : Back

@@ -140,13 +140,11 @@ fn lone(
     heard: &mut Heard,
 ) -> text_alone::Answered {
     match request {
-        Lone::ReadDelays(_)
-        | Lone::ReadDelays2(_)
-        | Lone::Convert2To1(_)
-        | Lone::Convert1To2(_) => text_alone::Answered {
-            alone: kept,
-            answer: text_alone::on_file(request, file, short, bytes, heard),
-        },
+        Lone::ReadDelays(_) | Lone::ReadDelays2(_) | Lone::Convert2To1(_) | Lone::Convert1To2(_) =>
+            text_alone::Answered {
+                alone: kept,
+                answer: text_alone::on_file(request, file, short, bytes, heard),
+            },
         Lone::WindowSet(asked) => {
             let mut window = kept.window;
             text_crafted::rows(
