@@ -15,13 +15,13 @@ use Rattle.rules_record.specs.Reply.{Reply}
 use Rattle.rules_calls.specs.declared.Settings.{Settings}
 use Rattle.rules_calls.specs.NewChecks.{newNumber}
 use Rattle.rules_calls.specs.NewReply.{newReply}
-use Rattle.rules_files.specs.Files.{countIn, rateIn, flowIn, delayIn}
+use Rattle.rules_files.specs.Files.{rateIn}
 use Rattle.rules_files.specs.ReadFile.{LeftByReader, readNumber}
 use Rattle.rules_files.proofs.ReadCases.{Readable, readable, read-reply-number, read-reply-accepted}
 use Rattle.rules_files.proofs.WriteCases.{write-reply-number}
-use Rattle.rules_files.proofs.FileAgain.{file-again, widths-in}
-use Rattle.rules_files.proofs.FileAccepted.{file-accepted}
-use Rattle.file_claims.specs.FileClaims.{readDelays, writeDelays, newFrom, RoundTrip, NeverNine, ReadAgain, GivesTheRemembered, ExactlyRemembered, OfEntries, AcceptsExactly, FileClaims}
+use Rattle.rules_files.proofs.FileAgain.{rate-none}
+use Rattle.file_claims.specs.FileClaims.{readDelays, writeDelays, newFrom, RoundTrip, NeverNine, ReadAgain, GivesTheRemembered, ExactlyRemembered, AcceptsExactly, FileClaims}
+use Rattle.file_claims.proofs.OfFile.{is-of, of-entries}
 use Rattle.file_claims.proofs.FromFile.{bytesOf, delaysOf, new-number, new-leaves, never-full, comes-back}
 use Rattle.file_claims.proofs.WrittenRead.{table-read, table-remembered, whole-written, file-left}
 
@@ -82,23 +82,10 @@ gives-the-remembered s l out t taken flows delays flows-long delays-long =
 
 -- ---- which files are accepted
 pub accepts-exactly : AcceptsExactly
-accepts-exactly file flows delays = (λ small taken. entries small (is-read file flows delays taken), λ flows-long delays-long e. read-reply-number 1 7 file flows delays ∙ ap₂ (readNumber 1 7 file) flows-long delays-long ∙ of-entries e)
-  where
-    entries : AllBytes file → Readable 1 7 file (length flows) (length delays) → OfEntries file
-    entries small r = record {
-      count = countIn file;
-      flows = flowIn file 7;
-      delays = delayIn file 7;
-      few = r .headed .few;
-      widths = widths-in file 7 small;
-      rising = r .rising;
-      same = file-again 1 7 0 file small (r .headed) (λ i a b. absurd (omega arith));
-    }
-
-    of-entries : OfEntries file → readNumber 1 7 file 1024 64 ≡ 0
-    of-entries e =
-        subst (λ (f : List ℕ). readNumber 1 7 f 1024 64 ≡ 0) (sym (e .same))
-        (file-accepted 1 7 0 (e .count) (e .flows) (e .delays) (omega arith) (e .few) (e .widths) one-small (e .rising) (allowed-1 _))
+accepts-exactly file flows delays = (
+  λ small taken. is-of 1 7 file (is-read file flows delays taken) small (rate-none _ file),
+  λ flows-long delays-long e. read-reply-number 1 7 file flows delays ∙ ap₂ (readNumber 1 7 file) flows-long delays-long ∙ of-entries 1 7 (omega arith) one-small file e (allowed-1 _),
+)
 
 pub file-claims : FileClaims
 file-claims = record { round-trip = round-trip; never-nine = never-nine; read-again = read-again; gives-the-remembered = gives-the-remembered; accepts-exactly = accepts-exactly }

@@ -16,14 +16,23 @@ use Rattle.rates.specs.Rates.{rateAllowed}
 use Rattle.rules_files.specs.Files.{fileOf, countIn, rateIn, flowIn, delayIn}
 use Rattle.rules_files.specs.ReadFile.{LeftByReader, readNumber, flowsRead, delaysRead, readReply, ratedReply}
 use Rattle.rules_files.specs.ConvertFile.{counterpart, convertNumber, convertedFile, convertReply}
-use Rattle.rules_files.proofs.ReadCases.{unread, accepts, read-reply-number, read-reply-accepted}
+use Rattle.rules_files.proofs.ReadCases.{unread, readable, accepts, read-reply-number, read-reply-accepted}
 use Rattle.rules_files.proofs.Counterparts.{doubled, halved, kept, even, allowed-small}
 use Rattle.rules_files.proofs.ConvertCases.{Convertible, convertible, convert-reply-number, convert-reply-accepted}
 use Rattle.rules_files.proofs.FileAccepted.{rate-back}
 use Rattle.rules_files.proofs.FileAgain.{Rated, rate-again, rate-none}
 use Rattle.rules_files.proofs.Converted.{has, left-count, left-readable, left-flows-read, left-delays-read, comes-back}
-use Rattle.file_claims.specs.FileClaims.{readDelays, fileWritten}
-use Rattle.file_claims.specs.EditionClaims.{readDelays2, convert1To2, convert2To1, OtherEdition, OverAndBack, BackAndOver, Delays, Across, Over, Back, EditionClaims}
+use Rattle.file_claims.proofs.OfFile.{is-of, of-entries}
+use Rattle.file_claims.specs.FileClaims.{readDelays, fileWritten, OfEntries}
+use Rattle.file_claims.specs.EditionClaims.{readDelays2, convert1To2, convert2To1, OtherEdition, AcceptsExactly2, OverAndBack, BackAndOver, Delays, Across, Over, Back, EditionClaims}
+
+one-small : 1 < weight 2
+unfolding weight
+one-small = omega arith
+
+two-small : 2 < weight 2
+unfolding weight
+two-small = omega arith
 
 -- ---- the other edition
 pub other-edition : OtherEdition
@@ -32,6 +41,17 @@ other-edition file flows delays = (
   λ e. read-reply-number 1 7 file flows delays ∙ sym (unread 1 7 file (length flows) (length delays) (λ h. omega (arith, h .edition))),
   λ e. read-reply-number 2 11 file flows delays ∙ sym (unread 2 11 file (length flows) (length delays) (λ h. omega (arith, h .edition))),
 )
+
+-- ---- which files are accepted
+pub accepts-exactly : AcceptsExactly2
+unfolding ratedReply
+accepts-exactly file flows delays = (
+  λ small taken. is-of 2 11 file (readable 2 11 file (length flows) (length delays) (sym (read-reply-number 2 11 file flows delays) ∙ taken)) small (rate-again file small),
+  λ flows-long delays-long e. read-reply-number 2 11 file flows delays ∙ ap₂ (readNumber 2 11 file) flows-long delays-long ∙ of-entries 2 11 (omega arith) two-small file e (rate-kept e),
+)
+  where
+    rate-kept : (e : OfEntries 2 11 file) → rateAllowed (rateIn (fileOf 2 11 (e .rate) (e .count) (e .flows) (e .delays)) 11) ≡ true
+    rate-kept e = ap rateAllowed (rate-back 2 11 (e .rate) (e .count) (e .flows) (e .delays) (omega arith) (omega arith) (allowed-small (e .rate) (e .rated))) ∙ e .rated
 
 -- ---- what a converter leaves
 module _ (version head targetVersion targetHead wanted : ℕ) (file out : List ℕ) (z : convertReply version head targetVersion targetHead wanted file out .number ≡ 0) where
@@ -47,14 +67,6 @@ module _ (version head targetVersion targetHead wanted : ℕ) (file out : List �
   file-left =
       ap fileWritten (convert-reply-accepted version head targetVersion targetHead wanted file out passed)
       ∙ take-padded (targetHead + 1280) (convertedFile head targetVersion targetHead wanted file) (targetHead + countIn file * 20) (listed-length _ (targetHead + countIn file * 20))
-
-one-small : 1 < weight 2
-unfolding weight
-one-small = omega arith
-
-two-small : 2 < weight 2
-unfolding weight
-two-small = omega arith
 
 -- the rate of a target of version 2, and of version 1
 rate-of-2 : (head wanted : ℕ) (file : List ℕ) → rateAllowed wanted ≡ true → rateIn (convertedFile head 2 11 wanted file) 11 ≡ wanted
@@ -176,4 +188,4 @@ back file small out z flows delays flows-long delays-long =
     (across 2 11 1 7 48_000 file (length out) small c (omega arith) (rate-again file small) (omega arith) one-small (rate-of-1 _) flows delays flows-long delays-long))
 
 pub edition-claims : EditionClaims
-edition-claims = record { other-edition = other-edition; over-and-back = over-and-back; back-and-over = back-and-over; over = over; back = back }
+edition-claims = record { other-edition = other-edition; accepts-exactly = accepts-exactly; over-and-back = over-and-back; back-and-over = back-and-over; over = over; back = back }

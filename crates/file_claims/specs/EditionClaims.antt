@@ -10,7 +10,7 @@ use Rattle.rules_files.specs.Files.{rateIn}
 use Rattle.rules_files.specs.ReadFile.{LeftByReader, LeftByRatedReader, ratedReply}
 use Rattle.rules_files.specs.WriteFile.{LeftByWriter}
 use Rattle.rules_files.specs.ConvertFile.{convertReply}
-use Rattle.file_claims.specs.FileClaims.{readDelays, fileWritten}
+use Rattle.file_claims.specs.FileClaims.{readDelays, fileWritten, OfEntries}
 
 -- the calls
 abbrev pub readDelays2 : (file flows delays : List ℕ) → LeftByRatedReader
@@ -30,6 +30,13 @@ abbrev pub OtherEdition : Type 0
 OtherEdition =
     (file flows delays : List ℕ) →
     (versionIn file ≡ 2 → readDelays file flows delays .number ≡ 19) × (versionIn file ≡ 1 → readDelays2 file flows delays .read .number ≡ 19)
+
+-- a file is accepted as version 2 exactly if it is one of a rising list of entries, at one of the two rates
+abbrev pub AcceptsExactly2 : Type 0
+AcceptsExactly2 =
+    (file flows delays : List ℕ) →
+    (AllBytes file → readDelays2 file flows delays .read .number ≡ 0 → OfEntries 2 11 file)
+    × (length flows ≡ 1024 → length delays ≡ 64 → OfEntries 2 11 file → readDelays2 file flows delays .read .number ≡ 0)
 
 -- ---- "Going over and back gives the first file again"
 -- by either wanted rate that is accepted
@@ -75,6 +82,7 @@ Back =
 -- all of it
 pub record EditionClaims : Type 0 where
   pub other-edition : OtherEdition
+  pub accepts-exactly : AcceptsExactly2
   pub over-and-back : OverAndBack
   pub back-and-over : BackAndOver
   pub over : Over

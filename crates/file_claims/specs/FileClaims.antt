@@ -8,6 +8,7 @@ use mathlib.Core.List.{List}
 use lib.ListN.{length, getD, take}
 use Rattle.base.specs.Lists.{padded, listed}
 use Rattle.byte_order.specs.Bytes.{AllBytes}
+use Rattle.rates.specs.Rates.{rateAllowed}
 use Rattle.rules_record.specs.declared.ExtraDelay.{ExtraDelay}
 use Rattle.rules_record.specs.declared.Flow.{Flow}
 use Rattle.rules_record.specs.declared.Remembered.the-variants.{Delay}
@@ -87,21 +88,23 @@ GivesTheRemembered =
     ExactlyRemembered s (readDelays (fileWritten (writeDelays s l out)) flows delays)
 
 -- ---- which files are accepted
--- the file of a strictly rising list of at most 64 entries, whose numbers have their widths
-pub record OfEntries (file : List ℕ) : Type 0 where
+-- the file of a strictly rising list of at most 64 entries, whose numbers have their widths, at one of the two rates (of which version 1 has no byte)
+pub record OfEntries (version head : ℕ) (file : List ℕ) : Type 0 where
+  pub rate : ℕ
+  pub rated : rateAllowed rate ≡ true
   pub count : ℕ
   pub flows : ℕ → Flow
   pub delays : ℕ → ℕ
   pub few : count ≤ 64
   pub widths : Widths count flows delays
   pub rising : rises flows count ≡ true
-  pub same : file ≡ fileOf 1 7 0 count flows delays
+  pub same : file ≡ fileOf version head rate count flows delays
 
 -- a file is accepted exactly if it is one, where the lent lists have their lengths
 abbrev pub AcceptsExactly : Type 0
 AcceptsExactly =
     (file flows delays : List ℕ) →
-    (AllBytes file → readDelays file flows delays .number ≡ 0 → OfEntries file) × (length flows ≡ 1024 → length delays ≡ 64 → OfEntries file → readDelays file flows delays .number ≡ 0)
+    (AllBytes file → readDelays file flows delays .number ≡ 0 → OfEntries 1 7 file) × (length flows ≡ 1024 → length delays ≡ 64 → OfEntries 1 7 file → readDelays file flows delays .number ≡ 0)
 
 -- all of it
 pub record FileClaims : Type 0 where
