@@ -13,7 +13,7 @@ convert-2-to-1-spec =
     (λ c κs. search needs)  -- file-sizes-requires
     (λ c κs. search needs)  -- least-usize-requires
     (λ c. search needs)  -- slice-relend-prefix-convert-2-to-1
-    (λ c. sym (length-take-le _ _ (within _ _ (c .before .before .least-usize .ensures))))  -- slice-aggregate-convert-2-to-1
+    (λ c. sym (length-take-le _ _ (within _ _ (c .before .least-usize .ensures))))  -- slice-aggregate-convert-2-to-1
     (λ c κs. search needs)  -- convert-2-to-1-requires
     (λ c κs. search needs)  -- unless-requires
     (λ c. search needs)  -- same-length
