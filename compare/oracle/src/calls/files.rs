@@ -95,7 +95,7 @@ impl Calls {
 
     /// A file of version 1, damaged or not, with the second edition's version and a rate.
     fn as_second(&mut self, mut file: Vec<u8>) -> Vec<u8> {
-        if !file.is_empty() && self.r.chance(50) {
+        if file.len() >= HEAD && self.r.chance(50) {
             self.damage(&mut file);
         }
         let rate = self.rate();
