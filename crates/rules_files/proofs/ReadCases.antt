@@ -1,7 +1,7 @@
 -- The reader's checks and replies, case by case. Assumes nothing.
 use Prim.Native.Nat.{ℕ, _*_, _<_, _≤_}
 use mathlib.Core.Bool.{Bool, true, false}
-use mathlib.Core.Path.{_≡_, refl, sym, ap, _∙_}
+use mathlib.Core.Path.{_≡_, refl, sym, ap, ap₂, _∙_}
 use mathlib.Core.List.{List}
 use native.Mathlib.Omega.{arith}
 use lib.ListN.{length}
@@ -135,12 +135,6 @@ module _ (version head : ℕ) (file flows delays : List ℕ) {number : ℕ} (e :
 
 -- ---- the reader of version 2
 module _ (version head : ℕ) (file flows delays : List ℕ) where
-  pub rated-reply-accepted : readNumber version head file (length flows) (length delays) ≡ 0
-      → ratedReply version head file flows delays ≡ record { read = record { number = 0; count = countIn file; flows = flowsRead file head; delays = delaysRead file head }; rate = rateIn file head }
-  unfolding ratedReply
-  rated-reply-accepted z =
-      (λ i. record { read = read-reply-accepted version head file flows delays z i; rate = accepted-new (readNumber version head file (length flows) (length delays)) 0 (rateIn file head) z i })
-
   -- an answer with the rate in place of 0 where it is accepted
   module _ {number count : ℕ} {fs ds : List ℕ} (e : leftRead (record { number = number; count = count }) fs ds ≡ readReply version head file flows delays) where
     same-number : number ≡ readNumber version head file (length flows) (length delays)
@@ -158,4 +152,4 @@ module _ (version head : ℕ) (file flows delays : List ℕ) where
     pub rated-accepted : number ≡ 0 → {rate : ℕ} → rate ≡ rateIn file head → leftRated (record { number = number; count = count; rate = rate }) fs ds ≡ ratedReply version head file flows delays
     unfolding ratedReply
     rated-accepted h q =
-        (λ i. record { read = e i; rate = (q ∙ sym (accepted-new (readNumber version head file (length flows) (length delays)) 0 (rateIn file head) (sym same-number ∙ h))) i })
+        ap₂ (λ (read : LeftByReader) (rate : ℕ). record { read = read; rate = rate }) e (q ∙ sym (accepted-new (readNumber version head file (length flows) (length delays)) _ _ (sym same-number ∙ h)))
