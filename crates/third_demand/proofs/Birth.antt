@@ -25,7 +25,7 @@ module _ (night : Night) (is-new : fresh night .number ≡ 0) where
   unfolding newReply
   passed = passed-of _ noInputs (night .lists) (night .commands) (started (night .settings) (night .kinds) (night .bytes) (night .delays) (night .time) (night .lists)) is-new
 
-  begun : Started (night .settings) (night .kinds) (night .time) (fresh night .inputs) (fresh night .lists)
+  pub begun : Started (night .settings) (night .kinds) (night .time) (fresh night .inputs) (fresh night .lists)
   begun = new-fresh (night .settings) (night .kinds) (night .bytes) (night .delays) (night .time) (night .lists) (night .commands) passed
 
   long : length (fresh night .commands) ≡ night .settings .count * 12

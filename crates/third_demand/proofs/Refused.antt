@@ -25,12 +25,12 @@ pub record Unchanged (r z : Reply) : Type 0 where
   pub commands : z .commands ≡ r .commands
 
 module _ (s : Inputs) (l : Lists) (commands : List ℕ) (effect : Effect) where
-  reply-unchanged : (number : ℕ) → (replied number s l commands effect .number ≡ 0 → ⊥)
+  pub reply-unchanged : (number : ℕ) → (replied number s l commands effect .number ≡ 0 → ⊥)
       → (replied number s l commands effect .inputs ≡ s) × (replied number s l commands effect .lists ≡ l) × (replied number s l commands effect .commands ≡ commands)
   reply-unchanged zero refused = absurd (refused refl)
   reply-unchanged (suc n) refused = (refl, refl, refl)
 
-unchanged-of : (r z : Reply) → (z .inputs ≡ r .inputs) × (z .lists ≡ r .lists) × (z .commands ≡ r .commands) → Unchanged r z
+pub unchanged-of : (r z : Reply) → (z .inputs ≡ r .inputs) × (z .lists ≡ r .lists) × (z .commands ≡ r .commands) → Unchanged r z
 unchanged-of r z e = record { inputs = e .0; lists = e .1; commands = e .2 }
 
 pub refused-after : (r : Reply) (call : Call) → (Accepted r call → ⊥) → Unchanged r (after r call)
