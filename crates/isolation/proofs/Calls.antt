@@ -58,7 +58,7 @@ module _ (n : ℕ) (s : Inputs) (l : Lists) (commands : List ℕ) (e : Effect) w
 pub refused-does : (r : Reply) (act : Act) → (Taken r act → ⊥) → Unchanged r (does r act)
 unfolding does confirmReply
 refused-does r (calls call) h = refused-after r call h
-refused-does r (confirms input time) h = 
+refused-does r (confirms input time) h =
     unchanged-of r _ (reply-unchanged (r .inputs) (r .lists) (r .commands) (confirmed input time (r .inputs) (r .lists)) (confirmNumber (r .inputs) (r .lists) (length (r .commands)) input time) h)
 
 pub does-settings : (r : Reply) (act : Act) → SameSettings (r .inputs) (does r act .inputs)
