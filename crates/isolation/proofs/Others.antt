@@ -3,7 +3,6 @@ use Prim.Native.Nat.{ℕ, _<_}
 use mathlib.Core.Bool.{Bool, true, false}
 use mathlib.Core.Path.{_≡_, refl, sym, ap, subst, _∙_}
 use Rattle.base.proofs.Choices.{pick-all}
-use Rattle.doubles.specs.Doubles.{samplesOf}
 use Rattle.rules_record.specs.declared.ExtraDelay.{ExtraDelay}
 use Rattle.rules_record.specs.declared.ExtraDelay.the-variants.{Auto, Ms}
 use Rattle.rules_record.specs.declared.Flow.{Flow}
@@ -61,12 +60,12 @@ module _ (j : ℕ) (low : j < 16) (s : Inputs) (h : Sized s) (time : ℕ) where
   module _ (l : Lists) where
     pub updated-kept : (kind : ExtraDelay) → Kept j s (updated j kind time s l .inputs)
     unfolding updated cleared
-    updated-kept (Ms delay) = set-kept (kindStored (slotAt s j) (Ms delay)) refl (samplesOf delay)
+    updated-kept (Ms delay) = set-kept (kindStored (slotAt s j) (Ms delay)) refl _
     updated-kept (Auto tag) = kept-put j low s h _ refl
 
     pub updated-settings : (kind : ExtraDelay) → SameSettings s (updated j kind time s l .inputs)
     unfolding updated cleared
-    updated-settings (Ms delay) = set-settings (kindStored (slotAt s j) (Ms delay)) (samplesOf delay)
+    updated-settings (Ms delay) = set-settings (kindStored (slotAt s j) (Ms delay)) _
     updated-settings (Auto tag) = settings-put s j _
 
     by-kept : (proposal : Proposal) → Kept j s (confirmedBy proposal j time s l .inputs)

@@ -2,7 +2,6 @@
 use Prim.Native.Nat.{ℕ, _<_}
 use mathlib.Core.Bool.{Bool}
 use mathlib.Core.Path.{_≡_, refl, sym, ap, subst, _∙_}
-use Rattle.doubles.specs.Doubles.{samplesOf}
 use Rattle.rules_window.specs.Window.{fresh}
 use Rattle.delay_hold.specs.Next.{Held, clearedHold}
 use Rattle.rules_record.specs.declared.ExtraDelay.{ExtraDelay}
@@ -13,7 +12,7 @@ use Rattle.rules_record.specs.declared.Proposal.the-variants.{Nothing, Pending}
 use Rattle.rules_record.specs.declared.Slot.{Slot}
 use Rattle.rules_record.specs.declared.Inputs.{Inputs}
 use Rattle.rules_record.specs.Inputs.{slotAt}
-use Rattle.rules_record.specs.Commands.{quiet, sendFirst, setDelay}
+use Rattle.rules_record.specs.Commands.{setDelay}
 use Rattle.rules_routing.specs.SetDelay.{setDelayOf}
 use Rattle.rules_record.specs.Lent.{Lists, bucketsIn, heldOf}
 use Rattle.rules_record.specs.Checks.{Fitting}
@@ -81,23 +80,21 @@ module _ (i : ℕ) (uses : Flow → Bool) (low : i < 16) (time : ℕ) (s : Input
 
   module _ (fs : Fitting s l) (fz : Fitting z m) (hs : i < s .count) (hz : i < z .count) where
     updated-near : (kind : ExtraDelay) → NearAll i (updated i kind time s l .inputs) (updated i kind time s l .lists) (updated i kind time z m .inputs) (updated i kind time z m .lists)
+        × (updated i kind time z m .words ≡ updated i kind time s l .words)
     unfolding updated cleared
     updated-near (Ms delay) =
-        near-lists i s l z m alike _ _ (updated-settings i low s (b .first .sized) time l (Ms delay)) (updated-settings i low z (b .second .sized) time m (Ms delay))
-        (set-near (λ x. kindStored x (Ms delay)) (λ x. refl) (λ x. refl) (samplesOf delay) .near)
-    updated-near (Auto tag) =
-        cleared-all i s l z m alike fs fz hs hz _ _ (settings-put s i _) (settings-put z i _)
-        (near-rule i s z (alike .near) low (λ x. clearedSlot (kindStored x (Auto tag))) (λ x. refl) (λ x. refl))
-
-    same-words : (kind : ExtraDelay) → updated i kind time z m .words ≡ updated i kind time s l .words
-    unfolding updated cleared delaySet setDelayOf sendFirst quiet
-    same-words (Ms delay) = refl
-    same-words (Auto tag) = refl
+        let d = set-near (λ x. kindStored x (Ms delay)) (λ x. refl) (λ x. refl) _ in
+        (near-lists i s l z m alike _ _ (updated-settings i low s (b .first .sized) time l (Ms delay)) (updated-settings i low z (b .second .sized) time m (Ms delay)) (d .near), d .words)
+    updated-near (Auto tag) = (
+      cleared-all i s l z m alike fs fz hs hz _ _ (settings-put s i _) (settings-put z i _)
+          (near-rule i s z (alike .near) low (λ x. clearedSlot (kindStored x (Auto tag))) (λ x. refl) (λ x. refl)),
+      refl,
+    )
 
     pub updated-bond : (kind : ExtraDelay) → BondEffect i uses (updated i kind time s l) (updated i kind time z m)
     updated-bond kind = record {
-      bond = bond-own i uses s l z m b _ _ _ _ (updated-kept i low s (b .first .sized) time l kind) (updated-kept i low z (b .second .sized) time m kind) (updated-near kind);
-      words = same-words kind;
+      bond = bond-own i uses s l z m b _ _ _ _ (updated-kept i low s (b .first .sized) time l kind) (updated-kept i low z (b .second .sized) time m kind) (updated-near kind .0);
+      words = updated-near kind .1;
     }
 
   by-near : (proposal : Proposal) → NearAll i (confirmedBy proposal i time s l .inputs) (confirmedBy proposal i time s l .lists) (confirmedBy proposal i time z m .inputs) (confirmedBy proposal i time z m .lists)
