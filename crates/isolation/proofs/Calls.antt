@@ -39,7 +39,7 @@ use Rattle.third_demand.specs.Calls.{routes, updates, ticks, after}
 use Rattle.third_demand.proofs.Given.{passed-of}
 use Rattle.third_demand.proofs.Refused.{Unchanged, reply-unchanged, unchanged-of, refused-after}
 use Rattle.sent_delays.proofs.Words.{WholeCommands}
-use Rattle.isolation.specs.Acts.{Act, calls, confirms, Tick, tick, does, Taken, commandsTo}
+use Rattle.isolation.specs.Acts.{Act, calls, confirms, TickData, tick, does, Taken, commandsTo}
 use Rattle.isolation.specs.Isolation.{On, Off, TickAlike, MadeBy}
 use Rattle.isolation.proofs.Apart.{RouteApart}
 use Rattle.isolation.proofs.Tables.{Table, Outside, outside-kept}
@@ -240,7 +240,7 @@ module _ (i : ℕ) (uses : Flow → Bool) (r z : Reply) (b : Bond i uses (r .inp
 
   -- .. at one time
   pub tick-joined :
-      (one two : Tick) → TickAlike i one two → Taken r (tick one) → Taken z (tick two) → i < r .inputs .count → i < z .inputs .count → lookAt (one .looks) i .world .made ≡ true →
+      (one two : TickData) → TickAlike i one two → Taken r (tick one) → Taken z (tick two) → i < r .inputs .count → i < z .inputs .count → lookAt (one .looks) i .world .made ≡ true →
       Joined i uses (does r (tick one)) (does z (tick two))
   tick-joined one two alike tr tz hr hz can =
       subst (λ (time : ℕ). Taken z (calls (ticks (two .looks) (two .lags) time)) → Joined i uses (does r (tick one)) (does z (calls (ticks (two .looks) (two .lags) time)))) (sym (alike .time))

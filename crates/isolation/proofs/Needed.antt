@@ -35,7 +35,7 @@ use Rattle.rules_calls.specs.declared.Wanted.the-variants as Wanted
 use Rattle.rules_tick.specs.declared.Look.{Look}
 use Rattle.third_demand.specs.Calls.{routes, after, Night, fresh}
 use Rattle.third_demand.proofs.Opened.{base-opened, window-opened, hold-opened, record-opened, routing-opened, calls-opened, tick-opened}
-use Rattle.isolation.specs.Acts.{Act, calls, Tick, tick, does, Taken, played}
+use Rattle.isolation.specs.Acts.{Act, calls, TickData, tick, does, Taken, played}
 use Rattle.isolation.specs.Isolation.{Step, shared, ticked, second, inFirst, inSecond, flowsFor, itself, another, among, Isolated}
 use Rattle.isolation.specs.Needed.{WithoutMade, WithoutSeparate, WithoutAgreed}
 use Rattle.isolation.proofs.Theorem.{isolation}
@@ -73,7 +73,7 @@ routeAway input = calls (routes input Wanted.Nothing 0 (world true))
 abbrev lookAs : (applied lags : ℕ) → Look
 lookAs applied lags = record { seen = Inode.Of 7; world = world true; applied = applied; lags = lags }
 
-abbrev tickAs : (own others : List ℕ) (applied : ℕ) → Tick
+abbrev tickAs : (own others : List ℕ) (applied : ℕ) → TickData
 tickAs own others applied = record { looks = lookAs 0 (length own) ∷ lookAs applied (length others) ∷ []; lags = own ++ others; time = nanos }
 
 -- ---- what the runs leave of an input
@@ -181,7 +181,7 @@ made-needed claim =
     not-both (ap isRunning (alike .same .state ∙ c .state-first)) (ap isRunning (c .state-second))
 
 -- ---- without "no other input is ever routed to a flow which that input ever uses": what was set for the other is remembered for the flow
-abbrev late : Tick
+abbrev late : TickData
 late = tickAs [] (485 ∷ []) 0
 
 abbrev shares : List Step

@@ -16,12 +16,12 @@ pub data Act : Type 0 where
   confirms : (input time : ℕ) → Act
 
 -- what a tick brings
-pub record Tick : Type 0 where
+pub record TickData : Type 0 where
   pub looks : List Look
   pub lags : List ℕ
   pub time : ℕ
 
-abbrev pub tick : Tick → Act
+abbrev pub tick : TickData → Act
 tick brought = calls (ticks (brought .looks) (brought .lags) (brought .time))
 
 -- "each call getting what the one before left"

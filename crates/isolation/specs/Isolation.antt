@@ -14,14 +14,14 @@ use Rattle.rules_calls.specs.declared.Wanted.the-variants.{Nothing, From}
 use Rattle.rules_calls.specs.Settled.{settledReply}
 use Rattle.rules_tick.specs.Looks.{lookAt, lagsOf}
 use Rattle.third_demand.specs.Calls.{routes, updates, ticks, Night, fresh}
-use Rattle.isolation.specs.Acts.{Act, calls, confirms, Tick, tick, does, Taken, played, sentTo}
+use Rattle.isolation.specs.Acts.{Act, calls, confirms, TickData, tick, does, Taken, played, sentTo}
 
 -- ---- "Two runs make, in the same order and at the same times, the same calls on one input and the same ticks .. They may differ in everything
 -- told about the others and in the calls on them."
 -- One step of the two runs: a call that both make, a tick of each, a call that only the first or only the second makes.
 pub data Step : Type 0 where
   shared : Act → Step
-  ticked : (one two : Tick) → Step
+  ticked : (one two : TickData) → Step
   first : Act → Step
   second : Act → Step
 
@@ -41,21 +41,21 @@ inSecond (first act ∷ steps) = inSecond steps
 inSecond (second act ∷ steps) = act ∷ inSecond steps
 
 -- a call on one input, of which P says something; a tick is none
-abbrev pub CallOn : (P : ℕ → Type 0) → Act → Type 0
-CallOn P (calls (routes input wanted time world)) = P input
-CallOn P (calls (updates input setting time)) = P input
-CallOn P (calls (ticks looks lags time)) = ⊥
-CallOn P (confirms input time) = P input
+abbrev pub OfInput : (P : ℕ → Type 0) → Act → Type 0
+OfInput P (calls (routes input wanted time world)) = P input
+OfInput P (calls (updates input setting time)) = P input
+OfInput P (calls (ticks looks lags time)) = ⊥
+OfInput P (confirms input time) = P input
 
 -- a call on input i, and one on another
 abbrev pub On : (i : ℕ) → Act → Type 0
-On i = CallOn (λ input. input ≡ i)
+On i = OfInput (λ input. input ≡ i)
 
 abbrev pub Off : (i : ℕ) → Act → Type 0
-Off i = CallOn (λ input. input ≡ i → ⊥)
+Off i = OfInput (λ input. input ≡ i → ⊥)
 
 -- "the same ticks, with .. equal data for it": at one time, with one look at input i and the same lags of its own
-pub record TickAlike (i : ℕ) (one two : Tick) : Type 0 where
+pub record TickAlike (i : ℕ) (one two : TickData) : Type 0 where
   pub time : two .time ≡ one .time
   pub look : lookAt (two .looks) i ≡ lookAt (one .looks) i
   pub lags : lagsOf (two .looks) (two .lags) i ≡ lagsOf (one .looks) (one .lags) i
