@@ -24,7 +24,8 @@ use Rattle.isolation.proofs.Near.{unplaced, memoryAt, Placed, settings-
 use Rattle.isolation.proofs.Opens.{by-routes}
 use Rattle.isolation.proofs.OwnTick.{NearAll}
 use Rattle.isolation.proofs.Kept.{Away, Kept}
-use Rattle.isolation.proofs.Tables.{Known, Lies, Table, memoryOf, memory-here, table-kept, kept-memory, Outside}
+use Rattle.isolation.proofs.Tables.{Known, Lies, Table, memoryOf, memory-here, table-kept, kept-memory}
+use Rattle.isolation.proofs.Outside.{Outside}
 
 -- the flow of a route, zero where there is none
 abbrev pub namedFlow : Inputs → Routed → Flow

@@ -42,7 +42,8 @@ use Rattle.sent_delays.proofs.Words.{WholeCommands}
 use Rattle.isolation.specs.Acts.{Act, calls, confirms, TickData, tick, does, Taken, commandsTo}
 use Rattle.isolation.specs.Isolation.{On, Off, TickAlike, MadeBy}
 use Rattle.isolation.proofs.Apart.{RouteApart}
-use Rattle.isolation.proofs.Tables.{Table, Outside, outside-kept}
+use Rattle.isolation.proofs.Tables.{Table}
+use Rattle.isolation.proofs.Outside.{Outside, outside-kept}
 use Rattle.isolation.proofs.Bond.{Bond}
 use Rattle.isolation.proofs.Words.{AllTo, all-whole, to-padded, to-other, routed-words, updated-words, confirmed-words}
 use Rattle.isolation.proofs.Ticks.{tick-bond, tick-sent, tick-whole}

@@ -32,7 +32,8 @@ use Rattle.rules_calls.specs.RouteChecks.{wantedFits}
 use Rattle.rules_calls.specs.Route.{enrolledFor, routeFor, equalRoute, routedSlot, openedFor, moved, rerouted, routedTo, routed}
 use Rattle.rules_tick.proofs.TickSame.{SameInput}
 use Rattle.isolation.proofs.Kept.{Kept, kept-none, kept-then, kept-put, kept-stored, open-kept}
-use Rattle.isolation.proofs.Tables.{Known, Lies, Table, Outside, outside-none, outside-then, outside-kept, outside-put, outside-enrolled}
+use Rattle.isolation.proofs.Tables.{Known, Lies, Table}
+use Rattle.isolation.proofs.Outside.{Outside, outside-none, outside-then, outside-kept, outside-put, outside-enrolled}
 use Rattle.isolation.proofs.Bond.{namedFlow}
 
 -- an input whose slot and lists stay, under the same settings

@@ -30,7 +30,8 @@ use Rattle.isolation.specs.Acts.{commandsTo}
 use Rattle.isolation.proofs.Near.{recalled-flows}
 use Rattle.isolation.proofs.OwnTick.{NearEffect, ticked-near}
 use Rattle.isolation.proofs.Kept.{Kept, input-kept}
-use Rattle.isolation.proofs.Tables.{Table, Outside, outside-none, outside-then, outside-kept}
+use Rattle.isolation.proofs.Tables.{Table}
+use Rattle.isolation.proofs.Outside.{Outside, outside-none, outside-then, outside-kept}
 use Rattle.isolation.proofs.Bond.{Bond, bond-near, bond-first, bond-second, bond-own}
 use Rattle.isolation.proofs.Words.{AllTo, all-whole, to-append, to-other, input-words}
 
