@@ -174,10 +174,10 @@ unfolding inFirst inSecond
 made-needed claim =
     let c = unmade-computed in
     let alike =
-    claim night 0 unmade (computed .new) (omega arith) (refl, (refl, ((λ e. omega arith), (refl, tt)))) (
-      (none-among _ _ (c .differ-first), none-among _ _ (c .differ-second)),
-      (((λ took. c .opened), (λ took. c .opened)), (((λ took. c .left), (λ took. c .left)), (((λ took. c .again-second), (λ took. c .again-first)), tt))),
-    ) in
+    claim night 0 unmade (computed .new) (omega arith) (refl, (refl, ((λ e. omega arith), (refl, tt))))
+    (none-among _ _ (c .differ-first), none-among _ _ (c .differ-second))
+    tt
+    (((λ took. c .opened), (λ took. c .opened)), (((λ took. c .left), (λ took. c .left)), (((λ took. c .again-second), (λ took. c .again-first)), tt))) in
     not-both (ap isRunning (alike .same .state ∙ c .state-first)) (ap isRunning (c .state-second))
 
 -- ---- without "no other input is ever routed to a flow which that input ever uses": what was set for the other is remembered for the flow
@@ -204,10 +204,10 @@ unfolding base-opened tick-opened inFirst inSecond
 separate-needed claim =
     let c = shares-computed in
     let alike =
-    claim night 0 shares (computed .new) (omega arith) ((λ e. omega arith), (record { time = refl; look = refl; lags = refl }, (refl, tt))) (
-      (((λ took. refl), ((λ took e. refl), tt)), ((λ took e. refl), ((λ took. refl), ((λ took e. refl), tt)))),
-      (((λ took. c .tick-second), (λ took. c .tick-first)), (((λ took. c .route-second), (λ took. c .route-first)), tt)),
-    ) in
+    claim night 0 shares (computed .new) (omega arith) ((λ e. omega arith), (record { time = refl; look = refl; lags = refl }, (refl, tt)))
+    tt
+    (((λ took. refl), ((λ took e. refl), tt)), ((λ took e. refl), ((λ took. refl), ((λ took e. refl), tt))))
+    (((λ took. c .tick-second), (λ took. c .tick-first)), (((λ took. c .route-second), (λ took. c .route-first)), tt)) in
     omega (arith, alike .same .delay, c .delay-first, c .delay-second)
 
 -- ---- without "the same calls on it and the same ticks are accepted": a tick refused for the applied delay of the other
@@ -230,5 +230,7 @@ agreed-needed claim =
     let c = refuses-computed in
     let alike =
     claim night 0 refuses (computed .new) (omega arith) (refl, (record { time = refl; look = refl; lags = refl }, tt))
-    ((none-among _ _ (c .differ-first), none-among _ _ (c .differ-second)), (((λ took e. refl), ((λ took. refl), tt)), ((λ took e. refl), ((λ took. refl), tt)))) in
+    (none-among _ _ (c .differ-first), none-among _ _ (c .differ-second))
+    (((λ took e. refl), ((λ took. refl), tt)), ((λ took e. refl), ((λ took. refl), tt)))
+    tt in
     omega (arith, alike .same .delay, c .delay-first, c .delay-second)
