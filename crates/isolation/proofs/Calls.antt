@@ -40,7 +40,7 @@ use Rattle.third_demand.proofs.Given.{passed-of}
 use Rattle.third_demand.proofs.Refused.{Unchanged, reply-unchanged, unchanged-of, refused-after}
 use Rattle.sent_delays.proofs.Words.{WholeCommands}
 use Rattle.isolation.specs.Acts.{Act, calls, confirms, TickData, tick, does, Taken, commandsTo}
-use Rattle.isolation.specs.Isolation.{On, Off, TickAlike, MadeBy}
+use Rattle.isolation.specs.Isolation.{On, Off, TickAlike, CanMake, MadeBy}
 use Rattle.isolation.proofs.Apart.{RouteApart}
 use Rattle.isolation.proofs.Tables.{Table}
 use Rattle.isolation.proofs.Outside.{Outside, outside-kept}
@@ -179,7 +179,7 @@ module _ (i : ℕ) (uses : Flow → Bool) (r z : Reply) (b : Bond i uses (r .inp
       let q = route-told (z .inputs) (z .lists) (length (z .commands)) i wanted time world (passed-of k (z .inputs) (z .lists) (z .commands) f tz) in
       coe 1 0 (x. Joined i uses (took-of n (r .inputs) (r .lists) (r .commands) e tr x) (took-of k (z .inputs) (z .lists) (z .commands) f tz x))
       (joined-by n k e f
-      (routed-bond i uses (p .2) time world (can refl) (r .inputs) (r .lists) (z .inputs) (z .lists) b (p .0) (q .0) (p .1) (q .1) wanted (p .3) (q .3) (wanted-own i uses wanted time world lies))
+      (routed-bond i uses (p .2) time world (r .inputs) (r .lists) (z .inputs) (z .lists) b (p .0) (q .0) (p .1) (q .1) wanted (can refl) (p .3) (q .3) (wanted-own i uses wanted time world lies))
       (all-whole i (e .words) (routed-words i (p .2) wanted time world (r .inputs) (r .lists) (b .first .sized)))
       (all-whole i (f .words) (routed-words i (p .2) wanted time world (z .inputs) (z .lists) (b .second .sized))))
 
@@ -216,7 +216,7 @@ module _ (i : ℕ) (uses : Flow → Bool) (r z : Reply) (b : Bond i uses (r .inp
 
   tick-at :
       (looks : List Look) (lags : List ℕ) (looks2 : List Look) (lags2 : List ℕ) (time : ℕ) → Taken r (calls (ticks looks lags time)) → Taken z (calls (ticks looks2 lags2 time)) →
-      i < r .inputs .count → i < z .inputs .count → lookAt looks2 i ≡ lookAt looks i → lagsOf looks2 lags2 i ≡ lagsOf looks lags i → lookAt looks i .world .made ≡ true →
+      i < r .inputs .count → i < z .inputs .count → lookAt looks2 i ≡ lookAt looks i → lagsOf looks2 lags2 i ≡ lagsOf looks lags i → CanMake (lookAt looks i .world) →
       Joined i uses (does r (calls (ticks looks lags time))) (does z (calls (ticks looks2 lags2 time)))
   unfolding does after tickReply
   tick-at looks lags looks2 lags2 time tr tz hr hz same-look same-lags can =
@@ -241,7 +241,7 @@ module _ (i : ℕ) (uses : Flow → Bool) (r z : Reply) (b : Bond i uses (r .inp
 
   -- .. at one time
   pub tick-joined :
-      (one two : TickData) → TickAlike i one two → Taken r (tick one) → Taken z (tick two) → i < r .inputs .count → i < z .inputs .count → lookAt (one .looks) i .world .made ≡ true →
+      (one two : TickData) → TickAlike i one two → Taken r (tick one) → Taken z (tick two) → i < r .inputs .count → i < z .inputs .count → CanMake (lookAt (one .looks) i .world) →
       Joined i uses (does r (tick one)) (does z (tick two))
   tick-joined one two alike tr tz hr hz can =
       subst (λ (time : ℕ). Taken z (calls (ticks (two .looks) (two .lags) time)) → Joined i uses (does r (tick one)) (does z (calls (ticks (two .looks) (two .lags) time)))) (sym (alike .time))

@@ -148,7 +148,7 @@ isolated-here =
     isolation night 0 apart [] (computed .new) (omega arith)
     ((λ e. omega arith), (refl, (record { time = refl; look = refl; lags = refl }, tt)))
     (none-among _ _ (computed .differ-first)) (none-among _ _ (computed .differ-second))
-    ((λ took e. refl), ((λ took. refl), tt))
+    ((λ took e inode seen. refl), ((λ took inode seen. refl), tt))
     (((λ took. computed .route-second), (λ took. computed .route-first)), (((λ took. computed .tick-second), (λ took. computed .tick-first)), tt))
 
 -- ---- without "every instance can be made": the instance of a route that was left stays until another's route has it pruned
@@ -206,7 +206,7 @@ separate-needed claim =
     let alike =
     claim night 0 shares (computed .new) (omega arith) ((λ e. omega arith), (record { time = refl; look = refl; lags = refl }, (refl, tt)))
     tt
-    (((λ took. refl), ((λ took e. refl), tt)), ((λ took e. refl), ((λ took. refl), ((λ took e. refl), tt))))
+    (((λ took inode seen. refl), ((λ took e inode seen. refl), tt)), ((λ took e inode seen. refl), ((λ took inode seen. refl), ((λ took e inode seen. refl), tt))))
     (((λ took. c .tick-second), (λ took. c .tick-first)), (((λ took. c .route-second), (λ took. c .route-first)), tt)) in
     omega (arith, alike .same .delay, c .delay-first, c .delay-second)
 
@@ -231,6 +231,6 @@ agreed-needed claim =
     let alike =
     claim night 0 refuses (computed .new) (omega arith) (refl, (record { time = refl; look = refl; lags = refl }, tt))
     (none-among _ _ (c .differ-first), none-among _ _ (c .differ-second))
-    (((λ took e. refl), ((λ took. refl), tt)), ((λ took e. refl), ((λ took. refl), tt)))
+    (((λ took e inode seen. refl), ((λ took inode seen. refl), tt)), ((λ took e inode seen. refl), ((λ took inode seen. refl), tt)))
     tt in
     omega (arith, alike .same .delay, c .delay-first, c .delay-second)

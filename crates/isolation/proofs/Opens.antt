@@ -40,6 +40,7 @@ use Rattle.rules_routing.specs.Watch.{lostSlot, movedSlot, stallsNow, watchSame
 use Rattle.rules_routing.proofs.SettingsKept.{SameSettings}
 use Rattle.rules_tick.specs.declared.Look.{Look}
 use Rattle.rules_tick.specs.Tick.{looked}
+use Rattle.isolation.specs.Isolation.{CanMake}
 use Rattle.isolation.proofs.Near.{nameless, unplaced, memoryAt, recalled-flows, Near, near-as, near-rule, near-stored}
 
 -- what two steps did: records alike, and the same words
@@ -63,7 +64,7 @@ unfolding sendFirst
 near-first i words a b n = record { near = n .near; words = ap (λ (x : List ℕ). words ++ x) (n .words) }
 
 -- the two routes are both none, or both lead to a flow
-abbrev isRouted : Routed → Bool
+abbrev pub isRouted : Routed → Bool
 isRouted Nowhere = false
 isRouted (To route) = true
 
@@ -189,20 +190,20 @@ module _ (i : ℕ) (low : i < 16) (time : ℕ) where
         memory-then : recalled second-record other ≡ recalled first-record place
         memory-then = recalled-flows z second-record other (put-flows z i _) ∙ memory ∙ sym (recalled-flows s first-record place (put-flows s i _))
 
-    module _ (can : world .made ≡ true) where
-      at-near : (a b : Instance) (s z : Inputs) → Near i s z → b .inode ≡ a .inode → recalled z (b .flow) ≡ recalled s (a .flow) → NearDone i (openAt a s i time world) (openAt b z i time world)
-      at-near a b s z n same memory =
-          at-rule (λ done. NearDone i done (openAt b z i time world)) a s i time world can
-          (λ y ey. at-rule (λ done. NearDone i (openReader (world .reader) (a .flow) (a .inode) y i time world) done) b z i time world can
-          (λ w ew.
-          subst (λ (inode : ℕ). NearDone i (openReader (world .reader) (a .flow) (a .inode) y i time world) (openReader (world .reader) (b .flow) inode w i time world)) (sym same)
-          (reader-near (world .reader) (a .flow) (b .flow) (a .inode) y w (near-instanced i s z y w n ey ew)
-          (recalled-flows z w (b .flow) (instanced-flows z w ew) ∙ memory ∙ sym (recalled-flows s y (a .flow) (instanced-flows s y ey))))))
+    at-near : world .made ≡ true → (a b : Instance) (s z : Inputs) → Near i s z → b .inode ≡ a .inode → recalled z (b .flow) ≡ recalled s (a .flow) → NearDone i (openAt a s i time world) (openAt b z i time world)
+    at-near can a b s z n same memory =
+        at-rule (λ done. NearDone i done (openAt b z i time world)) a s i time world can
+        (λ y ey. at-rule (λ done. NearDone i (openReader (world .reader) (a .flow) (a .inode) y i time world) done) b z i time world can
+        (λ w ew.
+        subst (λ (inode : ℕ). NearDone i (openReader (world .reader) (a .flow) (a .inode) y i time world) (openReader (world .reader) (b .flow) inode w i time world)) (sym same)
+        (reader-near (world .reader) (a .flow) (b .flow) (a .inode) y w (near-instanced i s z y w n ey ew)
+        (recalled-flows z w (b .flow) (instanced-flows z w ew) ∙ memory ∙ sym (recalled-flows s y (a .flow) (instanced-flows s y ey))))))
 
-      seen-near : (seen : Inode) (place other : ℕ) (s z : Inputs) → Near i s z → recalled z other ≡ recalled s place → NearDone i (openSeen seen place s i time world) (openSeen seen other z i time world)
+    module _ (can : CanMake world) where
+      seen-near : (seen : Inode) → world .inode ≡ seen → (place other : ℕ) (s z : Inputs) → Near i s z → recalled z other ≡ recalled s place → NearDone i (openSeen seen place s i time world) (openSeen seen other z i time world)
       unfolding openSeen
-      seen-near Gone place other s z n memory = near-quiet i s z n
-      seen-near (Of inode) place other s z n memory = at-near (record { flow = place; inode = inode }) (record { flow = other; inode = inode }) s z n refl memory
+      seen-near Gone e place other s z n memory = near-quiet i s z n
+      seen-near (Of inode) e place other s z n memory = at-near (can inode e) (record { flow = place; inode = inode }) (record { flow = other; inode = inode }) s z n refl memory
 
       pub open-near : (s z : Inputs) → Near i s z → NearDone i (tryOpenOf s i time world) (tryOpenOf z i time world)
       unfolding tryOpenOf openRouted
@@ -210,7 +211,7 @@ module _ (i : ℕ) (low : i < 16) (time : ℕ) where
           by-routes (λ p q. memoryAt q z ≡ memoryAt p s → NearDone i (openRouted p s i time world) (openRouted q z i time world)) (slotAt s i .route) (slotAt z i .route)
           (ap (λ (x : Slot). x .route) (n .slot))
           (λ memory. near-quiet i s z n)
-          (λ a b ea eb memory. seen-near (world .inode) (a .flow) (b .flow) s z n memory)
+          (λ a b ea eb memory. seen-near (world .inode) refl (a .flow) (b .flow) s z n memory)
           (n .memory)
 
       -- ---- `watch`
@@ -252,7 +253,7 @@ module _ (i : ℕ) (low : i < 16) (time : ℕ) where
           (λ a b ea eb. watch-seen-near seen s z n)
 
   -- "then Waiting opens, Running or Stalled watches"
-  pub looked-near : (look : Look) → look .world .made ≡ true → (s z : Inputs) → Near i s z → NearDone i (looked i look time s) (looked i look time z)
+  pub looked-near : (look : Look) → CanMake (look .world) → (s z : Inputs) → Near i s z → NearDone i (looked i look time s) (looked i look time z)
   unfolding looked
   looked-near look can s z n =
       pick-two (NearDone i) (isWaiting (slotAt s i .state)) (isWaiting (slotAt z i .state)) (ap (λ (x : Slot). isWaiting (x .state)) (n .slot))

@@ -6,9 +6,11 @@ use mathlib.Core.List.{[], _++_}
 use lib.Dec.{eqb}
 use borrow.Author.Tests.{eq-eqb}
 use Rattle.base.specs.Choice.{pick, both}
+use Rattle.base.proofs.Tests.{not-both}
 use Rattle.rules_record.specs.declared.Flow.{Flow}
 use Rattle.rules_record.specs.declared.Inode.the-variants.{Gone}
 use Rattle.rules_record.specs.declared.Proposal.the-variants.{Nothing}
+use Rattle.rules_record.specs.declared.Route.{Route}
 use Rattle.rules_record.specs.declared.Routed.{Routed}
 use Rattle.rules_record.specs.declared.Routed.the-variants.{Nowhere, To}
 use Rattle.rules_record.specs.declared.Slot.{Slot}
@@ -31,8 +33,9 @@ use Rattle.rules_calls.specs.declared.Wanted.the-variants as Wanted
 use Rattle.rules_calls.specs.RouteChecks.{wantedFits}
 use Rattle.rules_calls.specs.Route.{enrolledFor, routeFor, equalRoute, startsOver, forgetting, zeroing, startedOver, stateFor, routedSlot, openedFor, moved, rerouted, routedTo, routed}
 use Rattle.rules_calls.proofs.Enrolling.{for-fitting, for-count}
+use Rattle.isolation.specs.Isolation.{CanMake, CanMakeFor}
 use Rattle.isolation.proofs.Near.{nameless, unplaced, memoryAt, memory-flows, settings-both, Near}
-use Rattle.isolation.proofs.Opens.{pick-two, by-routes, open-near}
+use Rattle.isolation.proofs.Opens.{pick-two, isRouted, by-routes, open-near}
 use Rattle.isolation.proofs.OwnTick.{NearAll, near-lists}
 use Rattle.isolation.proofs.Kept.{open-kept}
 use Rattle.isolation.proofs.Tables.{Known, Lies, table-put, put-memory}
@@ -55,8 +58,8 @@ forget-same : (i : ℕ) (p q : Routed) → nameless q ≡ nameless p → forgett
 forget-same i p q e = by-routes (λ x y. forgetting i y ≡ forgetting i x) p q e refl (λ a b ep eq. refl)
 
 -- ---- a route in records that know its flow
-module _ (i : ℕ) (uses : Flow → Bool) (low : i < 16) (time : ℕ) (world : World) (can : world .made ≡ true) (s : Inputs) (l : Lists) (z : Inputs) (m : Lists) (b : Bond i uses s l z m)
-    (fs : Fitting s l) (fz : Fitting z m) (hs : i < s .count) (hz : i < z .count) (wanted : Wanted) where
+module _ (i : ℕ) (uses : Flow → Bool) (low : i < 16) (time : ℕ) (world : World) (s : Inputs) (l : Lists) (z : Inputs) (m : Lists) (b : Bond i uses s l z m)
+    (fs : Fitting s l) (fz : Fitting z m) (hs : i < s .count) (hz : i < z .count) (wanted : Wanted) (can : CanMakeFor wanted world) where
   abbrev first-new : Routed
   first-new = routeFor s wanted
 
@@ -179,13 +182,18 @@ module _ (i : ℕ) (uses : Flow → Bool) (low : i < 16) (time : ℕ) (world : W
         first-new second-new (new-nameless i uses s z (b .first) (b .second) wanted)
         (put-bond, refl)
         (λ p q ep eq.
-        let d = open-near i low time world can first-put second-put put-near in (
+        let d = open-near i low time world (asked-made wanted p ep can) first-put second-put put-near in (
           bond-own i uses first-put (clearedLists i s l) second-put (clearedLists i z m) put-bond _ _ _ _
               (open-kept i low time world first-put (put-near .sized-first)) (open-kept i low time world second-put (put-near .sized-second))
               (near-lists i first-put (clearedLists i s l) second-put (clearedLists i z m) put-all _ _
               (settings-frame i first-put _ (open-leaves i first-put time world)) (settings-frame i second-put _ (open-leaves i second-put time world)) (d .near)),
           d .words,
         ))
+      where
+        -- a route to nothing opens nothing
+        asked-made : (w : Wanted) (route : Route) → routeFor s w ≡ To route → CanMakeFor w world → CanMake world
+        asked-made Wanted.Nothing route e h = absurd (not-both (ap isRouted e) refl)
+        asked-made (Wanted.From source) route e h = h
 
     to-bond : BondEffect i uses (routedTo first-new i time world s l) (routedTo second-new i time world z m)
     unfolding routedTo rerouted moved followedBy cleared
@@ -200,13 +208,13 @@ module _ (i : ℕ) (uses : Flow → Bool) (low : i < 16) (time : ℕ) (world : W
 
 -- ---- the route: its flow is enrolled in both
 pub routed-bond :
-    (i : ℕ) (uses : Flow → Bool) → i < 16 → (time : ℕ) (world : World) → world .made ≡ true → (s : Inputs) (l : Lists) (z : Inputs) (m : Lists) → Bond i uses s l z m →
-    Fitting s l → Fitting z m → i < s .count → i < z .count → (wanted : Wanted) → wantedFits s wanted ≡ true → wantedFits z wanted ≡ true → WantedLies uses true wanted →
+    (i : ℕ) (uses : Flow → Bool) → i < 16 → (time : ℕ) (world : World) (s : Inputs) (l : Lists) (z : Inputs) (m : Lists) → Bond i uses s l z m →
+    Fitting s l → Fitting z m → i < s .count → i < z .count → (wanted : Wanted) → CanMakeFor wanted world → wantedFits s wanted ≡ true → wantedFits z wanted ≡ true → WantedLies uses true wanted →
     BondEffect i uses (routed i wanted time world s l) (routed i wanted time world z m)
 unfolding routed
-routed-bond i uses low time world can s l z m b fs fz hs hz wanted ws wz lies =
-    to-bond i uses low time world can x l y m both-enrolled (for-fitting s wanted l fs) (for-fitting z wanted m fz)
-    (subst (λ (n : ℕ). i < n) (sym (for-count s wanted)) hs) (subst (λ (n : ℕ). i < n) (sym (for-count z wanted)) hz) wanted
+routed-bond i uses low time world s l z m b fs fz hs hz wanted can ws wz lies =
+    to-bond i uses low time world x l y m both-enrolled (for-fitting s wanted l fs) (for-fitting z wanted m fz)
+    (subst (λ (n : ℕ). i < n) (sym (for-count s wanted)) hs) (subst (λ (n : ℕ). i < n) (sym (for-count z wanted)) hz) wanted can
     (new-known i uses s (b .first) wanted ws) (new-known i uses z (b .second) wanted wz)
     (new-named i uses s (b .first) wanted ws) (new-named i uses z (b .second) wanted wz)
     (new-lies i uses s (b .first) wanted ws (eqb i i) side) (new-lies i uses z (b .second) wanted wz (eqb i i) side) lies

@@ -39,6 +39,7 @@ use Rattle.rules_tick.specs.Tick.{heard, looked, tickedInput}
 use Rattle.rules_tick.proofs.TickSame.{buckets-same}
 use Rattle.rules_tick.proofs.Looked.{looked-settings}
 use Rattle.rules_tick.proofs.TickFrames.{between-ready}
+use Rattle.isolation.specs.Isolation.{CanMake}
 use Rattle.isolation.proofs.Near.{Near, near-put, near-rule, near-stored}
 use Rattle.isolation.proofs.Opens.{NearDone, pick-two, near-quiet, near-first, looked-near}
 
@@ -200,7 +201,7 @@ module _ (i : ℕ) (low : i < 16) (time : ℕ) where
 
 -- ---- the tick of the input
 module _ (i : ℕ) (look : Look) (lags : List ℕ) (time : ℕ) (s : Inputs) (l : Lists) (z : Inputs) (m : Lists) (a : NearAll i s l z m) (rs : Ready s l i) (rz : Ready z m i) (soon : time ≤ timeLimit)
-    (room : roomFor time (length lags) (windowOf s l i) ≡ true) (can : look .world .made ≡ true) where
+    (room : roomFor time (length lags) (windowOf s l i) ≡ true) (can : CanMake (look .world)) where
   input : i < 16
   input = ready-low s l i rs
 

@@ -27,6 +27,7 @@ use Rattle.rules_tick.proofs.TickAccepted.{Accepted, accepted-room}
 use Rattle.rules_tick.proofs.TickFrames.{turn, turn-none, turn-inputs, turn-lists, below-sized, input-settings, Turn, turns, turn-ready, turn-room, ticked-input, lastly-slots, lastly-settings, lastly-sized}
 use Rattle.sent_delays.proofs.Words.{WholeCommands, whole-append}
 use Rattle.isolation.specs.Acts.{commandsTo}
+use Rattle.isolation.specs.Isolation.{CanMake}
 use Rattle.isolation.proofs.Near.{recalled-flows}
 use Rattle.isolation.proofs.OwnTick.{NearEffect, ticked-near}
 use Rattle.isolation.proofs.Kept.{Kept, input-kept}
@@ -168,7 +169,7 @@ module _ (i : ℕ) (uses : Flow → Bool) (looks : List Look) (lags : List ℕ) 
 -- ---- in both
 module _ (i : ℕ) (uses : Flow → Bool) (time : ℕ) (looks : List Look) (lags : List ℕ) (s : Inputs) (l : Lists) (c : Checked s l) (facts : Accepted s l looks lags time) (h : i < s .count)
     (looks2 : List Look) (lags2 : List ℕ) (z : Inputs) (m : Lists) (c2 : Checked z m) (facts2 : Accepted z m looks2 lags2 time) (h2 : i < z .count)
-    (same-look : lookAt looks2 i ≡ lookAt looks i) (same-lags : lagsOf looks2 lags2 i ≡ lagsOf looks lags i) (can : lookAt looks i .world .made ≡ true) (b : Bond i uses s l z m) where
+    (same-look : lookAt looks2 i ≡ lookAt looks i) (same-lags : lagsOf looks2 lags2 i ≡ lagsOf looks lags i) (can : CanMake (lookAt looks i .world)) (b : Bond i uses s l z m) where
   ts : Table i uses s
   ts = b .first
 

@@ -7,9 +7,12 @@ use lib.Dec.{eqb}
 use lib.ListN.{length}
 use Rattle.base.specs.Choice.{pick, accepted}
 use Rattle.rules_record.specs.declared.Flow.{Flow}
+use Rattle.rules_record.specs.declared.Inode.the-variants.{Of}
 use Rattle.rules_record.specs.Inputs.{slotAt}
 use Rattle.rules_record.specs.Flows.{sameFlow}
 use Rattle.rules_record.specs.Reply.{Reply}
+use Rattle.rules_routing.specs.declared.World.{World}
+use Rattle.rules_calls.specs.declared.Wanted.{Wanted}
 use Rattle.rules_calls.specs.declared.Wanted.the-variants.{Nothing, From}
 use Rattle.rules_calls.specs.Settled.{settledReply}
 use Rattle.rules_tick.specs.Looks.{lookAt, lagsOf}
@@ -95,10 +98,19 @@ abbrev pub Separate : (i : ℕ) → Reply → List Act → Type 0
 Separate i r acts = (flow : Flow) → among (flowsFor (itself i) r acts) flow ≡ true → among (flowsFor (another i) r acts) flow ≡ false
 
 -- ".. every instance can be made": it is enough that the worlds of this input say so, in the calls that are accepted
+-- a world without an inode asks for none
+abbrev pub CanMake : World → Type 0
+CanMake world = (inode : ℕ) → world .inode ≡ Of inode → world .made ≡ true
+
+-- nor does a route to nothing
+abbrev pub CanMakeFor : Wanted → World → Type 0
+CanMakeFor Nothing world = Unit {0}
+CanMakeFor (From source) world = CanMake world
+
 abbrev pub MadeBy : (i : ℕ) → Act → Type 0
-MadeBy i (calls (routes input wanted time world)) = input ≡ i → world .made ≡ true
+MadeBy i (calls (routes input wanted time world)) = input ≡ i → CanMakeFor wanted world
 MadeBy i (calls (updates input setting time)) = Unit {0}
-MadeBy i (calls (ticks looks lags time)) = lookAt looks i .world .made ≡ true
+MadeBy i (calls (ticks looks lags time)) = CanMake (lookAt looks i .world)
 MadeBy i (confirms input time) = Unit {0}
 
 abbrev pub Made : (i : ℕ) → Reply → List Act → Type 0
