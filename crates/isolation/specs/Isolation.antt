@@ -19,8 +19,8 @@ use Rattle.rules_tick.specs.Looks.{lookAt, lagsOf}
 use Rattle.third_demand.specs.Calls.{routes, updates, ticks, Night, fresh}
 use Rattle.isolation.specs.Acts.{Act, calls, confirms, TickData, tick, does, Taken, played, sentTo}
 
--- ---- "Two runs make, in the same order and at the same times, the same calls on one input and the same ticks .. They may differ in everything
--- told about the others and in the calls on them."
+-- ---- "Two runs make, in the same order and at the same times, the same calls on one input and the same ticks, with equal minutes and
+-- equal data for it. They may differ in everything told about the others and in the calls on them."
 -- One step of the two runs: a call that both make, a tick of each, a call that only the first or only the second makes.
 pub data Step : Type 0 where
   shared : Act → Step
@@ -57,7 +57,8 @@ On i = OfInput (λ input. input ≡ i)
 abbrev pub Off : (i : ℕ) → Act → Type 0
 Off i = OfInput (λ input. input ≡ i → ⊥)
 
--- "the same ticks, with .. equal data for it": at one time, with one look at input i and the same lags of its own
+-- "the same ticks, with equal minutes and equal data for it": at one time, with one look at input i and the same lags of its own; a tick brings no
+-- minute
 pub record TickAlike (i : ℕ) (one two : TickData) : Type 0 where
   pub time : two .time ≡ one .time
   pub look : lookAt (two .looks) i ≡ lookAt (one .looks) i
