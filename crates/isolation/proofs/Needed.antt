@@ -147,7 +147,7 @@ unfolding base-opened tick-opened inFirst inSecond
 isolated-here =
     isolation night 0 apart [] (computed .new) (omega arith)
     ((λ e. omega arith), (refl, (record { time = refl; look = refl; lags = refl }, tt)))
-    (none-among _ _ (computed .differ-first)) (none-among _ _ (computed .differ-second))
+    (none-among _ _ (computed .differ-first), none-among _ _ (computed .differ-second))
     ((λ took e inode seen. refl), ((λ took inode seen. refl), tt))
     (((λ took. computed .route-second), (λ took. computed .route-first)), (((λ took. computed .tick-second), (λ took. computed .tick-first)), tt))
 
@@ -174,7 +174,7 @@ unfolding inFirst inSecond
 made-needed claim =
     let c = unmade-computed in
     let alike =
-    claim night 0 unmade (computed .new) (omega arith) (refl, (refl, ((λ e. omega arith), (refl, tt))))
+    claim night 0 unmade [] (computed .new) (omega arith) (refl, (refl, ((λ e. omega arith), (refl, tt))))
     (none-among _ _ (c .differ-first), none-among _ _ (c .differ-second))
     tt
     (((λ took. c .opened), (λ took. c .opened)), (((λ took. c .left), (λ took. c .left)), (((λ took. c .again-second), (λ took. c .again-first)), tt))) in
@@ -204,9 +204,9 @@ unfolding base-opened tick-opened inFirst inSecond
 separate-needed claim =
     let c = shares-computed in
     let alike =
-    claim night 0 shares (computed .new) (omega arith) ((λ e. omega arith), (record { time = refl; look = refl; lags = refl }, (refl, tt)))
+    claim night 0 shares [] (computed .new) (omega arith) ((λ e. omega arith), (record { time = refl; look = refl; lags = refl }, (refl, tt)))
     tt
-    (((λ took inode seen. refl), ((λ took e inode seen. refl), tt)), ((λ took e inode seen. refl), ((λ took inode seen. refl), ((λ took e inode seen. refl), tt))))
+    ((λ took inode seen. refl), ((λ took e inode seen. refl), tt))
     (((λ took. c .tick-second), (λ took. c .tick-first)), (((λ took. c .route-second), (λ took. c .route-first)), tt)) in
     omega (arith, alike .same .delay, c .delay-first, c .delay-second)
 
@@ -229,7 +229,7 @@ unfolding base-opened tick-opened inFirst inSecond
 agreed-needed claim =
     let c = refuses-computed in
     let alike =
-    claim night 0 refuses (computed .new) (omega arith) (refl, (record { time = refl; look = refl; lags = refl }, tt))
+    claim night 0 refuses [] (computed .new) (omega arith) (refl, (record { time = refl; look = refl; lags = refl }, tt))
     (none-among _ _ (c .differ-first), none-among _ _ (c .differ-second))
     (((λ took e inode seen. refl), ((λ took inode seen. refl), tt)), ((λ took e inode seen. refl), ((λ took inode seen. refl), tt)))
     tt in

@@ -215,15 +215,15 @@ not-among mine others separate flow h = by-bool (among mine flow) (λ e. absurd 
 
 -- One bedroom cannot move another's delay.
 pub isolation : Isolation
-isolation night i steps later is-new there paired separate separate2 made agreed =
+isolation night i steps later is-new there paired separate made agreed =
     let all : List Step = steps ++ later in
     let mine : List Flow = flowsFor (itself i) (fresh night) (inFirst all) in
     let uses : Flow → Bool = among mine in
-    let a : Apart i uses (fresh night) (inFirst all) = apart-of i uses (fresh night) (inFirst all) (λ flow h. h) (not-among mine (flowsFor (another i) (fresh night) (inFirst all)) separate) in
+    let a : Apart i uses (fresh night) (inFirst all) = apart-of i uses (fresh night) (inFirst all) (λ flow h. h) (not-among mine (flowsFor (another i) (fresh night) (inFirst all)) (separate .0)) in
     let mine2 : flowsFor (itself i) (fresh night) (inSecond all) ≡ mine = same-flows i all (fresh night) (fresh night) paired agreed in
     let c : Apart i uses (fresh night) (inSecond all) =
     apart-of i uses (fresh night) (inSecond all) (λ flow h. ap (λ (x : List Flow). among x flow) (sym mine2) ∙ h)
-    (not-among mine (flowsFor (another i) (fresh night) (inSecond all)) (λ flow h. separate2 flow (ap (λ (x : List Flow). among x flow) mine2 ∙ h))) in
+    (not-among mine (flowsFor (another i) (fresh night) (inSecond all)) (λ flow h. separate .1 flow (ap (λ (x : List Flow). among x flow) mine2 ∙ h))) in
     let k : Linked i uses (night .settings) there (fresh night) (fresh night) = record { bond = fresh-bond night is-new i uses; given-first = begun night is-new .given; given-second = begun night is-new .given } in
     let ran =
     runs i uses (night .settings) there steps (fresh night) (fresh night) k (paired-before i steps later paired) (first-before i uses (fresh night) steps later a) (second-before i uses (fresh night) steps later c)

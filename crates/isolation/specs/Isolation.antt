@@ -152,16 +152,32 @@ pub record Isolated (night : Night) (i : ℕ) (steps : List Step) : Type 0 where
       settledReply (played (fresh night) (inSecond steps) .inputs) (played (fresh night) (inSecond steps) .lists) i time
       ≡ settledReply (played (fresh night) (inFirst steps) .inputs) (played (fresh night) (inFirst steps) .lists) i time
 
--- it holds after every beginning of the steps, and at their end
-abbrev pub Isolation : Type 0
-Isolation =
+-- ---- the theorem
+-- a condition on the two runs
+abbrev pub Condition : Type 1
+Condition = (night : Night) (i : ℕ) → List Step → Type 0
+
+abbrev pub Separated : Condition
+Separated night i steps = Separate i (fresh night) (inFirst steps) × Separate i (fresh night) (inSecond steps)
+
+-- of the second run it follows: its worlds of this input are the same
+abbrev pub Makes : Condition
+Makes night i steps = Made i (fresh night) (inFirst steps)
+
+abbrev pub Agrees : Condition
+Agrees night i steps = Agreed (fresh night) (fresh night) steps
+
+-- under three conditions: it holds after every beginning of the steps, and at their end
+abbrev pub IsolationIf : (separate made agreed : Condition) → Type 0
+IsolationIf separate made agreed =
     (night : Night) (i : ℕ) (steps later : List Step) →
     fresh night .number ≡ 0 →
     i < night .settings .count →
     Paired i (steps ++ later) →
-    Separate i (fresh night) (inFirst (steps ++ later)) →
-    Separate i (fresh night) (inSecond (steps ++ later)) →
-    -- of the second run it follows: its worlds of this input are the same
-    Made i (fresh night) (inFirst (steps ++ later)) →
-    Agreed (fresh night) (fresh night) (steps ++ later) →
+    separate night i (steps ++ later) →
+    made night i (steps ++ later) →
+    agreed night i (steps ++ later) →
     Isolated night i steps
+
+abbrev pub Isolation : Type 0
+Isolation = IsolationIf Separated Makes Agrees
