@@ -104,8 +104,8 @@ abbrev DifferIn : List Act → Type 0
 DifferIn acts = noneAmong (flowsFor (itself 0) start acts) (flowsFor (another 0) start acts) ≡ true
 
 -- ---- runs that meet every condition: in the second, input 1 is routed to another flow and is late
-abbrev apart : List Step
-apart = second (routeTo 1 2 true) ∷ shared (routeTo 0 1 true) ∷ ticked (tickAs (485 ∷ []) [] 0) (tickAs (485 ∷ []) (700 ∷ []) 0) ∷ []
+abbrev neighbours : List Step
+neighbours = second (routeTo 1 2 true) ∷ shared (routeTo 0 1 true) ∷ ticked (tickAs (485 ∷ []) [] 0) (tickAs (485 ∷ []) (700 ∷ []) 0) ∷ []
 
 record Computed : Type 0 where
   new : start .number ≡ 0
@@ -113,16 +113,16 @@ record Computed : Type 0 where
   route-second : Taken (does start (routeTo 1 2 true)) (routeTo 0 1 true)
   tick-first : Taken (does start (routeTo 0 1 true)) (tick (tickAs (485 ∷ []) [] 0))
   tick-second : Taken (does (does start (routeTo 1 2 true)) (routeTo 0 1 true)) (tick (tickAs (485 ∷ []) (700 ∷ []) 0))
-  differ-first : DifferIn (inFirst apart)
-  differ-second : DifferIn (inSecond apart)
+  differ-first : DifferIn (inFirst neighbours)
+  differ-second : DifferIn (inSecond neighbours)
   -- input 0 is alike, input 1 is not
-  own-first : delayIn 0 (inFirst apart) ≡ 104
-  own-second : delayIn 0 (inSecond apart) ≡ 104
-  other-first : delayIn 1 (inFirst apart) ≡ 0
-  other-second : delayIn 1 (inSecond apart) ≡ 426
+  own-first : delayIn 0 (inFirst neighbours) ≡ 104
+  own-second : delayIn 0 (inSecond neighbours) ≡ 104
+  other-first : delayIn 1 (inFirst neighbours) ≡ 0
+  other-second : delayIn 1 (inSecond neighbours) ≡ 426
   -- and the place of its flow is not
-  place-first : slotAt (played start (inFirst apart) .inputs) 0 .route ≡ Routed.To (record { domain = 0; flow = 0 })
-  place-second : slotAt (played start (inSecond apart) .inputs) 0 .route ≡ Routed.To (record { domain = 0; flow = 1 })
+  place-first : slotAt (played start (inFirst neighbours) .inputs) 0 .route ≡ Routed.To (record { domain = 0; flow = 0 })
+  place-second : slotAt (played start (inSecond neighbours) .inputs) 0 .route ≡ Routed.To (record { domain = 0; flow = 1 })
 
 computed : Computed
 unfolding base-opened window-opened hold-opened record-opened routing-opened calls-opened tick-opened after does played inFirst inSecond flowsFor among noneAmong
@@ -142,10 +142,10 @@ computed = record {
   place-second = refl;
 }
 
-isolated-here : Isolated night 0 apart
+isolated-here : Isolated night 0 neighbours
 unfolding base-opened tick-opened inFirst inSecond
 isolated-here =
-    isolation night 0 apart [] (computed .new) (omega arith)
+    isolation night 0 neighbours [] (computed .new) (omega arith)
     ((λ e. omega arith), (refl, (record { time = refl; look = refl; lags = refl }, tt)))
     (none-among _ _ (computed .differ-first), none-among _ _ (computed .differ-second))
     ((λ took e inode seen. refl), ((λ took inode seen. refl), tt))
@@ -157,7 +157,7 @@ unmade = shared (routeTo 0 1 true) ∷ shared (routeAway 0) ∷ second (routeTo 
 
 record Unmade : Type 0 where
   opened : Taken start (routeTo 0 1 true)
-  left : Taken (does start (routeTo 0 1 true)) (routeAway 0)
+  routed-away : Taken (does start (routeTo 0 1 true)) (routeAway 0)
   again-first : Taken (does (does start (routeTo 0 1 true)) (routeAway 0)) (routeTo 0 1 false)
   again-second : Taken (does (does (does start (routeTo 0 1 true)) (routeAway 0)) (routeTo 1 2 true)) (routeTo 0 1 false)
   differ-first : DifferIn (inFirst unmade)
@@ -167,7 +167,7 @@ record Unmade : Type 0 where
 
 unmade-computed : Unmade
 unfolding base-opened window-opened hold-opened record-opened routing-opened calls-opened tick-opened after does played inFirst inSecond flowsFor among noneAmong
-unmade-computed = record { opened = refl; left = refl; again-first = refl; again-second = refl; differ-first = refl; differ-second = refl; state-first = refl; state-second = refl }
+unmade-computed = record { opened = refl; routed-away = refl; again-first = refl; again-second = refl; differ-first = refl; differ-second = refl; state-first = refl; state-second = refl }
 
 pub made-needed : WithoutMade → ⊥
 unfolding inFirst inSecond
@@ -177,7 +177,7 @@ made-needed claim =
     claim night 0 unmade [] (computed .new) (omega arith) (refl, (refl, ((λ e. omega arith), (refl, tt))))
     (none-among _ _ (c .differ-first), none-among _ _ (c .differ-second))
     tt
-    (((λ took. c .opened), (λ took. c .opened)), (((λ took. c .left), (λ took. c .left)), (((λ took. c .again-second), (λ took. c .again-first)), tt))) in
+    (((λ took. c .opened), (λ took. c .opened)), (((λ took. c .routed-away), (λ took. c .routed-away)), (((λ took. c .again-second), (λ took. c .again-first)), tt))) in
     not-both (ap isRunning (alike .same .state ∙ c .state-first)) (ap isRunning (c .state-second))
 
 -- ---- without "no other input is ever routed to a flow which that input ever uses": what was set for the other is remembered for the flow
