@@ -15,7 +15,7 @@ use Rattle.rules_record.specs.Reply.{Reply}
 use Rattle.rules_calls.specs.declared.Wanted.the-variants.{Nothing, From}
 use Rattle.third_demand.specs.Calls.{routes, updates, ticks}
 use Rattle.isolation.specs.Acts.{Act, calls, confirms, tick, does, Taken}
-use Rattle.isolation.specs.Isolation.{Step, shared, ticked, first, second, inFirst, inSecond, Off, Paired, flowFor, flowsFor, itself, another, among, BothOrNeither, Agreed}
+use Rattle.isolation.specs.Isolation.{Step, shared, ticked, firstAlone, secondAlone, inFirst, inSecond, Off, Paired, flowFor, flowsFor, itself, another, among, BothOrNeither, Agreed}
 
 -- an accepted route of input i is on the side of `uses`, one of another is not
 abbrev pub RouteApart : ℕ → (Flow → Bool) → Act → Type 0
@@ -92,7 +92,7 @@ module _ (i : ℕ) where
   same-flows (ticked one two ∷ steps) r z paired agreed =
       (λ t. none-taken z (tick two) refl t ++ same-flows steps (does r (tick one)) (does z (tick two)) (paired .1) (agreed .1) t)
       ∙ sym (λ t. none-taken r (tick one) refl t ++ flowsFor (itself i) (does r (tick one)) (inFirst steps))
-  same-flows (first act ∷ steps) r z paired agreed =
+  same-flows (firstAlone act ∷ steps) r z paired agreed =
       same-flows steps (does r act) z (paired .1) agreed ∙ sym (λ t. none-taken r act (off-flow act (paired .0)) t ++ flowsFor (itself i) (does r act) (inFirst steps))
-  same-flows (second act ∷ steps) r z paired agreed =
+  same-flows (secondAlone act ∷ steps) r z paired agreed =
       (λ t. none-taken z act (off-flow act (paired .0)) t ++ flowsFor (itself i) (does z act) (inSecond steps)) ∙ same-flows steps r (does z act) (paired .1) agreed

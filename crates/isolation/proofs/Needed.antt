@@ -36,7 +36,7 @@ use Rattle.rules_tick.specs.declared.Look.{Look}
 use Rattle.third_demand.specs.Calls.{routes, after, Night, fresh}
 use Rattle.third_demand.proofs.Opened.{base-opened, window-opened, hold-opened, record-opened, routing-opened, calls-opened, tick-opened}
 use Rattle.isolation.specs.Acts.{Act, calls, TickData, tick, does, Taken, played}
-use Rattle.isolation.specs.Isolation.{Step, shared, ticked, second, inFirst, inSecond, flowsFor, itself, another, among, Isolated}
+use Rattle.isolation.specs.Isolation.{Step, shared, ticked, secondAlone, inFirst, inSecond, flowsFor, itself, another, among, Isolated}
 use Rattle.isolation.specs.Needed.{WithoutMade, WithoutSeparate, WithoutAgreed}
 use Rattle.isolation.proofs.Theorem.{isolation}
 
@@ -105,7 +105,7 @@ DifferIn acts = noneAmong (flowsFor (itself 0) start acts) (flowsFor (another 0)
 
 -- ---- runs that meet every condition: in the second, input 1 is routed to another flow and is late
 abbrev neighbours : List Step
-neighbours = second (routeTo 1 2 true) ∷ shared (routeTo 0 1 true) ∷ ticked (tickAs (485 ∷ []) [] 0) (tickAs (485 ∷ []) (700 ∷ []) 0) ∷ []
+neighbours = secondAlone (routeTo 1 2 true) ∷ shared (routeTo 0 1 true) ∷ ticked (tickAs (485 ∷ []) [] 0) (tickAs (485 ∷ []) (700 ∷ []) 0) ∷ []
 
 record Computed : Type 0 where
   new : start .number ≡ 0
@@ -153,7 +153,7 @@ isolated-here =
 
 -- ---- without "every instance can be made": the instance of a route that was left stays until another's route has it pruned
 abbrev unmade : List Step
-unmade = shared (routeTo 0 1 true) ∷ shared (routeAway 0) ∷ second (routeTo 1 2 true) ∷ shared (routeTo 0 1 false) ∷ []
+unmade = shared (routeTo 0 1 true) ∷ shared (routeAway 0) ∷ secondAlone (routeTo 1 2 true) ∷ shared (routeTo 0 1 false) ∷ []
 
 record Unmade : Type 0 where
   opened : Taken start (routeTo 0 1 true)
@@ -185,7 +185,7 @@ abbrev late : TickData
 late = tickAs [] (485 ∷ []) 0
 
 abbrev shares : List Step
-shares = second (routeTo 1 1 true) ∷ ticked late late ∷ shared (routeTo 0 1 true) ∷ []
+shares = secondAlone (routeTo 1 1 true) ∷ ticked late late ∷ shared (routeTo 0 1 true) ∷ []
 
 record Shares : Type 0 where
   tick-first : Taken start (tick late)

@@ -20,7 +20,7 @@ use Rattle.third_demand.specs.Calls.{fresh}
 use Rattle.third_demand.proofs.Given.{given-input}
 use Rattle.third_demand.proofs.Birth.{begun}
 use Rattle.isolation.specs.Acts.{Act, tick, does, Taken, played, commandsTo, sentBy, sentTo}
-use Rattle.isolation.specs.Isolation.{Step, shared, ticked, first, second, inFirst, inSecond, Off, Paired, flowsFor, itself, another, among, Made, BothOrNeither, Agreed, SameOf, Isolation}
+use Rattle.isolation.specs.Isolation.{Step, shared, ticked, firstAlone, secondAlone, inFirst, inSecond, Off, Paired, flowsFor, itself, another, among, Made, BothOrNeither, Agreed, SameOf, Isolation}
 use Rattle.isolation.proofs.Apart.{RouteApart, Apart, apart-of, same-flows}
 use Rattle.isolation.proofs.Bond.{Bond, bond-first, bond-second}
 use Rattle.isolation.proofs.Calls.{refused-does, does-settings, Passed, other-passed, Joined, own-joined, tick-joined}
@@ -160,11 +160,11 @@ module _ (i : ℕ) (uses : Flow → Bool) (settings : Settings) (there : i < set
       tick-joined i uses r z (k .bond) one two (paired .0) tr tz (given-input settings (r .inputs) (k .given-first) i there) (given-input settings (z .inputs) (k .given-second) i there) (made .0 tr)) in
       let rest = runs steps (does r (tick one)) (does z (tick two)) (n .linked) (paired .1) (a .1) (c .1) (made .1) (agreed .1) in
       record { linked = rest .linked; same = λ t. n .same t ++ rest .same t }
-  runs (first act ∷ steps) r z k paired a c made agreed =
+  runs (firstAlone act ∷ steps) r z k paired a c made agreed =
       let n = first-step r z act k (paired .0) (a .0) in
       let rest = runs steps (does r act) z (n .linked) (paired .1) (a .1) c (made .1) agreed in
       record { linked = rest .linked; same = λ t. n .same t ++ rest .same t }
-  runs (second act ∷ steps) r z k paired a c made agreed =
+  runs (secondAlone act ∷ steps) r z k paired a c made agreed =
       let n = second-step r z act k (paired .0) (c .0) in
       let rest = runs steps r (does z act) (n .linked) (paired .1) a (c .1) made agreed in
       record { linked = rest .linked; same = λ t. n .same t ++ rest .same t }
@@ -174,23 +174,23 @@ paired-before : (i : ℕ) (steps later : List Step) → Paired i (steps ++ later
 paired-before i [] later h = tt
 paired-before i (shared act ∷ steps) later h = (h .0, paired-before i steps later (h .1))
 paired-before i (ticked one two ∷ steps) later h = (h .0, paired-before i steps later (h .1))
-paired-before i (first act ∷ steps) later h = (h .0, paired-before i steps later (h .1))
-paired-before i (second act ∷ steps) later h = (h .0, paired-before i steps later (h .1))
+paired-before i (firstAlone act ∷ steps) later h = (h .0, paired-before i steps later (h .1))
+paired-before i (secondAlone act ∷ steps) later h = (h .0, paired-before i steps later (h .1))
 
 agreed-before : (r z : Reply) (steps later : List Step) → Agreed r z (steps ++ later) → Agreed r z steps
 agreed-before r z [] later h = tt
 agreed-before r z (shared act ∷ steps) later h = (h .0, agreed-before (does r act) (does z act) steps later (h .1))
 agreed-before r z (ticked one two ∷ steps) later h = (h .0, agreed-before (does r (tick one)) (does z (tick two)) steps later (h .1))
-agreed-before r z (first act ∷ steps) later h = agreed-before (does r act) z steps later h
-agreed-before r z (second act ∷ steps) later h = agreed-before r (does z act) steps later h
+agreed-before r z (firstAlone act ∷ steps) later h = agreed-before (does r act) z steps later h
+agreed-before r z (secondAlone act ∷ steps) later h = agreed-before r (does z act) steps later h
 
 made-before : (i : ℕ) (r : Reply) (steps later : List Step) → Made i r (inFirst (steps ++ later)) → Made i r (inFirst steps)
 unfolding inFirst
 made-before i r [] later h = tt
 made-before i r (shared act ∷ steps) later h = (h .0, made-before i (does r act) steps later (h .1))
 made-before i r (ticked one two ∷ steps) later h = (h .0, made-before i (does r (tick one)) steps later (h .1))
-made-before i r (first act ∷ steps) later h = (h .0, made-before i (does r act) steps later (h .1))
-made-before i r (second act ∷ steps) later h = made-before i r steps later h
+made-before i r (firstAlone act ∷ steps) later h = (h .0, made-before i (does r act) steps later (h .1))
+made-before i r (secondAlone act ∷ steps) later h = made-before i r steps later h
 
 module _ (i : ℕ) (uses : Flow → Bool) where
   first-before : (r : Reply) (steps later : List Step) → Apart i uses r (inFirst (steps ++ later)) → Apart i uses r (inFirst steps)
@@ -198,16 +198,16 @@ module _ (i : ℕ) (uses : Flow → Bool) where
   first-before r [] later h = tt
   first-before r (shared act ∷ steps) later h = (h .0, first-before (does r act) steps later (h .1))
   first-before r (ticked one two ∷ steps) later h = (h .0, first-before (does r (tick one)) steps later (h .1))
-  first-before r (first act ∷ steps) later h = (h .0, first-before (does r act) steps later (h .1))
-  first-before r (second act ∷ steps) later h = first-before r steps later h
+  first-before r (firstAlone act ∷ steps) later h = (h .0, first-before (does r act) steps later (h .1))
+  first-before r (secondAlone act ∷ steps) later h = first-before r steps later h
 
   second-before : (r : Reply) (steps later : List Step) → Apart i uses r (inSecond (steps ++ later)) → Apart i uses r (inSecond steps)
   unfolding inSecond
   second-before r [] later h = tt
   second-before r (shared act ∷ steps) later h = (h .0, second-before (does r act) steps later (h .1))
   second-before r (ticked one two ∷ steps) later h = (h .0, second-before (does r (tick two)) steps later (h .1))
-  second-before r (first act ∷ steps) later h = second-before r steps later h
-  second-before r (second act ∷ steps) later h = (h .0, second-before (does r act) steps later (h .1))
+  second-before r (firstAlone act ∷ steps) later h = second-before r steps later h
+  second-before r (secondAlone act ∷ steps) later h = (h .0, second-before (does r act) steps later (h .1))
 
 -- no flow is on both sides
 not-among : (mine others : List Flow) → ((flow : Flow) → among mine flow ≡ true → among others flow ≡ false) → (flow : Flow) → among others flow ≡ true → among mine flow ≡ false

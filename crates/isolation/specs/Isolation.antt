@@ -25,23 +25,23 @@ use Rattle.isolation.specs.Acts.{Act, calls, confirms, TickData, tick, d
 pub data Step : Type 0 where
   shared : Act → Step
   ticked : (one two : TickData) → Step
-  first : Act → Step
-  second : Act → Step
+  firstAlone : Act → Step
+  secondAlone : Act → Step
 
 -- the calls of the first run, and those of the second
 unfoldable pub inFirst : List Step → List Act
 inFirst [] = []
 inFirst (shared act ∷ steps) = act ∷ inFirst steps
 inFirst (ticked one two ∷ steps) = tick one ∷ inFirst steps
-inFirst (first act ∷ steps) = act ∷ inFirst steps
-inFirst (second act ∷ steps) = inFirst steps
+inFirst (firstAlone act ∷ steps) = act ∷ inFirst steps
+inFirst (secondAlone act ∷ steps) = inFirst steps
 
 unfoldable pub inSecond : List Step → List Act
 inSecond [] = []
 inSecond (shared act ∷ steps) = act ∷ inSecond steps
 inSecond (ticked one two ∷ steps) = tick two ∷ inSecond steps
-inSecond (first act ∷ steps) = inSecond steps
-inSecond (second act ∷ steps) = act ∷ inSecond steps
+inSecond (firstAlone act ∷ steps) = inSecond steps
+inSecond (secondAlone act ∷ steps) = act ∷ inSecond steps
 
 -- a call on one input, of which P says something; a tick is none
 abbrev pub OfInput : (P : ℕ → Type 0) → Act → Type 0
@@ -68,8 +68,8 @@ abbrev pub Paired : (i : ℕ) → List Step → Type 0
 Paired i [] = Unit {0}
 Paired i (shared act ∷ steps) = On i act × Paired i steps
 Paired i (ticked one two ∷ steps) = TickAlike i one two × Paired i steps
-Paired i (first act ∷ steps) = Off i act × Paired i steps
-Paired i (second act ∷ steps) = Off i act × Paired i steps
+Paired i (firstAlone act ∷ steps) = Off i act × Paired i steps
+Paired i (secondAlone act ∷ steps) = Off i act × Paired i steps
 
 -- ---- "In both, no other input is ever routed to a flow which that input ever uses"
 -- the flow to which a call routes one of these inputs
@@ -126,8 +126,8 @@ abbrev pub Agreed : Reply → Reply → List Step → Type 0
 Agreed r z [] = Unit {0}
 Agreed r z (shared act ∷ steps) = BothOrNeither r act z act × Agreed (does r act) (does z act) steps
 Agreed r z (ticked one two ∷ steps) = BothOrNeither r (tick one) z (tick two) × Agreed (does r (tick one)) (does z (tick two)) steps
-Agreed r z (first act ∷ steps) = Agreed (does r act) z steps
-Agreed r z (second act ∷ steps) = Agreed r (does z act) steps
+Agreed r z (firstAlone act ∷ steps) = Agreed (does r act) z steps
+Agreed r z (secondAlone act ∷ steps) = Agreed r (does z act) steps
 
 -- ---- "Then its commands, states, delays, proposals, counters and settled answers are alike in both runs."
 -- what the two runs left of input i; `settled` is a call on it, so its answers are compared where both are accepted
