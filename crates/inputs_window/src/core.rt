@@ -171,5 +171,5 @@ pub fn quantile_upto(window: LagWindow, j: usize, q: f64, limit: u32, sums: &[u6
     let buckets = window.buckets;
     let first = j * buckets;
     let last = first + buckets;
-    lag_rows::quantile::quantile_upto(buckets, window.width, q, limit, &sums[first..last])
+    lag_rows::core::quantile_upto(buckets, window.width, q, limit, &sums[first..last])
 }

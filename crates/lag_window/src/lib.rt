@@ -280,6 +280,6 @@ impl LagWindow {
         if number != 0 {
             return Quantile::Refused(number);
         }
-        lag_rows::quantile::quantile_upto(self.buckets, self.width, q, limit, sums)
+        lag_rows::core::quantile_upto(self.buckets, self.width, q, limit, sums)
     }
 }

@@ -1,4 +1,4 @@
--- `lag_rows::quantile::sum_from` meets its contract. Assumes nothing.
+-- `lag_rows::core::sum_from` meets its contract. Assumes nothing.
 use Prim.Native.Nat.{_≤_, _-_}
 use mathlib.Core.Path.{_≡_}
 use native.Mathlib.Omega.{arith}
@@ -6,8 +6,8 @@ use borrow.Author.Needs.{needs}
 use Rattle.base.specs.Lists.{sumFrom}
 use Rattle.base.proofs.All.{from-none, from-more, from-end}
 use Rattle.rules_window.proofs.Sums.{from-next}
-use Rattle.lag_rows.proofs.quantile.sum_from.Statement.{statement}
-use Rattle.lag_rows.proofs.quantile.sum_from.Tie as tie
+use Rattle.lag_rows.proofs.core.sum_from.Statement.{statement}
+use Rattle.lag_rows.proofs.core.sum_from.Tie as tie
 
 abbrev Inv-loop : tie.InvT-loop
 Inv-loop s a n total₀ b₀ total b = (b ≤ n) × (total ≡ sumFrom a b s)

@@ -1,4 +1,4 @@
--- `lag_rows::quantile::reached` meets its contract. Assumes nothing.
+-- `lag_rows::core::reached` meets its contract. Assumes nothing.
 use Prim.Native.Nat.{_≤_, _<_, _-_, _*_}
 use mathlib.Core.Path.{_≡_, sym, _∙_}
 use native.Mathlib.Nat.{sub-zero}
@@ -7,8 +7,8 @@ use borrow.Author.Needs.{needs}
 use Rattle.rules_window.specs.Quantile.{running, reach}
 use Rattle.rules_window.proofs.Reaching.{running-none, running-block, block-few, reach-block}
 use Rattle.lag_rows.proofs.BlockSums.{kept-at}
-use Rattle.lag_rows.proofs.quantile.reached.Statement.{statement}
-use Rattle.lag_rows.proofs.quantile.reached.Tie as tie
+use Rattle.lag_rows.proofs.core.reached.Statement.{statement}
+use Rattle.lag_rows.proofs.core.reached.Tie as tie
 
 abbrev Inv-loop : tie.InvT-loop
 Inv-loop buckets width limit target sums blocks m seen₀ i₀ b₀ seen i b = (b ≤ m) × (b ≡ 64 * i) × (seen ≡ running limit width buckets 1 sums b) × (1 ≤ b → seen < target) × (reach target limit width buckets 1 sums buckets 0 ≡ reach target limit width buckets 1 sums (buckets - b) b)

@@ -1,8 +1,8 @@
--- `lag_rows::quantile::edge` meets its contract. Assumes nothing.
+-- `lag_rows::core::edge` meets its contract. Assumes nothing.
 use borrow.Author.Needs.{needs}
 use Rattle.base.proofs.Flat.{edge-fits}
-use Rattle.lag_rows.proofs.quantile.edge.Statement.{statement}
-use Rattle.lag_rows.proofs.quantile.edge.Tie as tie
+use Rattle.lag_rows.proofs.core.edge.Statement.{statement}
+use Rattle.lag_rows.proofs.core.edge.Tie as tie
 
 pub edge-spec : {M : Type 1} → statement M
 edge-spec =

@@ -1,8 +1,8 @@
--- `lag_rows::quantile::shown` meets its contract. Assumes nothing.
+-- `lag_rows::core::shown` meets its contract. Assumes nothing.
 use borrow.Author.Needs.{needs}
 use Rattle.lag_rows.proofs.Divisions.{div-fits, div-next-fits}
-use Rattle.lag_rows.proofs.quantile.shown.Statement.{statement}
-use Rattle.lag_rows.proofs.quantile.shown.Tie as tie
+use Rattle.lag_rows.proofs.core.shown.Statement.{statement}
+use Rattle.lag_rows.proofs.core.shown.Tie as tie
 
 pub shown-spec : {M : Type 1} → statement M
 shown-spec =

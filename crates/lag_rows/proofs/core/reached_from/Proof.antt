@@ -1,12 +1,12 @@
--- `lag_rows::quantile::reached_from` meets its contract. Assumes nothing.
+-- `lag_rows::core::reached_from` meets its contract. Assumes nothing.
 use Prim.Native.Nat.{_≤_, _<_, _-_}
 use mathlib.Core.Path.{_≡_, refl}
 use native.Mathlib.Omega.{arith}
 use borrow.Author.Needs.{needs}
 use Rattle.rules_window.specs.Quantile.{running, reach}
 use Rattle.rules_window.proofs.Reaching.{running-more, next-few, reach-more, reach-stop, reach-past}
-use Rattle.lag_rows.proofs.quantile.reached_from.Statement.{statement}
-use Rattle.lag_rows.proofs.quantile.reached_from.Tie as tie
+use Rattle.lag_rows.proofs.core.reached_from.Statement.{statement}
+use Rattle.lag_rows.proofs.core.reached_from.Tie as tie
 
 abbrev Inv-loop : tie.InvT-loop
 Inv-loop buckets width limit target from before sums m seen₀ b₀ seen b = (b ≤ m) × (seen ≡ running limit width buckets 1 sums b) × (1 ≤ b → seen < target) × (reach target limit width buckets 1 sums (buckets - from) from ≡ reach target limit width buckets 1 sums (buckets - b) b)

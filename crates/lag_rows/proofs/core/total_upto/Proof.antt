@@ -1,9 +1,9 @@
--- `lag_rows::quantile::total_upto` meets its contract. Assumes nothing.
+-- `lag_rows::core::total_upto` meets its contract. Assumes nothing.
 use native.Mathlib.Omega.{arith}
 use borrow.Author.Needs.{needs}
 use Rattle.rules_window.proofs.Reaching.{total-is, shown-few}
-use Rattle.lag_rows.proofs.quantile.total_upto.Statement.{statement}
-use Rattle.lag_rows.proofs.quantile.total_upto.Tie as tie
+use Rattle.lag_rows.proofs.core.total_upto.Statement.{statement}
+use Rattle.lag_rows.proofs.core.total_upto.Tie as tie
 
 pub total-upto-spec : {M : Type 1} → statement M
 total-upto-spec =

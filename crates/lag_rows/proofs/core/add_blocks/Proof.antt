@@ -1,4 +1,4 @@
--- `lag_rows::quantile::add_blocks` meets its contract. Assumes nothing.
+-- `lag_rows::core::add_blocks` meets its contract. Assumes nothing.
 use Prim.Native.Nat.{_≤_, _-_, _*_}
 use mathlib.Core.Path.{_≡_, refl}
 use native.Mathlib.Omega.{arith}
@@ -7,8 +7,8 @@ use lib.ListN.{length}
 use Rattle.base.specs.Lists.{sumFrom}
 use Rattle.lag_rows.proofs.BlockSums.{Kept, kept-none, kept-more, kept-end, total-more, total-end, total-few}
 use Rattle.base.proofs.All.{from-none}
-use Rattle.lag_rows.proofs.quantile.add_blocks.Statement.{statement}
-use Rattle.lag_rows.proofs.quantile.add_blocks.Tie as tie
+use Rattle.lag_rows.proofs.core.add_blocks.Statement.{statement}
+use Rattle.lag_rows.proofs.core.add_blocks.Tie as tie
 
 abbrev Inv-loop : tie.InvT-loop
 Inv-loop m sums blocks₀ total₀ i₀ b₀ blocks total i b = (b ≤ m) × (b ≡ 64 * i) × (length blocks ≡ 64) × (total ≡ sumFrom 0 b sums) × Kept i sums blocks

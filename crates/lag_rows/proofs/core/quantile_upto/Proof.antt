@@ -1,9 +1,9 @@
--- `lag_rows::quantile::quantile_upto` meets its contract. Assumes nothing.
+-- `lag_rows::core::quantile_upto` meets its contract. Assumes nothing.
 use native.Mathlib.Omega.{arith}
 use borrow.Author.Needs.{needs}
 use Rattle.rules_window.proofs.Reaching.{quantile-none, quantile-nowhere, quantile-end, bucket-found}
-use Rattle.lag_rows.proofs.quantile.quantile_upto.Statement.{statement}
-use Rattle.lag_rows.proofs.quantile.quantile_upto.Tie as tie
+use Rattle.lag_rows.proofs.core.quantile_upto.Statement.{statement}
+use Rattle.lag_rows.proofs.core.quantile_upto.Tie as tie
 
 pub quantile-upto-spec : {M : Type 1} → statement M
 quantile-upto-spec =
