@@ -11,7 +11,7 @@ use text_print::{
 };
 
 // Each stands after a space, where it does not say what it stands after.
-#[derive(Drop)]
+#[derive(Clone, Copy)]
 pub(crate) enum Word {
     // Nothing is written.
     End,
