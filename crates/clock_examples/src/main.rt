@@ -1,5 +1,7 @@
 // Calls of the clock helpers with their answers, boundaries and refusals among them: a line for the call and a line for its answer,
 // as the oracle of the Rust reads and writes them.
+#![tactic(auto)]
+
 use libc::STDOUT_FILENO;
 use sources::{QueryDown, Schedule};
 use state::{Coalesce, Due};

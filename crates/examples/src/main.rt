@@ -1,4 +1,6 @@
 // Document 01's examples and some limits, run on the library; crates/examples/stdout holds what the Rust answers, where it has an answer.
+#![tactic(auto)]
+
 use libc::STDOUT_FILENO;
 use policy::{DelayPolicy, Need};
 

@@ -1,5 +1,7 @@
 // Document 01's examples of `next`, a session and every refusal: a line for the call and a line for its answer, as the oracle of the
 // Rust reads and writes them. crates/hold_examples/stdout holds what the Rust answers, and after it the refusals, which it has not.
+#![tactic(auto)]
+
 use delay_hold::{Answer, DelayHold, Lag, Moment, Seed};
 use libc::STDOUT_FILENO;
 use policy::DelayPolicy;

@@ -1,5 +1,7 @@
 // The library behind the text protocol of compare/README.md: reads calls from standard input, one a line, and writes one answer line each.
 // A line becomes a request (text_read), a request an answer (text_alone, text_called, text_crafted), an answer a line (text_shown).
+#![tactic(auto)]
+
 use base::product_usize;
 use rules_record::{ExtraDelay, Inputs};
 use rules_tick::Look;

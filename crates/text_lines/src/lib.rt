@@ -1,4 +1,6 @@
 // Lines from standard input, and answers to standard output, each through a buffer of the caller's.
+#![tactic(auto)]
+
 ghost use Rattle.std.specs.Prelude.{◌-◌, ◌≤◌, ◌≡◌, length, take};
 ghost use Rattle.text_lines.specs.Lines.{at_begin, found_at, last_of, unfinished_of, look_of, text_end, line_of, passed_by, moved_cursor, moved_bytes, ReadAfter, room_at};
 
@@ -15,7 +17,7 @@ pub const LONGEST: usize = 1_048_576;
 const SPARE: usize = 1_024;
 
 // Where reading stands in the input buffer.
-#[derive(Drop)]
+#[derive(Clone, Copy)]
 pub struct Cursor {
     // The next line begins here, no newline stands before `seen`, and what was read ends at `to`.
     pub from: usize,

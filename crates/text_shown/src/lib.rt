@@ -1,5 +1,7 @@
 // An answer as a line of the text protocol (compare/README.md): `bad line`, `refused` or `ok`, the answer's words, and the window, the hold or
 // the record that it shows. An answer more is an arm of `first_of` and `second_of`, and where it shows a list an arm of `show`.
+#![tactic(auto)]
+
 use base::{product_usize, sum_usize};
 use delay_hold::DelayHold;
 use lag_window::LagWindow;
