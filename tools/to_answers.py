@@ -87,7 +87,7 @@ def tuple_parts(body):
             depth -= 1
             if depth == 0 and i != len(body) - 1:
                 return None
-    parts = comma_split(body[1:-1])
+    parts = [p for p in comma_split(body[1:-1]) if p]
     return parts if len(parts) > 1 else None
 
 
@@ -196,25 +196,64 @@ def through(names, fields):
     return [names[-1]] + fields
 
 
+def bare(body):
+    """The term without brackets round the whole of it."""
+    body = body.strip()
+    while body.startswith("(") and body.endswith(")"):
+        depth = 0
+        for i, c in enumerate(body):
+            depth += (c in "([{") - (c in ")]}")
+            if depth == 0 and i != len(body) - 1:
+                return body
+        if len(comma_split(body[1:-1])) > 1:
+            return body
+        body = body[1:-1].strip()
+    return body
+
+
+def after_lets(body):
+    """What the term binds first, and what follows."""
+    depth, last = 0, None
+    for m in re.finditer(r"[(\[{]|[)\]}]|(?<![\w.'-])in(?![\w'-])", body):
+        g = m.group(0)
+        if g == "in":
+            if depth == 0:
+                last = m.end()
+        else:
+            depth += 1 if g in "([{" else -1
+    if body.startswith("let ") and last:
+        return body[:last], body[last:].strip()
+    return "", body
+
+
 def record_of(names, body):
     if len(names) < 2:
         return body
-    parts, rest = [], body
+    lets, rest = after_lets(bare(body))
+    lets = lets + " " if lets else ""
+    parts = []
     for k in range(len(names) - 1):
         t = tuple_parts(rest)
-        if t is None:
-            return None
-        if len(t) == len(names) - k:
+        if t is None or (len(t) != 2 and len(t) != len(names) - k):
+            break
+        if len(t) == len(names) - k and (len(t) > 2 or k == len(names) - 2):
             parts += t
             rest = None
             break
-        if len(t) != 2:
-            return None
         parts.append(t[0])
         rest = t[1]
     if rest is not None:
-        parts.append(rest)
-    return "record { " + "; ".join(f"{n} = {p}" for n, p in zip(names, parts)) + " }"
+        left = names[len(parts) :]
+        if len(left) == 1:
+            parts.append(rest)
+        elif re.match(r"search |omega|grind|cc\b", rest):
+            parts += [rest] * len(left)
+        else:
+            at = "h"
+            lets += f"let h = {rest} in "
+            for k, n in enumerate(left):
+                parts.append("h" + ".1" * k + (".0" if k < len(left) - 1 else ""))
+    return lets + "record { " + "; ".join(f"{n} = {p}" for n, p in zip(names, parts)) + " }"
 
 
 NEGATED = set()
