@@ -331,6 +331,9 @@ class Function:
                 return m.group(0)
             if fields[0] == "args":
                 fields[1:2] = [fields[1].replace("-", "_")] if len(fields) > 1 else []
+                if len(fields) > 1 and re.fullmatch(r"t\d+", fields[1]):
+                    # the copy that an older Rattle passed on
+                    fields[1] = "inputs"
                 return "c." + ".".join(fields)
             if fields[0] in ("requires",):
                 req = self.clauses.get(self.key, ([], []))[0]
@@ -339,7 +342,11 @@ class Function:
                     self.said.append(f"{self.key}: {need}: {m.group(0)}")
                     rest = fields[1:]
                 return "c." + ".".join(["requires"] + rest)
+            if fields[0] == "well-formed":
+                return "c." + ".".join(["well_formed"] + fields[1:])
             step = norm(fields[0])
+            if step.endswith("_law") and not any(norm(p[2][0]) == step for p in everywhere):
+                step = step[: -len("_law")]
             for group in (chain, everywhere):
                 for p in group:
                     arm = self.arms.get(p[0])
@@ -376,6 +383,7 @@ class Function:
             return "c." + ".".join(fields)
 
         text = PATH.sub(turn, text)
+        text = re.sub(r"(?<![\w.'-])args\.t\d+(?!\w)", "args.inputs", text)
         # a test that is turned round tells what it turns round
         return re.sub(r"not-(?:true|false) \S+ (c\.\S*?(?:if|test)-\S*not-\S*\.(?:true|false))", r"\1", text)
 
