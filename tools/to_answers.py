@@ -173,7 +173,7 @@ def clause_names(crates):
                     j += 1
                 signature = rest[i : rest.find("{", i)]
                 signature = re.split(r"\brequires\b|\bensures\b", signature)[0]
-                params = re.findall(r"(\w+)\s*:\s*&\s*mut\b", signature)
+                params = re.findall(r"(?:^|[(,])\s*(?:&\s*(?:mut\s+)?)?(?:mut\s+)?(self|\w+(?=\s*:))", signature)
                 LENT[f"{crate}::{module}{impl[0] + '::' if impl else ''}{name}"] = params
                 found[f"{crate}::{module}{impl[0] + '::' if impl else ''}{name}"] = (req, ens)
     return found
@@ -384,8 +384,13 @@ class Function:
 
         text = PATH.sub(turn, text)
         text = re.sub(r"(?<![\w.'-])args\.t\d+(?!\w)", "args.inputs", text)
-        # a test that is turned round tells what it turns round
-        return re.sub(r"not-(?:true|false) \S+ (c\.\S*?(?:if|test)-\S*not-\S*\.(?:true|false))", r"\1", text)
+        # a call's test that is turned round tells what it turns round
+        facts = {p[2][1] for p in everywhere if ["fact", "true"] in p[4] or ["fact", "false"] in p[4]}
+        return re.sub(
+            r"not-(?:true|false) \S+ c\.([^\s.]*)\.(true|false)(?![\w.-])",
+            lambda m: f"c.{m.group(1)}.{m.group(2)}" if m.group(1) in facts else m.group(0),
+            text,
+        )
 
     def run(self):
         path = os.path.join(self.where, "Proof.antt")

@@ -31,7 +31,9 @@ pub fn arrive(
     let slot = inputs_slots::slot_at(inputs, i);
     let policy = inputs.policy;
     let before = inputs_window::inner::window_in(policy, inputs.width, slot);
-    let window = inputs_window::inner::push_all(before, i, lags, time, starts, totals, counts, sums);
+    let window = inputs_window::inner::push_all(
+        before, i, lags, time, starts, totals, counts, sums,
+    );
     let counted = inputs_slots::with_lag_seconds(slot, window.seconds);
     inputs_slots::with_last_lag(counted, steps::last_lag(lags, slot.last_lag))
 }

@@ -28,18 +28,18 @@ use Rattle.rules_calls.specs.Status.{source_of, arrival_by, arrival_with, arriva
 
 -- ---- the three quantiles, all or none
 -- the other arm of `let .. else`: a quantile whose tag is not that of an end
-pub none_first : (half high highest : Quantile) → OneOf (1 ∷ 2 ∷ []) (tag_of the_type half) → Arrival.None ≡ arrival_of half high highest
-none_first (Quantile.End end) high highest k = absurd (⊎_elim (λ e. omega arith) (λ e. omega arith) k)
+pub none_first : (half high highest : Quantile) → ((end : ℕ) → half ≡ Quantile.End end → ⊥) → Arrival.None ≡ arrival_of half high highest
+none_first (Quantile.End end) high highest k = absurd (k end refl)
 none_first Quantile.None high highest k = refl
 none_first (Quantile.Refused number) high highest k = refl
 
-none_with : (p50 : ℕ) (high highest : Quantile) → OneOf (1 ∷ 2 ∷ []) (tag_of the_type high) → Arrival.None ≡ arrival_with p50 high highest
-none_with p50 (Quantile.End end) highest k = absurd (⊎_elim (λ e. omega arith) (λ e. omega arith) k)
+none_with : (p50 : ℕ) (high highest : Quantile) → ((end : ℕ) → high ≡ Quantile.End end → ⊥) → Arrival.None ≡ arrival_with p50 high highest
+none_with p50 (Quantile.End end) highest k = absurd (k end refl)
 none_with p50 Quantile.None highest k = refl
 none_with p50 (Quantile.Refused number) highest k = refl
 
-none_by : (p50 p99 : ℕ) (highest : Quantile) → OneOf (1 ∷ 2 ∷ []) (tag_of the_type highest) → Arrival.None ≡ arrival_by p50 p99 highest
-none_by p50 p99 (Quantile.End end) k = absurd (⊎_elim (λ e. omega arith) (λ e. omega arith) k)
+none_by : (p50 p99 : ℕ) (highest : Quantile) → ((end : ℕ) → highest ≡ Quantile.End end → ⊥) → Arrival.None ≡ arrival_by p50 p99 highest
+none_by p50 p99 (Quantile.End end) k = absurd (k end refl)
 none_by p50 p99 Quantile.None k = refl
 none_by p50 p99 (Quantile.Refused number) k = refl
 
@@ -47,14 +47,14 @@ module _ (half high highest : Quantile) {p50 : ℕ} (is-half : half ≡ Quantile
   half_there : arrival_of half high highest ≡ arrival_with p50 high highest
   half_there = ap (λ (q : Quantile). arrival_of q high highest) is-half
 
-  pub none_second : OneOf (1 ∷ 2 ∷ []) (tag_of the_type high) → Arrival.None ≡ arrival_of half high highest
+  pub none_second : ((end : ℕ) → high ≡ Quantile.End end → ⊥) → Arrival.None ≡ arrival_of half high highest
   none_second k = none_with p50 high highest k ∙ sym half_there
 
   module _ {p99 : ℕ} (is_high : high ≡ Quantile.End p99) where
     high_there : arrival_of half high highest ≡ arrival_by p50 p99 highest
     high_there = half_there ∙ ap (λ (q : Quantile). arrival_with p50 q highest) is_high
 
-    pub none_third : OneOf (1 ∷ 2 ∷ []) (tag_of the_type highest) → Arrival.None ≡ arrival_of half high highest
+    pub none_third : ((end : ℕ) → highest ≡ Quantile.End end → ⊥) → Arrival.None ≡ arrival_of half high highest
     none_third k = none_by p50 p99 highest k ∙ sym high_there
 
     pub all_there : {p999 : ℕ} {x y z : Float} → highest ≡ Quantile.End p999 → x ≡ ms_of p50 → y ≡ ms_of p99 → z ≡ ms_of p999

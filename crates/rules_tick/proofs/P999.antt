@@ -29,8 +29,8 @@ use Rattle.delay_hold.specs.Checks.{lag_up_to}
 use Rattle.rules_tick.specs.AutoDelay.{reach_of, quantile_lag, p999_of}
 
 -- the other arm of `let .. else`: a quantile whose tag is not that of an end
-pub none_told : (q : Quantile) → OneOf (1 ∷ 2 ∷ []) (tag_of the_type q) → None ≡ quantile_lag q
-none_told (Quantile.End end) k = absurd (⊎_elim (λ e. omega arith) (λ e. omega arith) k)
+pub none_told : (q : Quantile) → ((end : ℕ) → q ≡ Quantile.End end → ⊥) → None ≡ quantile_lag q
+none_told (Quantile.End end) k = absurd (k end refl)
 none_told Quantile.None k = refl
 none_told (Quantile.Refused number) k = refl
 

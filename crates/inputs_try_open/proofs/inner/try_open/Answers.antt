@@ -9,6 +9,7 @@ use Rattle.inputs_instances.proofs.make.Reads as make-reads
 use Rattle.inputs_instances.proofs.prune_instances.Reads as prune-reads
 use Rattle.inputs_try_open.proofs.inner.open_reader.Reads as open-reader-reads
 use Rattle.inputs_slots.proofs.slot_at.Reads as slot-at-reads
+use borrow.Author.Tests.{not-true, not-false}
 use Rattle.inputs_try_open.proofs.inner.try_open.Goals as goal
 
 pub returns-in_default : goal.returns-in_default
@@ -24,10 +25,10 @@ pub returns-then-found : goal.returns-then-found
 returns-then-found c = did_by (open_found _ _ _ _ c.slot_at-slot.ensures c.in-To.is c.in-Of.is (sym c.found.ensures ∙ c.if-found.true) c.prune_instances-kept.ensures) c.open_reader.ensures
 
 pub returns-then-not-world : goal.returns-then-not-world
-returns-then-not-world c = did_by (open_unmade _ _ _ _ c.slot_at-slot.ensures c.in-To.is c.in-Of.is (sym c.found.ensures ∙ c.if-found.false) (c.if-not-world.true)) (did_quiet refl)
+returns-then-not-world c = did_by (open_unmade _ _ _ _ c.slot_at-slot.ensures c.in-To.is c.in-Of.is (sym c.found.ensures ∙ c.if-found.false) (not-true _ c.if-not-world.true)) (did_quiet refl)
 
 pub open_reader-requires-2 : goal.open_reader-requires-2
 open_reader-requires-2 c = (c.requires.0, c.requires.1, rw (c.prune_instances-kept-2.ensures, slot_pruned, c.make-more.ensures, slot_made) c.requires.2)
 
 pub returns : goal.returns
-returns c = did_by (open_made _ _ _ _ c.slot_at-slot.ensures c.in-To.is c.in-Of.is (sym c.found.ensures ∙ c.if-found.false) (c.if-not-world.false) c.make-more.ensures c.prune_instances-kept-2.ensures) c.open_reader-2.ensures
+returns c = did_by (open_made _ _ _ _ c.slot_at-slot.ensures c.in-To.is c.in-Of.is (sym c.found.ensures ∙ c.if-found.false) (not-false _ c.if-not-world.false) c.make-more.ensures c.prune_instances-kept-2.ensures) c.open_reader-2.ensures
