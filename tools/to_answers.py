@@ -19,7 +19,7 @@ TRIVIAL = {"search rules", "omega arith", "search (rules, arith)", "omega (arith
 
 
 def norm(name):
-    name = name.replace("-", "_")
+    name = name.replace("-", "_").lower()
     name = re.sub(r"^(loop\d*)_holds$", r"\1_init", name)
     name = re.sub(r"^(loop\d*)_less$", r"\1_smaller", name)
     name = re.sub(r"^(loop\d*)_again$", r"\1_preserved", name)
@@ -512,12 +512,15 @@ class Function:
                 first = d[5][0]
                 mm = re.match(re.escape(d[1]) + r"\s+([^=]*?)\s*=(.*)$", first, re.S)
                 pars, b = mm.group(1).split(), "\n".join([mm.group(2)] + d[5][1:]).rstrip()
-                for p in sorted(pars, key=len, reverse=True):
-                    if p.endswith("₀"):
-                        b = re.sub(r"(?<![\w.'◌₀-])" + re.escape(p) + r"(?![\w'₀])", "l.initial." + p[:-1], b)
-                for p in sorted(pars, key=len, reverse=True):
-                    if not p.endswith("₀"):
-                        b = re.sub(r"(?<![\w.'◌₀-])" + re.escape(p) + r"(?![\w'₀-])", "l." + p, b)
+                live = at[0][1]
+                changed = self.made["changed"][names.index(at[0])]
+                again = [v for v, c in zip(live, changed) if c]
+                if len(pars) == len(live) + len(again):
+                    values = ["l.initial." + v if c else "l." + v for v, c in zip(live, changed)] + ["l." + v for v in again]
+                else:
+                    self.said.append(f"{self.key}: {old}: other variables: {pars} {live} {changed}")
+                    values = ["l.initial." + p[:-1] if p.endswith("₀") else "l." + p for p in pars]
+                b = put(b, dict(zip(pars, values)))
                 if word == "decreases" and re.fullmatch(r"\s*\S+ - l\.\w+", b):
                     pass
                 inv.append(f"abbrev pub {word}-{new_name} : goal.{word}-{new_name}\n{word}-{new_name} l ={b}\n")
@@ -551,6 +554,28 @@ class Function:
         write("Invariants.antt", inv, "Given")
         write("Answers.antt", ([extra] if extra.strip() and any(used(d[1], "\n".join(out)) for d in helpers if d[1]) else []) + out, "Goals")
         os.remove(path)
+
+
+def put(text, values):
+    """The term with values for names, but for names that a λ binds."""
+    bound = []
+    for m in re.finditer(r"λ ([^.]*)\.", text):
+        depth, i = 0, m.end()
+        while i < len(text):
+            depth += (text[i] in "([{") - (text[i] in ")]}")
+            if depth < 0:
+                break
+            i += 1
+        for n in re.findall(r"[^\s():]+", re.sub(r":[^)]*", "", m.group(1))):
+            bound.append((m.start(), i, n))
+
+    def turn(m):
+        n = m.group(0)
+        if n not in values or any(a <= m.start() < b and n == x for a, b, x in bound):
+            return n
+        return values[n]
+
+    return re.sub(r"(?<![^\s(){}\[\],;λ])[^\s(){}\[\],;.]+", turn, text)
 
 
 def used(name, content):

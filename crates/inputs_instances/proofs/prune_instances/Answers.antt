@@ -5,6 +5,7 @@ use native.Mathlib.Omega.{arith}
 use Rattle.rules_record.specs.Instances.{no_key}
 use Rattle.rules_record.proofs.InstanceCases.{held_most, table_key, told_wanted, prune_start, prune_keeps, prune_drops, prune_ends}
 use Rattle.inputs_instances.proofs.prune_instances.Goals as goal
+use Rattle.inputs_instances.proofs.prune_instances.Goals.{then-wanted, else-wanted}
 
 pub places-n-requires : goal.places-n-requires
 places-n-requires c = tt
@@ -45,10 +46,10 @@ unfolding no_key
 loop-i-preserved c =
     let at = table_key c.args.inputs c.loop-i.i (omega (arith, held_most c.args.inputs, c.places-n.ensures, c.loop-i-test.true)) in
     let told = told_wanted c.args.inputs c.args.extra _ c.all_read-read.result c.all_read-read.ensures c.wanted.ensures in
-    ⊎_elim
-    (λ w. prune_keeps c.loop-i.invariant c.loop-i-test.true at told w.0.taken w.1 w.2)
-    (λ w. prune_drops c.loop-i.invariant c.loop-i-test.true at told w.0.left w.1 w.2)
-    c.if-wanted.branch
+    elim c.if-wanted.branch [
+      then-wanted w ↦ prune_keeps c.loop-i.invariant c.loop-i-test.true at told w.if-wanted.true w.kept-is w.count-is
+    | else-wanted w ↦ prune_drops c.loop-i.invariant c.loop-i-test.true at told w.if-wanted.false w.kept-is w.count-is
+    ]
 
 pub returns : goal.returns
 returns c = prune_ends c.loop-i.invariant c.loop-i-test.false c.places-n.ensures
