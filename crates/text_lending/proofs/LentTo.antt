@@ -4,7 +4,7 @@ use mathlib.Core.Path.{◌∙◌, ap}
 use mathlib.Core.Logic.{⊎_elim}
 use native.Mathlib.Omega.{arith}
 use denote.Enum.Declared.{tag_of}
-use types.Run.{OneOf}
+use mathlib.Core.Path.{refl}
 use Rattle.rules_record.specs.declared.Inputs.{Inputs}
 use Rattle.text_lending.specs.declared.Sizes.{Sizes}
 use Rattle.text_requests.specs.declared.Call.{Call}
@@ -15,8 +15,8 @@ use Rattle.text_lending.specs.Lengths.{buckets_lent, lengths_for}
 use Rattle.text_lending.specs.LentTo.{by_settings, by_record, lent_to}
 
 module _ (inputs : Inputs) (short : Bool) where
-  pub by_record_law : (call : Call) → OneOf (1 ∷ 2 ∷ 3 ∷ 4 ∷ 5 ∷ 6 ∷ 7 ∷ 8 ∷ 9 ∷ 10 ∷ []) (tag_of the_type call) → {r : Sizes} → r ≡ by_record inputs short → r ≡ lent_to call inputs short
-  by_record_law (New asked) k e = absurd (⊎_elim (λ e. omega arith) (λ k. ⊎_elim (λ e. omega arith) (λ k. ⊎_elim (λ e. omega arith) (λ k. ⊎_elim (λ e. omega arith) (λ k. ⊎_elim (λ e. omega arith) (λ k. ⊎_elim (λ e. omega arith) (λ k. ⊎_elim (λ e. omega arith) (λ k. ⊎_elim (λ e. omega arith) (λ k. ⊎_elim (λ e. omega arith) (λ e. omega arith) k) k) k) k) k) k) k) k) k)
+  pub by_record_law : (call : Call) → ((asked : NewAsked) → call ≡ New asked → ⊥) → {r : Sizes} → r ≡ by_record inputs short → r ≡ lent_to call inputs short
+  by_record_law (New asked) k e = absurd (k asked refl)
   by_record_law (Route asked) k e = e
   by_record_law (Update asked) k e = e
   by_record_law (Confirm asked) k e = e

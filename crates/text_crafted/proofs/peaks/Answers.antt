@@ -1,0 +1,12 @@
+-- `text_crafted::peaks` is safe and ends. Assumes nothing.
+use Prim.Native.Nat.{◌-◌}
+use Rattle.text_crafted.proofs.peaks.Goals as goal
+
+pub loop-i-init : goal.loop-i-init
+loop-i-init c = tt
+
+pub loop-i-preserved : goal.loop-i-preserved
+loop-i-preserved c = tt
+
+pub returns : goal.returns
+returns c = tt
