@@ -16,35 +16,35 @@ mod steps_5_to_8;
 mod whole;
 
 // A moment that may not have been yet.
-#[derive(Drop)]
+#[derive(Clone, Copy)]
 pub enum Moment {
     Never,
     At(u64),
 }
 
 // The delay of the last run: since when, and how many samples.
-#[derive(Drop)]
+#[derive(Clone, Copy)]
 pub enum Seed {
     Nothing,
     From(u64, u32),
 }
 
 // A lag in samples, where there is one.
-#[derive(Drop)]
+#[derive(Clone, Copy)]
 pub enum Lag {
     None,
     Of(u32),
 }
 
 // Since when the need has been lower, and the highest need since then; zero where it is off.
-#[derive(Drop)]
+#[derive(Clone, Copy)]
 pub struct LowerTimer {
     pub on: bool,
     pub since: u64,
     pub highest: u32,
 }
 
-#[derive(Drop)]
+#[derive(Clone, Copy)]
 pub struct DelayHold {
     // How many peaks there are. Each is the highest lag of its second, within the limit; their times and lags are lent.
     pub peaks: usize,
@@ -61,21 +61,21 @@ pub struct DelayHold {
 }
 
 // The delay stays, or goes to so many samples.
-#[derive(Drop)]
+#[derive(Clone, Copy)]
 pub enum Change {
     Keep,
     To(u32),
 }
 
 // What a decision leaves of the hold, and the change.
-#[derive(Drop)]
+#[derive(Clone, Copy)]
 pub struct Next {
     pub hold: DelayHold,
     pub change: Change,
 }
 
 // The answer of `next`: the delay is kept, or changed to so many samples, or the number of the check that refuses.
-#[derive(Drop)]
+#[derive(Clone, Copy)]
 pub enum Answer {
     Kept,
     Changed(u32),
@@ -83,14 +83,14 @@ pub enum Answer {
 }
 
 // The answer of `next` by value, with the hold that it leaves.
-#[derive(Drop)]
+#[derive(Clone, Copy)]
 pub struct Answered {
     pub hold: DelayHold,
     pub answer: Answer,
 }
 
 // The answer of `new`: the number of the check that refuses, or 0, and a fresh hold.
-#[derive(Drop)]
+#[derive(Clone, Copy)]
 pub struct NewHold {
     pub number: u32,
     pub hold: DelayHold,

@@ -113,7 +113,7 @@ fn place(places: &[usize], buckets: usize, r: usize, b: usize) -> usize
 }
 
 // The sum of a column modulo 2^32, and the bits of all counts passed, joined: no count is larger.
-#[derive(Drop)]
+#[derive(Clone, Copy)]
 struct Column {
     sum: u32,
     bits: u32,

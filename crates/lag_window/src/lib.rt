@@ -10,7 +10,7 @@ pub mod inner;
 
 // How many seconds are in use, how many buckets a second has, and a bucket's width in samples.
 // The lent lists hold, oldest first, the starts and totals of 11 seconds and 11 rows of counts, unused places zero, and for each bucket the sum of its counts.
-#[derive(Drop)]
+#[derive(Clone, Copy)]
 pub struct LagWindow {
     pub seconds: usize,
     pub buckets: usize,
@@ -18,7 +18,7 @@ pub struct LagWindow {
 }
 
 // The number of the check that refuses, or 0, and the window.
-#[derive(Drop)]
+#[derive(Clone, Copy)]
 pub struct WindowAnswer {
     pub number: u32,
     pub window: LagWindow,

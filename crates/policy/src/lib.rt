@@ -7,7 +7,7 @@ ghost use Rattle.policy.specs.Settings.{times_allowed, margins_allowed, share_re
 pub mod inner;
 
 // What decides an automatic delay.
-#[derive(Drop)]
+#[derive(Clone, Copy)]
 pub struct DelayPolicy {
     pub read_offset: u32,
     pub delay_max: u32,
@@ -22,14 +22,14 @@ pub struct DelayPolicy {
 }
 
 // A need, or the number of the check that refuses.
-#[derive(Drop)]
+#[derive(Clone, Copy)]
 pub enum Need {
     Of(u32),
     Refused(u32),
 }
 
 // A percent as a share, or the number of the check that refuses.
-#[derive(Drop)]
+#[derive(Clone, Copy)]
 pub enum Share {
     Of(f64),
     Refused(u32),

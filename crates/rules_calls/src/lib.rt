@@ -3,27 +3,27 @@
 use rules_record::{AutoTag, ExtraDelay, Flow};
 
 // A flow in a domain.
-#[derive(Drop)]
+#[derive(Clone, Copy)]
 pub struct Source {
     pub domain: u64,
     pub flow: Flow,
 }
 
-#[derive(Drop)]
+#[derive(Clone, Copy)]
 pub enum Sourced {
     Nowhere,
     From(Source),
 }
 
 // Milliseconds, where there are any.
-#[derive(Drop)]
+#[derive(Clone, Copy)]
 pub enum Milliseconds {
     None,
     Of(f64),
 }
 
 // The quantiles 0.5, 0.99 and 0.999 of the lags, in milliseconds.
-#[derive(Drop)]
+#[derive(Clone, Copy)]
 pub struct ArrivalLag {
     pub p50: f64,
     pub p99: f64,
@@ -31,14 +31,14 @@ pub struct ArrivalLag {
 }
 
 // All three, or none.
-#[derive(Drop)]
+#[derive(Clone, Copy)]
 pub enum Arrival {
     None,
     Of(ArrivalLag),
 }
 
 // The status of one input. In every answer an accepted call has number 0; a refused one has the number of its check and a zero value.
-#[derive(Drop)]
+#[derive(Clone, Copy)]
 pub struct InputStatus {
     pub number: u32,
     pub state: u32,
@@ -59,21 +59,21 @@ pub struct InputStatus {
 }
 
 // Yes or no.
-#[derive(Drop)]
+#[derive(Clone, Copy)]
 pub struct Answer {
     pub number: u32,
     pub value: bool,
 }
 
 // What an input is to read: nothing, or a flow.
-#[derive(Drop)]
+#[derive(Clone, Copy)]
 pub enum Wanted {
     Nothing,
     From(Source),
 }
 
 // What `update` is given: automatic, or a manual delay in milliseconds, sent by the scoring program (Ms) or by the listening desk (Desk). The record keeps no sender.
-#[derive(Drop)]
+#[derive(Clone, Copy)]
 pub enum DelaySetting {
     Auto(AutoTag),
     Ms(f64),
@@ -81,7 +81,7 @@ pub enum DelaySetting {
 }
 
 // What a supervisor is set to. Times are in nanoseconds, the margin's share is a percent.
-#[derive(Drop)]
+#[derive(Clone, Copy)]
 pub struct Settings {
     pub count: usize,
     pub read_offset: u32,

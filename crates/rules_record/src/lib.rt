@@ -3,24 +3,24 @@
 use delay_hold::{DelayHold, Moment};
 use policy::DelayPolicy;
 
-#[derive(Drop)]
+#[derive(Clone, Copy)]
 pub enum AutoTag {
     Auto,
 }
 
 // An input's extra delay: measured, or fixed in milliseconds.
-#[derive(Drop)]
+#[derive(Clone, Copy)]
 pub enum ExtraDelay {
     Auto(AutoTag),
     Ms(f64),
 }
 
-#[derive(Drop)]
+#[derive(Clone, Copy)]
 pub struct InputConfig {
     pub extra_delay: ExtraDelay,
 }
 
-#[derive(Drop)]
+#[derive(Clone, Copy)]
 pub enum State {
     Unrouted,
     Waiting,
@@ -29,33 +29,33 @@ pub enum State {
 }
 
 // Where an input reads from. The domain is the host's number for its path; the flow is its place in the flow table, which it never leaves.
-#[derive(Drop)]
+#[derive(Clone, Copy)]
 pub struct Route {
     pub domain: u64,
     pub flow: usize,
 }
 
-#[derive(Drop)]
+#[derive(Clone, Copy)]
 pub enum Routed {
     Nowhere,
     To(Route),
 }
 
 // The inode of a flow's data file, or none.
-#[derive(Drop)]
+#[derive(Clone, Copy)]
 pub enum Inode {
     Gone,
     Of(u64),
 }
 
 // An automatic delay that waits for confirmation, or none.
-#[derive(Drop)]
+#[derive(Clone, Copy)]
 pub enum Proposal {
     Nothing,
     Pending(u32),
 }
 
-#[derive(Drop)]
+#[derive(Clone, Copy)]
 pub struct Slot {
     pub config: InputConfig,
     pub state: State,
@@ -83,33 +83,33 @@ pub struct Slot {
 }
 
 // A flow's 16 bytes, the first weighing most: eight in high, eight in low.
-#[derive(Drop)]
+#[derive(Clone, Copy)]
 pub struct Flow {
     pub high: u64,
     pub low: u64,
 }
 
 // The last automatic delay of a flow (samples), or none.
-#[derive(Drop)]
+#[derive(Clone, Copy)]
 pub enum Remembered {
     Never,
     Delay(u32),
 }
 
-#[derive(Drop)]
+#[derive(Clone, Copy)]
 pub struct FlowEntry {
     pub flow: Flow,
     pub remembered: Remembered,
 }
 
 // One generation of a flow: the flow's place and the inode of its data file.
-#[derive(Drop)]
+#[derive(Clone, Copy)]
 pub struct Instance {
     pub flow: usize,
     pub inode: u64,
 }
 
-#[derive(Drop)]
+#[derive(Clone, Copy)]
 pub struct Inputs {
     // How many of the slots are inputs; the others are empty.
     pub count: usize,
@@ -130,21 +130,21 @@ pub struct Inputs {
 }
 
 // The record after a step, and how many command words are in use.
-#[derive(Drop)]
+#[derive(Clone, Copy)]
 pub struct Sent {
     pub inputs: Inputs,
     pub used: usize,
 }
 
 // A key or none: one that is kept although no input reads it yet, or the one that an input reads.
-#[derive(Drop)]
+#[derive(Clone, Copy)]
 pub enum Extra {
     Nothing,
     Key(Instance),
 }
 
 // The length of the list that a call writes its answer to: none, words of commands, or bytes and how many it must have exactly.
-#[derive(Drop)]
+#[derive(Clone, Copy)]
 pub enum Output {
     Absent,
     Words(usize),
@@ -152,7 +152,7 @@ pub enum Output {
 }
 
 // The number of the first check that says no, or 0, and the record.
-#[derive(Drop)]
+#[derive(Clone, Copy)]
 pub struct InputsAnswer {
     pub number: u32,
     pub inputs: Inputs,

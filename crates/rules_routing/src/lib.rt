@@ -3,14 +3,14 @@
 use rules_record::Inode;
 
 // The reader of a flow, where it opens, with its channels.
-#[derive(Drop)]
+#[derive(Clone, Copy)]
 pub enum Reader {
     Shut,
     Open(u32),
 }
 
 // What the world shows of an input's flow when it is to be opened.
-#[derive(Drop)]
+#[derive(Clone, Copy)]
 pub struct World {
     pub inode: Inode,
     // Whether an instance can be made.

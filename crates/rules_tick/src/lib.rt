@@ -4,7 +4,7 @@ use rules_record::{Inode, Inputs};
 use rules_routing::World;
 
 // What a tick brings for one input.
-#[derive(Drop)]
+#[derive(Clone, Copy)]
 pub struct Look {
     // The inode that `watch` sees.
     pub seen: Inode,
@@ -17,7 +17,7 @@ pub struct Look {
 }
 
 // The number of the first check that says no, or 0, and the record; and whether the table of remembered delays is to be saved.
-#[derive(Drop)]
+#[derive(Clone, Copy)]
 pub struct TickAnswer {
     pub number: u32,
     pub inputs: Inputs,

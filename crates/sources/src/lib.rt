@@ -10,27 +10,27 @@ pub const BACKOFF_MIN: u64 = 5 * NANOS;
 pub const BACKOFF_MAX: u64 = 60 * NANOS;
 
 // The Query API is left alone until then; the wait that set it.
-#[derive(Drop)]
+#[derive(Clone, Copy)]
 pub enum QueryDown {
     Never,
     Until { until: u64, wait: u64 },
 }
 
-#[derive(Drop)]
+#[derive(Clone, Copy)]
 pub struct Schedule {
     pub query_down: QueryDown,
 }
 
 // Yes or no. In every answer an accepted call has number 0; a refused one has the number of its check, a zero value,
 // and the record as it came.
-#[derive(Drop)]
+#[derive(Clone, Copy)]
 pub struct Answer {
     pub number: u32,
     pub value: bool,
 }
 
 // The wait, and the record after it.
-#[derive(Drop)]
+#[derive(Clone, Copy)]
 pub struct Failure {
     pub number: u32,
     pub value: u64,

@@ -5,34 +5,34 @@ ghost use Rattle.state.specs.Coalesce.{fresh_coalesce, whole_coalesce, changed_o
 use base::{RECORD_LIMIT, SPAN_LIMIT, TIME_LIMIT};
 
 // When a write is due, if one waits.
-#[derive(Drop)]
+#[derive(Clone, Copy)]
 pub enum Due {
     Unset,
     At(u64),
 }
 
-#[derive(Drop)]
+#[derive(Clone, Copy)]
 pub struct Coalesce {
     pub due: Due,
 }
 
 // What `changed` leaves. In every answer an accepted call has number 0; a refused one has the number of its check,
 // a zero value, and the record as it came.
-#[derive(Drop)]
+#[derive(Clone, Copy)]
 pub struct Change {
     pub number: u32,
     pub coalesce: Coalesce,
 }
 
 // Yes or no.
-#[derive(Drop)]
+#[derive(Clone, Copy)]
 pub struct Answer {
     pub number: u32,
     pub value: bool,
 }
 
 // Whether to write now, and the record after it.
-#[derive(Drop)]
+#[derive(Clone, Copy)]
 pub struct Taken {
     pub number: u32,
     pub value: bool,

@@ -13,7 +13,7 @@ const LAST_SECOND: u64 = 18_446_744_073;
 const LAST_TIME: u64 = 18_446_744_073_709_551_615;
 
 // A value, or the number of the check that refused and a zero value. An accepted call has number 0.
-#[derive(Drop)]
+#[derive(Clone, Copy)]
 pub struct Answer {
     pub number: u32,
     pub value: u64,
