@@ -1,4 +1,6 @@
 // Offset, maximum and W, from which the buckets of a second follow: their ranges (checks 2, 17 and 18).
+#![tactic(auto)]
+
 ghost use Rattle.std.specs.Prelude.{◌≡◌};
 ghost use Rattle.buckets.specs.Ranges.{reaches_allowed, width_allowed, buckets_allowed, ranges_number};
 

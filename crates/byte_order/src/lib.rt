@@ -1,4 +1,6 @@
 // Numbers and their bytes, by the end that weighs most: the number that some bytes make, and the bytes of a number.
+#![tactic(auto)]
+
 ghost use Rattle.std.specs.Prelude.{◌≡◌};
 ghost use Rattle.byte_order.specs.Bytes.{byte_of};
 

@@ -1,5 +1,7 @@
 // The delay file (document 02, §2): a reader and a writer of the remembered delays. The edition is a parameter of the inner functions: its version, how many bytes its head
 // has, and the rate in its head.
+#![tactic(auto)]
+
 ghost use Rattle.std.specs.Prelude.{◌≡◌};
 ghost use Rattle.byte_order.specs.Bytes.{AllBytes};
 ghost use Rattle.rules_record.specs.Lent.{lists};

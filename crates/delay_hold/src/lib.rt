@@ -1,5 +1,7 @@
 // The automatic delay of one input (document 01, "DelayHold"): it covers the worst lag of the last window plus a margin.
 // It goes up at once, and down only when the need has been lower for a hold time.
+#![tactic(auto)]
+
 ghost use Rattle.std.specs.Prelude.{◌≡◌, ◌^◌, ◌<◌};
 ghost use Rattle.delay_hold.specs.declared.DelayHold.{DelayHold};
 ghost use Rattle.delay_hold.specs.Next.{held};

@@ -1,4 +1,6 @@
 // Samples and milliseconds as doubles, each operation rounded once as IEEE 754 has it (document 01, "Doubles").
+#![tactic(auto)]
+
 ghost use Rattle.std.specs.Prelude.{◌≡◌};
 ghost use Rattle.doubles.specs.Doubles.{ms_of, samples_of};
 

@@ -1,4 +1,6 @@
 // The whole record of a supervisor with the lists lent for it: checks 1 to 8 of the calls (document 01, "The gatekeeper's questions"), 17 and 18 straight after 2.
+#![tactic(auto)]
+
 ghost use Rattle.std.specs.Prelude.{◌≡◌};
 ghost use Rattle.rules_record.specs.Sized.{Sized};
 ghost use Rattle.rules_record.specs.Lent.{lists};

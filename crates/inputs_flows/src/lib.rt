@@ -1,4 +1,6 @@
 // The flow table: 64 places, each flow at one place for good, with the automatic delay that it had last.
+#![tactic(auto)]
+
 ghost use Rattle.std.specs.Prelude.{◌≡◌, ◌≤◌, slice_index_or};
 ghost use Rattle.base.specs.First.{first};
 ghost use Rattle.rules_record.specs.Flows.{same_flow, empty_entry, known, flow_place, distinct_flows, admits, flow_at, enrolled, recalled, kept, differs, remembered, remembered_for};

@@ -1,4 +1,6 @@
 // The instance table: 18 places, one for each generation of a flow (flow and inode) that was opened and not pruned yet.
+#![tactic(auto)]
+
 ghost use Rattle.std.specs.Prelude.{◌≡◌, true, ℕ, ◌<◌, ◌≤◌, get_or};
 ghost use Rattle.base.specs.Choice.{pick};
 ghost use Rattle.base.specs.First.{first};

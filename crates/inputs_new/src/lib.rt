@@ -1,4 +1,6 @@
 // A new supervisor (document 01, "Kept and written anew" and "The gatekeeper's questions").
+#![tactic(auto)]
+
 ghost use Rattle.std.specs.Prelude.{◌≡◌, ◌*◌, ◌==◌};
 ghost use Rattle.rules_record.specs.Lent.{lists};
 ghost use Rattle.rules_record.specs.Reply.{left_inputs};

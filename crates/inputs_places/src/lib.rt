@@ -1,4 +1,6 @@
 // Check 6 of what stands in the record itself: an input's slot, a place that is not in use, the two tables.
+#![tactic(auto)]
+
 ghost use Rattle.std.specs.Prelude.{◌≡◌, true, ltb};
 ghost use Rattle.base.specs.Choice.{pick};
 ghost use Rattle.delay_hold.specs.Whole.{moment_timely};

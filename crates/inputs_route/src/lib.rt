@@ -1,4 +1,6 @@
 // Routing an input (document 01, "Supervision").
+#![tactic(auto)]
+
 ghost use Rattle.std.specs.Prelude.{◌≡◌};
 ghost use Rattle.rules_record.specs.Lent.{lists};
 ghost use Rattle.rules_record.specs.Reply.{left_inputs};

@@ -1,4 +1,6 @@
 // The record of one input and of all inputs, by value, with a function for each part that changes.
+#![tactic(auto)]
+
 ghost use Rattle.std.specs.Prelude.{◌≡◌};
 ghost use Rattle.rules_record.specs.Slots.{with_config, with_state, with_route, with_inode, with_head, with_reopens, with_lag_seconds, with_last_lag, with_delay, with_proposed, with_hold, with_delay_changes, with_late, with_last_input, is_auto, empty_slot};
 ghost use Rattle.rules_record.specs.States.{state_number};

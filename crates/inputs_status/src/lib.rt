@@ -1,4 +1,6 @@
 // What the host reads of one input (document 01, "Supervision"): its status, whether it has the channels, whether its delay has settled.
+#![tactic(auto)]
+
 ghost use Rattle.std.specs.Prelude.{◌≡◌};
 ghost use Rattle.rules_record.specs.Sized.{Sized};
 ghost use Rattle.rules_record.specs.Lent.{lists};

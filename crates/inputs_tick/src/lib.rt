@@ -1,4 +1,6 @@
 // The tick of a supervisor (document 01, "Supervision"): its checks, and then all inputs in order.
+#![tactic(auto)]
+
 ghost use Rattle.std.specs.Prelude.{◌≡◌};
 ghost use Rattle.rules_record.specs.Sized.{Sized};
 ghost use Rattle.rules_record.specs.Lent.{lists};

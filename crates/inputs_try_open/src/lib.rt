@@ -1,4 +1,6 @@
 // Opening an input's flow: the slot once its reader is open, and the delay that it starts with.
+#![tactic(auto)]
+
 ghost use Rattle.std.specs.Prelude.{◌≡◌};
 ghost use Rattle.rules_routing.specs.ReaderCheck.{reader_fits};
 ghost use Rattle.rules_routing.specs.TryOpen.{running_slot, starts_anew, seeded_at};

@@ -1,4 +1,6 @@
 // What the host changes of an input's delay (document 01, "Supervision"): its kind, and a proposal that is confirmed.
+#![tactic(auto)]
+
 ghost use Rattle.std.specs.Prelude.{◌≡◌};
 ghost use Rattle.rules_record.specs.Lent.{lists};
 ghost use Rattle.rules_calls.specs.Update.{kind_of};

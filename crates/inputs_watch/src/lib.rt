@@ -1,4 +1,6 @@
 // Watching a running input: what is found of its flow, its slot when the head moved, and whether it stalls.
+#![tactic(auto)]
+
 ghost use Rattle.std.specs.Prelude.{◌≡◌};
 ghost use Rattle.rules_routing.specs.Watch.{moved_slot, stalls_now};
 ghost use Rattle.inputs_watch.specs.WatchInPlace.{found_by};

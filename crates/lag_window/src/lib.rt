@@ -1,4 +1,6 @@
 // The lateness of one input's lags: a histogram for each of the last seconds, over lent lists (document 01, "LagWindow").
+#![tactic(auto)]
+
 ghost use Rattle.std.specs.Prelude.{◌≡◌, ◌*◌};
 ghost use Rattle.lag_window.specs.Lent.{lent, left_window};
 ghost use Rattle.rules_window.specs.Checks.{checked, from_zero_to_one, new_number, push_number, quantile_number, new_reply, push_reply, clear_reply, span_reply, quantile_upto_reply, quantile_reply};

@@ -1,4 +1,6 @@
 // The settings of the automatic delay, in samples and nanoseconds, and the delay that covers a lag (document 01, "Need").
+#![tactic(auto)]
+
 ghost use Rattle.std.specs.Prelude.{◌≡◌};
 ghost use Rattle.policy.specs.Need.{need_reply};
 ghost use Rattle.policy.specs.Settings.{times_allowed, margins_allowed, share_reply};

@@ -1,5 +1,7 @@
 // The calls `new`, `route`, `update`, `confirm_delay`, `status`, `has_channels` and `settled`: their rules and laws (document 01, "Supervision"; document 02, §4 and §6), and what they are given and answer.
 // No code: the code that is proved equal to them stands in the crates inputs_new, inputs_route, inputs_update and inputs_status.
+#![tactic(auto)]
+
 use rules_record::{AutoTag, ExtraDelay, Flow};
 
 // A flow in a domain.

@@ -1,5 +1,7 @@
 // The record of a supervisor with the lists lent for it: its rules and their laws (document 01, "Kept and written anew" and "The gatekeeper's questions", 1 to 8), and the data itself.
 // No code: the code that is proved equal to them stands in inputs_slots, inputs_flows, inputs_instances, inputs_places and inputs_checks.
+#![tactic(auto)]
+
 use delay_hold::{DelayHold, Moment};
 use policy::DelayPolicy;
 

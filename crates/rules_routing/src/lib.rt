@@ -1,5 +1,7 @@
 // `set_delay`, `try_open`, `watch` and the clearing of an input: their rules and laws (document 01, "Supervision"), and what the world shows.
 // No code: the code that is proved equal to them stands in inputs_set_delay, inputs_try_open, inputs_watch and inputs_clear.
+#![tactic(auto)]
+
 use rules_record::Inode;
 
 // The reader of a flow, where it opens, with its channels.

@@ -1,5 +1,7 @@
 // `tick` and `auto_delay`: their rules and laws (document 01, "Supervision"), and what a tick brings and answers.
 // No code: the code that is proved equal to them stands in inputs_auto_delay, inputs_tick_input and inputs_tick.
+#![tactic(auto)]
+
 use rules_record::{Inode, Inputs};
 use rules_routing::World;
 

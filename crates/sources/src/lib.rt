@@ -1,4 +1,6 @@
 // When the Query API, which names an input's sender, is asked again after it did not answer: later each time.
+#![tactic(auto)]
+
 ghost use Rattle.std.specs.Prelude.{◌≡◌};
 ghost use Rattle.sources.specs.Queries.{fresh_schedule, whole_schedule, query_up_of, next_wait, query_failed_of};
 

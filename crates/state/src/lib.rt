@@ -1,4 +1,6 @@
 // When to write a file that changes often: at most once per delay, a delay after the first change since the last write.
+#![tactic(auto)]
+
 ghost use Rattle.std.specs.Prelude.{◌≡◌};
 ghost use Rattle.state.specs.Coalesce.{fresh_coalesce, whole_coalesce, changed_of, pending_of, take_due_of, take_of};
 

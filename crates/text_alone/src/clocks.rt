@@ -5,13 +5,13 @@ use text_answers::{Answer, unless};
 use text_requests::{ChangedAsked, Lone};
 
 // What a call leaves, and its answer.
-#[derive(Drop)]
+#[derive(Clone, Copy)]
 pub(crate) struct CoalesceAnswered {
     pub coalesce: Coalesce,
     pub answer: Answer,
 }
 
-#[derive(Drop)]
+#[derive(Clone, Copy)]
 pub(crate) struct ScheduleAnswered {
     pub schedule: Schedule,
     pub answer: Answer,

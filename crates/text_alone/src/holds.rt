@@ -6,7 +6,7 @@ use text_answers::{Answer, unless};
 use text_requests::{Lone, NextAsked};
 
 // The hold after a call, and its answer.
-#[derive(Drop)]
+#[derive(Clone, Copy)]
 pub(crate) struct HoldAnswered {
     pub hold: DelayHold,
     pub answer: Answer,

@@ -1,5 +1,7 @@
 // The calls that need no supervisor: each is answered by value (compare/README.md, "The protocol"). The window and the hold alone have the lists'
 // last places. A refused call leaves what is kept.
+#![tactic(auto)]
+
 use base::{least_usize, product_usize};
 use delay_hold::DelayHold;
 use lag_window::LagWindow;
@@ -18,7 +20,7 @@ mod numbers;
 mod windows;
 
 // What the calls alone keep.
-#[derive(Drop)]
+#[derive(Clone, Copy)]
 pub struct Alone {
     pub window: LagWindow,
     pub hold: DelayHold,
@@ -26,7 +28,7 @@ pub struct Alone {
     pub schedule: Schedule,
 }
 
-#[derive(Drop)]
+#[derive(Clone, Copy)]
 pub struct Answered {
     pub alone: Alone,
     pub answer: Answer,

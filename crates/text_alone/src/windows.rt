@@ -6,7 +6,7 @@ use text_answers::{Answer, unless};
 use text_requests::{Lone, WindowAsked};
 
 // The window after a call, and its answer.
-#[derive(Drop)]
+#[derive(Clone, Copy)]
 pub(crate) struct WindowAnswered {
     pub window: LagWindow,
     pub answer: Answer,

@@ -1,5 +1,7 @@
 // What a request is answered, by value (compare/README.md, "The protocol"). Where an answer shows a window, a hold or a record, it says which
 // part of what is kept is shown.
+#![tactic(auto)]
+
 ghost use Rattle.std.specs.Prelude.{◌≡◌};
 ghost use Rattle.text_answers.specs.Answers.{unless_refused};
 
@@ -8,7 +10,7 @@ use rules_calls::InputStatus;
 use sources::QueryDown;
 use state::Due;
 
-#[derive(Drop)]
+#[derive(Clone, Copy)]
 pub enum Answer {
     BadLine,
     // The number of the check that said no.

@@ -1,5 +1,7 @@
 // The calls on a supervisor: each is answered by value (compare/README.md, "The protocol"), on lists of the lengths that it asks for. A refused
 // call leaves the record that was there.
+#![tactic(auto)]
+
 use base::least_usize;
 use policy::DelayPolicy;
 use rules_record::{ExtraDelay, Flow, FlowEntry, Inputs, InputsAnswer, Instance, Remembered};

@@ -1,5 +1,7 @@
 // What a line crafts: the rows of a window, one of its sums, the peaks of a hold, a part of an input's record. It is no call and is never refused.
 // Its words were read before (crate text_read): here they are stored. Of more rows or peaks than there are places only their number is kept.
+#![tactic(auto)]
+
 ghost use Rattle.std.specs.Prelude.{◌≡◌};
 
 use base::{least_usize, place_u32, product_usize, sum_usize};

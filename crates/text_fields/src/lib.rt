@@ -1,5 +1,7 @@
 // The fields of a line: each is read after the byte that separates it from the one before, and ends where its form ends.
 // The caller asks for the next separator, or that the line ends, so that nothing but the protocol's own text is taken.
+#![tactic(auto)]
+
 ghost use Rattle.std.specs.Prelude.{◌≡◌, ◌+◌, ◌*◌};
 ghost use Rattle.text_scan.specs.Scan.{closed};
 ghost use Rattle.text_fields.specs.Fields.{number_after, small_of_number, small_after, flag_of, flag_after, some_of, maybe_after, small_maybe_of, maybe_small_after, ms_of, kind_after, halves_of, flow_from, flow_after};

@@ -1,4 +1,6 @@
 // The bytes of a file as a word of a line (compare/README.md, `dread1`): two lower-case hex digits a byte, or `-` for none.
+#![tactic(auto)]
+
 ghost use Rattle.std.specs.Prelude.{◌≡◌, ◌≤◌, length, take};
 ghost use Rattle.text_files.specs.Files.{pair_at, digits_end, file_at, kept_from};
 

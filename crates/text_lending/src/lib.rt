@@ -1,5 +1,7 @@
 // The lists of the program, and how much of each is lent to a call. They have room for 16 inputs with 4,096 buckets a second, and after that
 // for a window and a hold alone. A function that only hands a list on is lent the whole array, one that cuts a part a slice.
+#![tactic(auto)]
+
 ghost use Rattle.std.specs.Prelude.{◌≡◌, ◌≤◌, take};
 ghost use Rattle.text_lending.specs.LentTo.{buckets_held, lent_to};
 ghost use Rattle.text_lending.specs.Lengths.{buckets_lent, cut_to, lengths_for, files_lent, places_from};

@@ -1,5 +1,7 @@
 // Printing an answer of the text protocol (compare/README.md) into a lent buffer from a place on: each function answers the place after what
 // it wrote. What does not fit is left out, and the answer is then the buffer's length.
+#![tactic(auto)]
+
 pub mod bits;
 
 ghost use Rattle.std.specs.Prelude.{◌≡◌, [], ◌∷◌, ◌<◌, ◌≤◌, length, drop};

@@ -1,5 +1,7 @@
 // The request of a line (compare/README.md, "The protocol"). A line more is one definition in specs/, one function that reads it, and one
 // entry in its group of lines.
+#![tactic(auto)]
+
 ghost use Rattle.std.specs.Prelude.{◌≡◌, length};
 ghost use Rattle.text_read.specs.Table.{full_line, prefix_at, said_of, request_at, line_said, line_at};
 

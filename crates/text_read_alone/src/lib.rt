@@ -1,5 +1,7 @@
 // The lines of the calls that need no supervisor (compare/README.md): each is its name and its words, read from place `at`. Where the name is
 // another, or a word is missing or of another form, the place after the words is LOST.
+#![tactic(auto)]
+
 ghost use Rattle.std.specs.Prelude.{◌≡◌};
 ghost use Rattle.text_read_alone.specs.Alone.{or_else, hold_at, ms_line, samples_line, need_line, index_at_line, time_of_line, wnew_line, wset_line, sum_at, wsum_line, wpush_line, wclear_line, wspan_line, wquant_line, hnew_line, hset_line, next_line, co_set_line, co_changed_line, co_pending_line, co_take_line, co_take_due_line, q_set_line, q_up_line, q_failed_line, dread1_line, number_lines, window_lines, hold_lines, clock_lines, lone_line};
 

@@ -1,4 +1,6 @@
 // What a line of the text protocol asks, by value (compare/README.md, "The protocol"); which words give which request is text_read's. Where a request has a list (kinds, looks, loaded delays, rows, peaks), it holds the place of the line where the list begins.
+#![tactic(auto)]
+
 use delay_hold::{DelayHold, Lag};
 use rules_calls::{DelaySetting, Settings, Wanted};
 use rules_record::Proposal;
@@ -11,7 +13,7 @@ pub mod parts;
 
 // What reading a line depends on: the inputs of the supervisor (0 before the first `new`), and the buckets a second of its windows and of the
 // window alone, which a crafted row or sum may name.
-#[derive(Drop)]
+#[derive(Clone, Copy)]
 pub struct Known {
     pub inputs: usize,
     pub buckets: usize,
@@ -19,7 +21,7 @@ pub struct Known {
 }
 
 // ---- what the calls alone ask
-#[derive(Drop)]
+#[derive(Clone, Copy)]
 pub struct NeedAsked {
     pub offset: u32,
     pub most: u32,
@@ -28,26 +30,26 @@ pub struct NeedAsked {
     pub lag: u32,
 }
 
-#[derive(Drop)]
+#[derive(Clone, Copy)]
 pub struct WindowAsked {
     pub offset: u32,
     pub most: u32,
     pub width: u32,
 }
 
-#[derive(Drop)]
+#[derive(Clone, Copy)]
 pub struct PushAsked {
     pub lag: u32,
     pub time: u64,
 }
 
-#[derive(Drop)]
+#[derive(Clone, Copy)]
 pub struct QuantileAsked {
     pub q: f64,
     pub limit: u32,
 }
 
-#[derive(Drop)]
+#[derive(Clone, Copy)]
 pub struct NextAsked {
     pub offset: u32,
     pub most: u32,
@@ -62,35 +64,35 @@ pub struct NextAsked {
     pub time: u64,
 }
 
-#[derive(Drop)]
+#[derive(Clone, Copy)]
 pub struct ChangedAsked {
     pub time: u64,
     pub delay: u64,
 }
 
 // The rows of a crafted window: where they begin, and how many they are.
-#[derive(Drop)]
+#[derive(Clone, Copy)]
 pub struct RowsAsked {
     pub at: usize,
     pub seconds: usize,
 }
 
 // A crafted sum of a window, and its bucket.
-#[derive(Drop)]
+#[derive(Clone, Copy)]
 pub struct SumAsked {
     pub bucket: usize,
     pub sum: u64,
 }
 
 // A crafted hold: where its peaks begin, and the hold that its fields make.
-#[derive(Drop)]
+#[derive(Clone, Copy)]
 pub struct HoldAsked {
     pub at: usize,
     pub hold: DelayHold,
 }
 
 // A call that needs no supervisor.
-#[derive(Drop)]
+#[derive(Clone, Copy)]
 pub enum Lone {
     Ms(u32),
     Samples(f64),
@@ -121,7 +123,7 @@ pub enum Lone {
 
 // ---- what the calls on a supervisor ask
 // `kinds` is the place of the kinds, `loads` that of the loaded delays, which are `loaded` many.
-#[derive(Drop)]
+#[derive(Clone, Copy)]
 pub struct NewAsked {
     pub time: u64,
     pub settings: Settings,
@@ -130,7 +132,7 @@ pub struct NewAsked {
     pub loaded: usize,
 }
 
-#[derive(Drop)]
+#[derive(Clone, Copy)]
 pub struct RouteAsked {
     pub time: u64,
     pub input: usize,
@@ -138,21 +140,21 @@ pub struct RouteAsked {
     pub world: World,
 }
 
-#[derive(Drop)]
+#[derive(Clone, Copy)]
 pub struct UpdateAsked {
     pub time: u64,
     pub input: usize,
     pub setting: DelaySetting,
 }
 
-#[derive(Drop)]
+#[derive(Clone, Copy)]
 pub struct TimeAsked {
     pub time: u64,
     pub input: usize,
 }
 
 // `looks` is the place of what the tick brings for each input; the lags are `lags` many. A dry tick is read and not made.
-#[derive(Drop)]
+#[derive(Clone, Copy)]
 pub struct TickAsked {
     pub dry: bool,
     pub time: u64,
@@ -161,28 +163,28 @@ pub struct TickAsked {
 }
 
 // An input, and two numbers.
-#[derive(Drop)]
+#[derive(Clone, Copy)]
 pub struct StatusAsked {
     pub input: usize,
     pub first: u32,
     pub second: u32,
 }
 
-#[derive(Drop)]
+#[derive(Clone, Copy)]
 pub struct CountersAsked {
     pub reopens: u64,
     pub delay_changes: u64,
     pub late_events: u64,
 }
 
-#[derive(Drop)]
+#[derive(Clone, Copy)]
 pub struct DelaysAsked {
     pub delay: u32,
     pub proposed: Proposal,
 }
 
 // What `put` crafts of an input.
-#[derive(Drop)]
+#[derive(Clone, Copy)]
 pub enum Part {
     Window(RowsAsked),
     Hold(HoldAsked),
@@ -191,14 +193,14 @@ pub enum Part {
     Sum(SumAsked),
 }
 
-#[derive(Drop)]
+#[derive(Clone, Copy)]
 pub struct PutAsked {
     pub input: usize,
     pub part: Part,
 }
 
 // A call on a supervisor.
-#[derive(Drop)]
+#[derive(Clone, Copy)]
 pub enum Call {
     New(NewAsked),
     Route(RouteAsked),
@@ -215,7 +217,7 @@ pub enum Call {
 }
 
 // ---- a line
-#[derive(Drop)]
+#[derive(Clone, Copy)]
 pub enum Request {
     Bad,
     Flush,
@@ -226,7 +228,7 @@ pub enum Request {
 }
 
 // A request, and whether its lists are lent one place short.
-#[derive(Drop)]
+#[derive(Clone, Copy)]
 pub struct Line {
     pub short: bool,
     pub request: Request,

@@ -55,7 +55,7 @@ pub fn kinds_at(s: &[u8], at: usize, n: usize) -> [ExtraDelay; 16]
 }
 
 // ---- looks
-#[derive(Drop)]
+#[derive(Clone, Copy)]
 pub struct LookWord {
     pub look: Look,
     pub next: usize,
@@ -147,7 +147,7 @@ pub fn looks_at(s: &[u8], at: usize, n: usize) -> [Look; 16]
 
 // ---- lags
 // How many there are up to the end of the line, which is `next`. Where not all could be read, LOST.
-#[derive(Drop)]
+#[derive(Clone, Copy)]
 pub struct Found {
     pub count: usize,
     pub next: usize,
@@ -182,7 +182,7 @@ pub fn lags_at(s: &[u8], at: usize, heard: &mut [u32]) -> Found
 }
 
 // ---- loaded delays
-#[derive(Drop)]
+#[derive(Clone, Copy)]
 pub struct Load {
     pub high: u64,
     pub low: u64,
@@ -268,14 +268,14 @@ pub fn loads_at(
 }
 
 // ---- rows
-#[derive(Drop)]
+#[derive(Clone, Copy)]
 pub struct Row {
     pub start: u64,
     pub total: u64,
     pub next: usize,
 }
 
-#[derive(Drop)]
+#[derive(Clone, Copy)]
 pub struct Cell {
     pub bucket: usize,
     pub count: u32,
@@ -355,7 +355,7 @@ pub fn rows_at(s: &[u8], at: usize, buckets: usize) -> Found
 }
 
 // ---- peaks
-#[derive(Drop)]
+#[derive(Clone, Copy)]
 pub struct Peak {
     pub time: u64,
     pub lag: u32,

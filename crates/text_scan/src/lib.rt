@@ -1,5 +1,7 @@
 // Scanning a line of the text protocol (compare/README.md): bytes, words, texts and digits at a place.
 // Every function takes any place: one past the end finds nothing.
+#![tactic(auto)]
+
 pub mod bytes;
 pub mod inner;
 

@@ -1,6 +1,8 @@
 // The words of a line, read one after the other. Each function reads what stands after a separating byte and answers its value with the
 // place after it. Where nothing of that form stands, the value is zero and the place is LOST, at which nothing stands either: so the words of
 // a call are read without a test between them, and one test at the end tells whether all were there.
+#![tactic(auto)]
+
 ghost use Rattle.std.specs.Prelude.{◌≡◌};
 ghost use Rattle.text_scan.specs.Scan.{after_text, after_word};
 ghost use Rattle.text_fields.specs.Fields.{number_after, small_after, flag_after, maybe_after, maybe_small_after, flow_after, kind_after};

@@ -1,4 +1,6 @@
 // The block clock: sample indices and times in nanoseconds.
+#![tactic(auto)]
+
 ghost use Rattle.std.specs.Prelude.{◌≡◌};
 ghost use Rattle.timing.specs.Clock.{index_answer, time_answer};
 
