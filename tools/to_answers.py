@@ -219,6 +219,7 @@ PATH = re.compile(r"(?<![\w.])c((?:\.[^\s().,;\]\[{}]+)+)")
 class Function:
     def __init__(self, crate, where, made, clauses, said):
         self.crate, self.where, self.made, self.clauses, self.said = crate, where, made, clauses, said
+        self.negated = set()
         self.places = {p[0]: p for p in made["places"]}
         self.key = crate + "::" + os.path.relpath(where, f"crates/{crate}/proofs").replace("/", "::")
 
@@ -231,6 +232,11 @@ class Function:
 
     def body(self, text, need, asked):
         chain = self.chain(asked)
+        for m in list(re.finditer(r"let (\w+) = c(?:\.before)* in[ \n]*", text)):
+            if re.search(r"(?<![\w.'-])" + m.group(1) + r"(?![\w.'-])(?! = c)", text.replace(m.group(0), "")):
+                continue
+            text = text.replace(m.group(0), "")
+            text = re.sub(r"(?<![\w.'-])" + m.group(1) + r"\.", "c.", text)
         everywhere = list(self.places.values())
 
         def turn(m):
@@ -260,11 +266,14 @@ class Function:
                                 self.said.append(f"{self.key}: {need}: {m.group(0)}")
                                 r = rest[1:]
                             rest = ["ensures"] + r
-                        return "c." + ".".join([p[2][1]] + rest)
+                        new = "c." + ".".join([p[2][1]] + rest)
+                        return new
             self.said.append(f"{self.key}: {need}: no step {m.group(0)}")
             return "c." + ".".join(fields)
 
-        return PATH.sub(turn, text)
+        text = PATH.sub(turn, text)
+        # a test that is turned round tells what it turns round
+        return re.sub(r"not-(?:true|false) \S+ (c\.\S*?(?:if|test)-\S*not-\S*\.(?:true|false))", r"\1", text)
 
     def run(self):
         path = os.path.join(self.where, "Proof.antt")
@@ -329,6 +338,7 @@ class Function:
                 unf = d[4]
             else:
                 mm = re.match(r"^\(λ ([^.]*)\. (.*)\)$", term, re.S)
+                unf = spec[4]
                 if mm:
                     pars, text_of, label = mm.group(1), " " + mm.group(2), comment or "?"
                 else:
@@ -355,7 +365,7 @@ class Function:
         for k in sorted(picked):
             label, pars, text_of, unf = picked[k]
             goal = new[k][1]
-            if text_of.strip() in TRIVIAL and not unf:
+            if text_of.strip() in TRIVIAL and not (unf and re.search(r"^returns|requires|^loop", goal)):
                 continue
             if pars is None:
                 out.append(f"pub {goal} : goal.{goal}\n{goal} = {text_of}\n")
@@ -420,6 +430,7 @@ class Function:
                 return
             content = "\n".join(blocks)
             kept = []
+            negated = [f"use Rattle.std.proofs.lemmas.Bool.{{{', '.join(sorted(n for n in self.negated if used(n, content)))}}}"] if any(used(n, content) for n in self.negated) else []
             for u in uses:
                 mm = re.match(r"use ([^{]+)\.\{(.*)\}\s*$", u)
                 if mm:
@@ -430,7 +441,7 @@ class Function:
                 else:
                     kept.append(u)
             open(target, "w", encoding="utf-8").write(
-                "\n".join(comments + kept + [f"use {module}.{which} as goal", "", content]).rstrip() + "\n"
+                "\n".join(comments + kept + negated + [f"use {module}.{which} as goal", "", content]).rstrip() + "\n"
             )
 
         write("Invariants.antt", inv, "Given")

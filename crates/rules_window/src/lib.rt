@@ -1,7 +1,6 @@
 // A window of lags: its rules and their laws (document 01, "LagWindow"), and the data that they speak of. No code: the code that is proved equal to them stands in lag_rows, lag_window and inputs_window.
 #![tactic(auto)]
 
-
 // The end of the bucket that holds a quantile, none where no lag counts, or the number of the check that refuses.
 #[derive(Clone, Copy)]
 pub enum Quantile {
