@@ -221,6 +221,7 @@ class Function:
         self.crate, self.where, self.made, self.clauses, self.said = crate, where, made, clauses, said
         self.negated = set()
         self.places = {p[0]: p for p in made["places"]}
+        self.arms = {p[0]: a for p, a in zip(made["places"], made["arms"])}
         self.key = crate + "::" + os.path.relpath(where, f"crates/{crate}/proofs").replace("/", "::")
 
     def chain(self, place):
@@ -257,6 +258,12 @@ class Function:
             step = norm(fields[0])
             for group in (chain, everywhere):
                 for p in group:
+                    arm = self.arms.get(p[0])
+                    for field, own, path in arm[2] if arm else []:
+                        if norm(own) == step and path and fields[1 : 1 + len(path)] == path:
+                            return "c." + ".".join([arm[0], field] + fields[1 + len(path) :])
+            for group in (chain, everywhere):
+                for p in group:
                     if norm(p[2][0]) == step:
                         rest = fields[1:]
                         if rest and rest[0] == "ensures" and p[3]:
@@ -267,6 +274,10 @@ class Function:
                                 r = rest[1:]
                             rest = ["ensures"] + r
                         new = "c." + ".".join([p[2][1]] + rest)
+                        if re.match(r"(if-|loop-\S*)not-", p[2][1]) and rest in (["true"], ["false"]) and not re.search(r"(told_(yes|no) _ _ c\.\S+|not-(true|false) \S+) $", text[: m.start()]):
+                            wrap = "not_from_false" if rest == ["true"] else "not_from_true"
+                            self.negated.add(wrap)
+                            return f"({wrap} _ {new})"
                         return new
             self.said.append(f"{self.key}: {need}: no step {m.group(0)}")
             return "c." + ".".join(fields)

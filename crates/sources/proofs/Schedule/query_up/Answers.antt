@@ -1,0 +1,16 @@
+-- `sources::Schedule::query_up` meets its contract. Assumes nothing.
+use Rattle.base.proofs.All.{told_no, told_yes}
+use Rattle.sources.proofs.Cases.{up_broken, up_late, up_never, up_after}
+use Rattle.sources.proofs.Schedule.query_up.Goals as goal
+
+pub returns-then-not-whole : goal.returns-then-not-whole
+returns-then-not-whole c = up_broken _ _ (told_no _ _ c.whole.ensures c.if-not-whole.true)
+
+pub returns-then-time-gt-TIME_LIMIT : goal.returns-then-time-gt-TIME_LIMIT
+returns-then-time-gt-TIME_LIMIT c = up_late _ _ (told_yes _ _ c.whole.ensures c.if-not-whole.false) c.if-time-gt-TIME_LIMIT.true
+
+pub returns-in-Never : goal.returns-in-Never
+returns-in-Never c = up_never _ _ (told_yes _ _ c.whole.ensures c.if-not-whole.false) c.if-time-gt-TIME_LIMIT.false c.in-Never.is
+
+pub returns-in-Until : goal.returns-in-Until
+returns-in-Until c = up_after _ _ (told_yes _ _ c.whole.ensures c.if-not-whole.false) c.if-time-gt-TIME_LIMIT.false _ _ c.in-Until.is
