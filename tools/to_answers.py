@@ -87,7 +87,7 @@ def tuple_parts(body):
             depth -= 1
             if depth == 0 and i != len(body) - 1:
                 return None
-    parts = comma_split(body[1:-1])
+    parts = [p for p in comma_split(body[1:-1]) if p]
     return parts if len(parts) > 1 else None
 
 
@@ -171,6 +171,10 @@ def clause_names(crates):
                                 break
                         j += 1
                     j += 1
+                signature = rest[i : rest.find("{", i)]
+                signature = re.split(r"\brequires\b|\bensures\b", signature)[0]
+                params = re.findall(r"(\w+)\s*:\s*&\s*mut\b", signature)
+                LENT[f"{crate}::{module}{impl[0] + '::' if impl else ''}{name}"] = params
                 found[f"{crate}::{module}{impl[0] + '::' if impl else ''}{name}"] = (req, ens)
     return found
 
@@ -192,25 +196,95 @@ def through(names, fields):
     return [names[-1]] + fields
 
 
+def bare(body):
+    """The term without brackets round the whole of it."""
+    body = body.strip()
+    while body.startswith("(") and body.endswith(")"):
+        depth = 0
+        for i, c in enumerate(body):
+            depth += (c in "([{") - (c in ")]}")
+            if depth == 0 and i != len(body) - 1:
+                return body
+        if len(comma_split(body[1:-1])) > 1:
+            return body
+        body = body[1:-1].strip()
+    return body
+
+
+def after_lets(body):
+    """What the term binds first, and what follows."""
+    depth, last = 0, None
+    for m in re.finditer(r"[(\[{]|[)\]}]|(?<![\w.'-])in(?![\w'-])", body):
+        g = m.group(0)
+        if g == "in":
+            if depth == 0:
+                last = m.end()
+        else:
+            depth += 1 if g in "([{" else -1
+    if body.startswith("let ") and last:
+        return body[:last], body[last:].strip()
+    return "", body
+
+
 def record_of(names, body):
     if len(names) < 2:
         return body
-    parts, rest = [], body
+    lets, rest = after_lets(bare(body))
+    lets = lets + " " if lets else ""
+    parts = []
     for k in range(len(names) - 1):
         t = tuple_parts(rest)
-        if t is None:
-            return None
-        if len(t) == len(names) - k:
+        if t is None or (len(t) != 2 and len(t) != len(names) - k):
+            break
+        if len(t) == len(names) - k and (len(t) > 2 or k == len(names) - 2):
             parts += t
             rest = None
             break
-        if len(t) != 2:
-            return None
         parts.append(t[0])
         rest = t[1]
     if rest is not None:
-        parts.append(rest)
-    return "record { " + "; ".join(f"{n} = {p}" for n, p in zip(names, parts)) + " }"
+        left = names[len(parts) :]
+        if len(left) == 1:
+            parts.append(rest)
+        elif re.match(r"search |omega|grind|cc\b", rest):
+            parts += [rest] * len(left)
+        else:
+            at = "h"
+            lets += f"let h = {rest} in "
+            for k, n in enumerate(left):
+                parts.append("h" + ".1" * k + (".0" if k < len(left) - 1 else ""))
+    return lets + "record { " + "; ".join(f"{n} = {p}" for n, p in zip(names, parts)) + " }"
+
+
+NEGATED = set()
+LENT = {}
+
+
+def negated_laws():
+    """The laws that take the equation of a test turned round."""
+    for path in glob.glob("crates/*/proofs/*.antt"):
+        for d in decls(open(path, encoding="utf-8").read())[1]:
+            if d[1] and re.search(r"(?<![\w.-])not [\w'.-]+ ≡ (true|false)", d[3]):
+                NEGATED.add(d[1])
+        for m in re.finditer(r"(?m)^\s+(?:pub )?([\w'-]+) : .*(?<![\w.-])not [\w'.-]+ ≡ (?:true|false)", open(path, encoding="utf-8").read()):
+            NEGATED.add(m.group(1))
+
+
+def head_of(text, at):
+    """The function to which the term that begins at `at` is an argument."""
+    depth, i = 0, at - 1
+    while i >= 0:
+        if text[i] in ")]}":
+            depth += 1
+        elif text[i] in "([{":
+            if depth == 0:
+                break
+            depth -= 1
+        elif depth == 0 and text[i] in ",=∙":
+            break
+        i -= 1
+    m = re.match(r"\s*(?:sym |search |simp )?([^\s()]+)", text[i + 1 : at])
+    return m.group(1) if m else ""
 
 
 PATH = re.compile(r"(?<![\w.])c((?:\.[^\s().,;\]\[{}]+)+)")
@@ -218,6 +292,7 @@ PATH = re.compile(r"(?<![\w.])c((?:\.[^\s().,;\]\[{}]+)+)")
 
 class Function:
     def __init__(self, crate, where, made, clauses, said):
+        self.lent = LENT
         self.crate, self.where, self.made, self.clauses, self.said = crate, where, made, clauses, said
         self.negated = set()
         self.places = {p[0]: p for p in made["places"]}
@@ -233,11 +308,19 @@ class Function:
 
     def body(self, text, need, asked):
         chain = self.chain(asked)
-        for m in list(re.finditer(r"let (\w+) = c(?:\.before)* in[ \n]*", text)):
-            if re.search(r"(?<![\w.'-])" + m.group(1) + r"(?![\w.'-])(?! = c)", text.replace(m.group(0), "")):
-                continue
-            text = text.replace(m.group(0), "")
-            text = re.sub(r"(?<![\w.'-])" + m.group(1) + r"\.", "c.", text)
+        # names for an earlier `c`: every step is a field of `c` now
+        alias = {"c"}
+        while True:
+            m = next((m for m in re.finditer(r"let ([\w']+) = ([\w']+)(?:\.before)* in[ \n]*", text) if m.group(2) in alias), None)
+            if m is None:
+                break
+            alias.add(m.group(1))
+            text = text[: m.start()] + text[m.end() :]
+        alias.discard("c")
+        for name in alias:
+            text = re.sub(r"(?<![\w.'-])" + name + r"\.", "c.", text)
+            if re.search(r"(?<![\w.'-])" + name + r"(?![\w'-])", text):
+                self.said.append(f"{self.key}: {need}: {name} stands alone")
         everywhere = list(self.places.values())
 
         def turn(m):
@@ -247,6 +330,7 @@ class Function:
             if not fields:
                 return m.group(0)
             if fields[0] == "args":
+                fields[1:2] = [fields[1].replace("-", "_")] if len(fields) > 1 else []
                 return "c." + ".".join(fields)
             if fields[0] in ("requires",):
                 req = self.clauses.get(self.key, ([], []))[0]
@@ -266,6 +350,15 @@ class Function:
                 for p in group:
                     if norm(p[2][0]) == step:
                         rest = fields[1:]
+                        if len(rest) > 1 and rest[0] in ("new", "auto") and p[3] and rest[1] in ("0", "1"):
+                            lent = self.lent.get(p[3], [])
+                            k = 0
+                            while rest[1 + k : 2 + k] == ["1"]:
+                                k += 1
+                            if rest[1 + k : 2 + k] == ["0"] and k < len(lent):
+                                rest = [rest[0], lent[k]] + rest[2 + k :]
+                            else:
+                                self.said.append(f"{self.key}: {need}: {m.group(0)} of {lent}")
                         if rest and rest[0] == "ensures" and p[3]:
                             ens = self.clauses.get(p[3], ([], []))[1]
                             r = through(ens, rest[1:])
@@ -274,7 +367,7 @@ class Function:
                                 r = rest[1:]
                             rest = ["ensures"] + r
                         new = "c." + ".".join([p[2][1]] + rest)
-                        if re.match(r"(if-|loop-\S*)not-", p[2][1]) and rest in (["true"], ["false"]) and not re.search(r"(told_(yes|no) _ _ c\.\S+|not-(true|false) \S+) $", text[: m.start()]):
+                        if re.match(r"(if-|loop-\S*)not-", p[2][1]) and rest in (["true"], ["false"]) and head_of(text, m.start()) in NEGATED:
                             wrap = "not_from_false" if rest == ["true"] else "not_from_true"
                             self.negated.add(wrap)
                             return f"({wrap} _ {new})"
@@ -469,6 +562,7 @@ def used(name, content):
 
 def main(crates):
     clauses = clause_names(crates)
+    negated_laws()
     for crate in crates:
         top = tempfile.mkdtemp()
         made = os.path.join(top, "names")

@@ -246,8 +246,8 @@ module _ (B : ℕ) (ts cs us rows : List ℕ) (b bits : ℕ) (few : B ≤ bucket
         last false = refl
 
 -- ---- the same in 64 bits
-pub long_fails : (a b q : Bool) → q ≡ a → not q ≡ true → false ≡ both a b
-long_fails a b q e h = both_no a b (sym e ∙ not-true q h)
+pub long_fails : (a b q : Bool) → q ≡ a → q ≡ false → false ≡ both a b
+long_fails a b q e h = both_no a b (sym e ∙ h)
 
-pub long_tells : (a b q r : Bool) → q ≡ a → not q ≡ false → r ≡ b → r ≡ both a b
-long_tells a b q r e h f = both_yes a b r (sym e ∙ not-false q h) f
+pub long_tells : (a b q r : Bool) → q ≡ a → q ≡ true → r ≡ b → r ≡ both a b
+long_tells a b q r e h f = both_yes a b r (sym e ∙ h) f

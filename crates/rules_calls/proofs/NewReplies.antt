@@ -109,7 +109,7 @@ module _ (settings : Settings) (kinds : List ExtraDelay) (bytes delays : List �
       pub new_late : time_limit < time → ◌≡◌ {A = Reply} (record { number = 8; inputs = none; lists = l; commands = commands }) (new_reply settings kinds bytes delays time l commands)
       new_late late = refused_by 8 (sym (number_late settings bytes delays time l (length commands) (sym is-settings ∙ passed) late)) (λ e. omega arith)
 
-      pub new_full : time ≤ time_limit → {s : Inputs} {fits : Bool} → s ≡ blank_for settings → fits ≡ load_fits (length delays) bytes delays s → not fits ≡ true
+      pub new_full : time ≤ time_limit → {s : Inputs} {fits : Bool} → s ≡ blank_for settings → fits ≡ load_fits (length delays) bytes delays s → fits ≡ false
           → ◌≡◌ {A = Reply} (record { number = 9; inputs = none; lists = l; commands = commands }) (new_reply settings kinds bytes delays time l commands)
       new_full soon is-blank is-fits full =
           refused_by 9
@@ -126,7 +126,7 @@ module _ (settings : Settings) (kinds : List ExtraDelay) (bytes delays : List �
     pub start_asked : {zeros : List ℕ} → zeros ≡ replicate (length commands) 0 → (settings.count * 3 ≤ length zeros) × (settings.count ≤ 16)
     start_asked e = (rw (e, length-replicate {A = ℕ} (length commands) 0) (omega (arith, fit.commands_long)), fit.allowed.most)
 
-    pub new_done : time ≤ time_limit → {s all : Inputs} {fits : Bool} → s ≡ blank_for settings → fits ≡ load_fits (length delays) bytes delays s → not fits ≡ false → (fits ≡ true → all ≡ loaded_below (length delays) bytes delays s)
+    pub new_done : time ≤ time_limit → {s all : Inputs} {fits : Bool} → s ≡ blank_for settings → fits ≡ load_fits (length delays) bytes delays s → fits ≡ true → (fits ≡ true → all ≡ loaded_below (length delays) bytes delays s)
         → {m : Lists} {zeros after : List ℕ} {sent : Sent} → m ≡ zeroed_lists l → zeros ≡ replicate (length commands) 0 → Did (settings.count * 3) (started_below settings.count kinds time all) sent zeros after 0
         → ◌≡◌ {A = Reply} (record { number = n; inputs = sent.inputs; lists = m; commands = after }) (new_reply settings kinds bytes delays time l commands)
     unfolding new_reply started
@@ -136,7 +136,7 @@ module _ (settings : Settings) (kinds : List ExtraDelay) (bytes delays : List �
         ∙ sym (number_none settings bytes delays time l (length commands) (sym is-settings ∙ passed) soon (told_yes _ _ (is-fits ∙ ap (load_fits (length delays) bytes delays) is-blank) room)))
         passed
         (beside (zeroed_lists l) (started_below settings.count kinds time all))
-        (ap (λ (z : Inputs). beside (zeroed_lists l) (started_below settings.count kinds time z)) (is_loaded (not-false fits room) ∙ ap (loaded_below (length delays) bytes delays) is-blank))
+        (ap (λ (z : Inputs). beside (zeroed_lists l) (started_below settings.count kinds time z)) (is_loaded room ∙ ap (loaded_below (length delays) bytes delays) is-blank))
         did.inputs
         is-zeroed
         (did.words

@@ -33,10 +33,10 @@ module _ (s : Inputs) (looks : List Look) where
   looks_none = (omega arith, all_none _)
 
   module _ (i : ℕ) (h : i < s.count) {fits : Bool} (is : fits ≡ look_fits s.policy.delay_max (look_at looks i)) where
-    pub looks_more : LooksBelow i → not fits ≡ false → LooksBelow (i + 1)
+    pub looks_more : LooksBelow i → fits ≡ true → LooksBelow (i + 1)
     looks_more below fit = (omega arith, all_more (λ k. look_fits s.policy.delay_max (look_at looks k)) i below.1 (told_yes _ _ is fit))
 
-    pub looks_stop : not fits ≡ true → false ≡ looks_fit s looks
+    pub looks_stop : fits ≡ false → false ≡ looks_fit s looks
     unfolding looks_fit
     looks_stop unfit = all_stop (λ k. look_fits s.policy.delay_max (look_at looks k)) s.count i h (told_no _ _ is unfit)
 
@@ -103,13 +103,13 @@ module _ (s : Inputs) (looks : List Look) (time : ℕ) (starts totals : List ℕ
     )
 
     module _ {fits : Bool} (is : (counts sums times peaks : List ℕ) → fits ≡ room_for time (look_at looks i).lags (window_of s (lists starts totals counts sums times peaks) i)) where
-      pub rooms_more : RoomsBelow i → not fits ≡ false → RoomsBelow (i + 1)
+      pub rooms_more : RoomsBelow i → fits ≡ true → RoomsBelow (i + 1)
       rooms_more below fit = (
         omega arith,
         λ counts sums times peaks. all_more (λ k. room_for time (look_at looks k).lags (window_of s (lists starts totals counts sums times peaks) k)) i (below.1 counts sums times peaks) (told_yes _ _ (is counts sums times peaks) fit),
       )
 
-      pub rooms_stop : not fits ≡ true → (counts sums times peaks : List ℕ) → false ≡ rooms_fit s (lists starts totals counts sums times peaks) looks time
+      pub rooms_stop : fits ≡ false → (counts sums times peaks : List ℕ) → false ≡ rooms_fit s (lists starts totals counts sums times peaks) looks time
       unfolding rooms_fit
       rooms_stop unfit counts sums times peaks =
           all_stop (λ k. room_for time (look_at looks k).lags (window_of s (lists starts totals counts sums times peaks) k)) s.count i h (told_no _ _ (is counts sums times peaks) unfit)

@@ -55,12 +55,12 @@ module _ (s : Inputs) (l : Lists) (words : ℕ) (looks : List Look) (lags : List
     tick_late h = sym (number_passed s l (Words words) (sym is-record ∙ passed) _ ∙ no_ask 8 _ (lt-leb _ _ h))
 
     module _ (soon : time ≤ time_limit) {good : Bool} (is-good : good ≡ looks_fit s looks) where
-      pub looks_refused : not good ≡ true → 10 ≡ tick_number s l words looks lags time
+      pub looks_refused : good ≡ false → 10 ≡ tick_number s l words looks lags time
       unfolding tick_number
       looks_refused refused = sym (number_passed s l (Words words) (sym is-record ∙ passed) _ ∙ yes_ask 8 _ (le-leb _ _ soon) ∙ no_ask 10 _ (told_no _ _ is-good refused))
 
-      module _ (fits : not good ≡ false) {even : Bool} (is-even : even ≡ lags_fit s looks lags) where
-        pub lags_refused : not even ≡ true → 10 ≡ tick_number s l words looks lags time
+      module _ (fits : good ≡ true) {even : Bool} (is-even : even ≡ lags_fit s looks lags) where
+        pub lags_refused : even ≡ false → 10 ≡ tick_number s l words looks lags time
         unfolding tick_number
         lags_refused refused =
             sym
@@ -69,8 +69,8 @@ module _ (s : Inputs) (l : Lists) (words : ℕ) (looks : List Look) (lags : List
             ∙ yes_ask 10 _ (told_yes _ _ is-good fits)
             ∙ no_ask 10 _ (told_no _ _ is-even refused))
 
-        module _ (too : not even ≡ false) {roomy : Bool} (is-roomy : roomy ≡ rooms_fit s l looks time) where
-          pub rooms_refused : not roomy ≡ true → 11 ≡ tick_number s l words looks lags time
+        module _ (too : even ≡ true) {roomy : Bool} (is-roomy : roomy ≡ rooms_fit s l looks time) where
+          pub rooms_refused : roomy ≡ false → 11 ≡ tick_number s l words looks lags time
           unfolding tick_number
           rooms_refused refused =
               sym
@@ -80,7 +80,7 @@ module _ (s : Inputs) (l : Lists) (words : ℕ) (looks : List Look) (lags : List
               ∙ yes_ask 10 _ (told_yes _ _ is-even too)
               ∙ no_ask 11 _ (told_no _ _ is-roomy refused))
 
-          pub tick_passes : not roomy ≡ false → 0 ≡ tick_number s l words looks lags time
+          pub tick_passes : roomy ≡ true → 0 ≡ tick_number s l words looks lags time
           unfolding tick_number
           tick_passes last =
               sym

@@ -66,12 +66,12 @@ module _ (B : ℕ) (cs us : List ℕ) where
 -- ---- every total is zero
 module _ (B : ℕ) (ts cs us : List ℕ) (pos : 0 < B) (long : length cs ≡ 11 * B) (t : Bool) (et : t ≡ blank_from 0 ts) (ht : t ≡ true) (z : Bool) (ez : z ≡ blank_from 0 cs) where
   -- a count that is not zero is in a row whose total is
-  pub counted_fails : not z ≡ true → false ≡ tallies_right B ts cs us
-  counted_fails h = both_no _ _ (by_bool (summed 11 B ts cs) (λ s. absurd (not_both (blank_intro 0 cs (λ i l. unused_zero B ts cs 0 long pos (omega arith) (sym et ∙ ht) s i (omega arith))) (sym ez ∙ not-true z h))) (λ s. s))
+  pub counted_fails : z ≡ false → false ≡ tallies_right B ts cs us
+  counted_fails h = both_no _ _ (by_bool (summed 11 B ts cs) (λ s. absurd (not_both (blank_intro 0 cs (λ i l. unused_zero B ts cs 0 long pos (omega arith) (sym et ∙ ht) s i (omega arith))) (sym ez ∙ h))) (λ s. s))
 
-  module _ (h : not z ≡ false) where
+  module _ (h : z ≡ true) where
     blank_counts : (i : ℕ) → get_or cs i 0 ≡ 0
-    blank_counts i = blank_at 0 cs (sym ez ∙ not-false z h) i (omega arith)
+    blank_counts i = blank_at 0 cs (sym ez ∙ h) i (omega arith)
 
     blank_totals : (i : ℕ) → get_or ts i 0 ≡ 0
     blank_totals i = blank_at 0 ts (sym et ∙ ht) i (omega arith)

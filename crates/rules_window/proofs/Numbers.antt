@@ -190,13 +190,13 @@ module _ (time : ℕ) (w : Window) (sums : List ℕ) (n : ℕ) (e : n ≡ checke
   unfolding push_number
   push_late z h = sym (checked_goes w sums n e _ z ∙ no_ask 8 _ (lt-leb time time_limit h))
 
-  pub push_full : (r : Bool) → n ≡ 0 → time ≤ time_limit → r ≡ room_for time 1 w → not r ≡ true → 11 ≡ push_number time w sums
+  pub push_full : (r : Bool) → n ≡ 0 → time ≤ time_limit → r ≡ room_for time 1 w → r ≡ false → 11 ≡ push_number time w sums
   unfolding push_number
-  push_full r z h er hr = sym (checked_goes w sums n e _ z ∙ (yes_ask 8 _ (le-leb time time_limit h) ∙ no_ask 11 0 (sym er ∙ not-true r hr)))
+  push_full r z h er hr = sym (checked_goes w sums n e _ z ∙ (yes_ask 8 _ (le-leb time time_limit h) ∙ no_ask 11 0 (sym er ∙ hr)))
 
-  pub push_passes : (r : Bool) → n ≡ 0 → time ≤ time_limit → r ≡ room_for time 1 w → not r ≡ false → 0 ≡ push_number time w sums
+  pub push_passes : (r : Bool) → n ≡ 0 → time ≤ time_limit → r ≡ room_for time 1 w → r ≡ true → 0 ≡ push_number time w sums
   unfolding push_number
-  push_passes r z h er hr = sym (checked_goes w sums n e _ z ∙ (yes_ask 8 _ (le-leb time time_limit h) ∙ yes_ask 11 0 (sym er ∙ not-false r hr)))
+  push_passes r z h er hr = sym (checked_goes w sums n e _ z ∙ (yes_ask 8 _ (le-leb time time_limit h) ∙ yes_ask 11 0 (sym er ∙ hr)))
 
   pub room_asks : n ≡ 0 → (w.seconds ≤ length w.starts) × (w.seconds ≤ length w.totals)
   room_asks z = let s = whole_of w (checked_sound w sums n e z) in (omega (arith, s.few, s.ls), omega (arith, s.few, s.lt))
@@ -214,13 +214,13 @@ module _ (q : Float) (w : Window) (sums : List ℕ) (n : ℕ) (e : n ≡ checked
   unfolding quantile_number
   quantile_stops h = checked_stops w sums n e _ h
 
-  pub quantile_outside : (r : Bool) → n ≡ 0 → r ≡ from_zero_to_one q → not r ≡ true → 14 ≡ quantile_number q w sums
+  pub quantile_outside : (r : Bool) → n ≡ 0 → r ≡ from_zero_to_one q → r ≡ false → 14 ≡ quantile_number q w sums
   unfolding quantile_number
-  quantile_outside r z er hr = sym (checked_goes w sums n e _ z ∙ no_ask 14 0 (sym er ∙ not-true r hr))
+  quantile_outside r z er hr = sym (checked_goes w sums n e _ z ∙ no_ask 14 0 (sym er ∙ hr))
 
-  pub quantile_passes : (r : Bool) → n ≡ 0 → r ≡ from_zero_to_one q → not r ≡ false → 0 ≡ quantile_number q w sums
+  pub quantile_passes : (r : Bool) → n ≡ 0 → r ≡ from_zero_to_one q → r ≡ true → 0 ≡ quantile_number q w sums
   unfolding quantile_number
-  quantile_passes r z er hr = sym (checked_goes w sums n e _ z ∙ yes_ask 14 0 (sym er ∙ not-false r hr))
+  quantile_passes r z er hr = sym (checked_goes w sums n e _ z ∙ yes_ask 14 0 (sym er ∙ hr))
 
 -- a sound window counts few enough lags for a quantile's place
 pub sound_placeable : (q : Float) (limit : ℕ) (w : Window) → Sound w → from_zero_to_one q ≡ true → Placeable q limit w

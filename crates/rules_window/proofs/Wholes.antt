@@ -31,20 +31,20 @@ module _ (w : Window) where
   pub few_fails : 11 < w.seconds → false ≡ whole_window w
   few_fails l = fails (leb w.seconds 11) (λ p. p.within) (lt-leb _ _ l)
 
-  pub apart_fails : (r : Bool) → r ≡ apart nanos (w.seconds - 1) w.starts → not r ≡ true → false ≡ whole_window w
-  apart_fails r e h = fails r (λ p. e ∙ p.apart_is) (not-true r h)
+  pub apart_fails : (r : Bool) → r ≡ apart nanos (w.seconds - 1) w.starts → r ≡ false → false ≡ whole_window w
+  apart_fails r e h = fails r (λ p. e ∙ p.apart_is) h
 
   pub span_fails : (a : ℕ) → a ≡ span_of w.seconds w.starts → window_reach < a → false ≡ whole_window w
   span_fails a e h = fails (leb (span_of w.seconds w.starts) window_reach) (λ p. p.span_is) (rw (← e) (lt-leb _ _ h))
 
-  pub timely_fails : (r : Bool) → r ≡ up_to time_limit w.seconds w.starts → not r ≡ true → false ≡ whole_window w
-  timely_fails r e h = fails r (λ p. e ∙ p.timely_is) (not-true r h)
+  pub timely_fails : (r : Bool) → r ≡ up_to time_limit w.seconds w.starts → r ≡ false → false ≡ whole_window w
+  timely_fails r e h = fails r (λ p. e ∙ p.timely_is) h
 
-  pub starts_fail : (r : Bool) → r ≡ blank_from w.seconds w.starts → not r ≡ true → false ≡ whole_window w
-  starts_fail r e h = fails r (λ p. e ∙ p.starts_blank) (not-true r h)
+  pub starts_fail : (r : Bool) → r ≡ blank_from w.seconds w.starts → r ≡ false → false ≡ whole_window w
+  starts_fail r e h = fails r (λ p. e ∙ p.starts_blank) h
 
-  pub totals_fail : (r : Bool) → r ≡ blank_from w.seconds w.totals → not r ≡ true → false ≡ whole_window w
-  totals_fail r e h = fails r (λ p. e ∙ p.totals_blank) (not-true r h)
+  pub totals_fail : (r : Bool) → r ≡ blank_from w.seconds w.totals → r ≡ false → false ≡ whole_window w
+  totals_fail r e h = fails r (λ p. e ∙ p.totals_blank) h
 
 -- ---- unused totals are zero, so the sums of all 11 rows tell that unused counts are zero too
 module _ (B : ℕ) (ts cs : List ℕ) (n : ℕ) (long : length cs ≡ 11 * B) (pos : 0 < B) (few : n ≤ 11) (blank : blank_from n ts ≡ true) (h : summed 11 B ts cs ≡ true) where
@@ -83,7 +83,7 @@ module _ (w : Window) where
       all_cong _ _ w.buckets
       (λ b l. ap (λ (x : ℕ). eqb (get_or sums b 0) x) (sum_past (λ r. get_or w.counts (r * w.buckets + b) 0) w.seconds 11 h.few (λ r g k. h.blank_c (r * w.buckets + b) (omega (arith, row_le w.seconds r w.buckets g)))))
 
-  pub rows_tell : (ra : Bool) (a : ℕ) (rt rs rz q : Bool) (sums : List ℕ) → Shaped w → w.seconds ≤ 11 → ra ≡ apart nanos (w.seconds - 1) w.starts → not ra ≡ false → a ≡ span_of w.seconds w.starts → a ≤ window_reach → rt ≡ up_to time_limit w.seconds w.starts → not rt ≡ false → rs ≡ blank_from w.seconds w.starts → not rs ≡ false → rz ≡ blank_from w.seconds w.totals → not rz ≡ false → q ≡ tallies_right w.buckets w.totals w.counts sums → q ≡ whole_with_sums w sums
+  pub rows_tell : (ra : Bool) (a : ℕ) (rt rs rz q : Bool) (sums : List ℕ) → Shaped w → w.seconds ≤ 11 → ra ≡ apart nanos (w.seconds - 1) w.starts → ra ≡ true → a ≡ span_of w.seconds w.starts → a ≤ window_reach → rt ≡ up_to time_limit w.seconds w.starts → rt ≡ true → rs ≡ blank_from w.seconds w.starts → rs ≡ true → rz ≡ blank_from w.seconds w.totals → rz ≡ true → q ≡ tallies_right w.buckets w.totals w.counts sums → q ≡ whole_with_sums w sums
   unfolding both
   rows_tell ra a rt rs rz q sums s few ea ha es hs et ht eb hb ez hz e =
       e
@@ -92,19 +92,19 @@ module _ (w : Window) where
       (λ h. rw (h, ← none h))
     where
       zero_totals : blank_from w.seconds w.totals ≡ true
-      zero_totals = sym ez ∙ not-false rz hz
+      zero_totals = sym ez ∙ hz
 
       parts : summed 11 w.buckets w.totals w.counts ≡ true → Parts w
       parts h =
           record {
             within = le-leb _ _ few;
-            apart_is = sym ea ∙ not-false ra ha;
+            apart_is = sym ea ∙ ha;
             span_is = rw (← es) (le-leb _ _ hs);
             summed_is = used_summed w.buckets w.totals w.counts w.seconds s.counts_long (omega (arith, s.buckets_low)) few zero_totals h;
-            starts_blank = sym eb ∙ not-false rs hb;
+            starts_blank = sym eb ∙ hb;
             totals_blank = zero_totals;
             counts_blank = blank_intro _ _ (unused_zero w.buckets w.totals w.counts w.seconds s.counts_long (omega (arith, s.buckets_low)) few zero_totals h);
-            timely_is = sym et ∙ not-false rt ht;
+            timely_is = sym et ∙ ht;
           }
 
       none : summed 11 w.buckets w.totals w.counts ≡ false → false ≡ whole_window w

@@ -1,4 +1,5 @@
 -- `text_print::lay` meets its contract. Assumes nothing.
+use Prim.Native.Nat.{◌-◌}
 use mathlib.Core.Path.{refl}
 use native.Mathlib.Omega.{arith}
 use borrow.Author.Rules.{rules}

@@ -1,7 +1,6 @@
 -- `lag_rows::inner::sums_right` meets its contract. Assumes nothing.
 use Rattle.std.proofs.Common.{◌-◌, refl, arith}
 use Rattle.lag_rows.proofs.Tallies.{rows_start, covered_none, alike_to_none, alike_to_more, columns_fail, totals_tell, long_fails, long_tells}
-use Rattle.std.proofs.lemmas.Bool.{not_from_false, not_from_true}
 use Rattle.lag_rows.proofs.inner.sums_right.Goals as goal
 
 pub loop-b-init : goal.loop-b-init
@@ -20,7 +19,7 @@ pub returns-then-bits-lt1048576 : goal.returns-then-bits-lt1048576
 returns-then-bits-lt1048576 c = totals_tell _ _ _ _ _ _ _ c.requires.buckets_le_buckets_limit.0 c.loop-b.invariant.0 c.loop-b-test.false c.if-bits-lt1048576.true c.loop-b.invariant.4 c.loop-b.invariant.3 c.loop-b.wrong c.loop-b.invariant.5 c.if-wrong-ne0.false _ c.totals_are.ensures
 
 pub returns-then-not-long_rows : goal.returns-then-not-long_rows
-returns-then-not-long_rows c = long_fails _ _ _ c.long_rows.ensures (not_from_false _ c.if-not-long_rows.true)
+returns-then-not-long_rows c = long_fails _ _ _ c.long_rows.ensures c.if-not-long_rows.true
 
 pub returns : goal.returns
-returns c = long_tells _ _ _ _ c.long_rows.ensures (not_from_true _ c.if-not-long_rows.false) c.long_columns.ensures
+returns c = long_tells _ _ _ _ c.long_rows.ensures c.if-not-long_rows.false c.long_columns.ensures

@@ -1,0 +1,5 @@
+-- `delay_hold::inner::interrupt` meets its contract. Assumes nothing.
+use Rattle.delay_hold.proofs.inner.interrupt.Goals as goal
+
+pub returns : goal.returns
+returns c = simp (c.with_lower.ensures, c.off.ensures)
