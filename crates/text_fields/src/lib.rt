@@ -10,27 +10,27 @@ use text_scan::inner::number;
 use text_scan::{Number, Step, after, digit};
 
 // A number of 32 bits and the place after it.
-#[derive(Drop)]
+#[derive(Clone, Copy)]
 pub enum Small {
     Of(u32, usize),
     Bad,
 }
 
-#[derive(Drop)]
+#[derive(Clone, Copy)]
 pub enum Flag {
     Of(bool, usize),
     Bad,
 }
 
 // A number, or `-` for none, and the place after it.
-#[derive(Drop)]
+#[derive(Clone, Copy)]
 pub enum Maybe {
     Of(u64, usize),
     Nothing(usize),
     Bad,
 }
 
-#[derive(Drop)]
+#[derive(Clone, Copy)]
 pub enum MaybeSmall {
     Of(u32, usize),
     Nothing(usize),
@@ -38,14 +38,14 @@ pub enum MaybeSmall {
 }
 
 // A flow's high and low 64 bits, and the place after it.
-#[derive(Drop)]
+#[derive(Clone, Copy)]
 pub enum FlowText {
     Of(u64, u64, usize),
     Bad,
 }
 
 // `A`, or `M` with a double's bits, and the place after it.
-#[derive(Drop)]
+#[derive(Clone, Copy)]
 pub enum KindText {
     Auto(usize),
     Ms(u64, usize),

@@ -17,39 +17,39 @@ use text_scan::{Number, Step, after_text, after_word};
 // A place that no line has.
 pub const LOST: usize = 18_446_744_073_709_551_615;
 
-#[derive(Drop)]
+#[derive(Clone, Copy)]
 pub struct Word {
     pub value: u64,
     pub next: usize,
 }
 
-#[derive(Drop)]
+#[derive(Clone, Copy)]
 pub struct SmallWord {
     pub value: u32,
     pub next: usize,
 }
 
-#[derive(Drop)]
+#[derive(Clone, Copy)]
 pub struct ByteWord {
     pub value: u8,
     pub next: usize,
 }
 
-#[derive(Drop)]
+#[derive(Clone, Copy)]
 pub struct BitWord {
     pub value: bool,
     pub next: usize,
 }
 
 // A number, or none.
-#[derive(Drop)]
+#[derive(Clone, Copy)]
 pub struct MaybeWord {
     pub some: bool,
     pub value: u64,
     pub next: usize,
 }
 
-#[derive(Drop)]
+#[derive(Clone, Copy)]
 pub struct MaybeSmallWord {
     pub some: bool,
     pub value: u32,
@@ -57,7 +57,7 @@ pub struct MaybeSmallWord {
 }
 
 // Two numbers, or none.
-#[derive(Drop)]
+#[derive(Clone, Copy)]
 pub struct MaybePair {
     pub some: bool,
     pub first: u64,
@@ -65,7 +65,7 @@ pub struct MaybePair {
     pub next: usize,
 }
 
-#[derive(Drop)]
+#[derive(Clone, Copy)]
 pub struct FlowWord {
     pub high: u64,
     pub low: u64,
@@ -73,7 +73,7 @@ pub struct FlowWord {
 }
 
 // A delay kind: a double's bits where it is manual.
-#[derive(Drop)]
+#[derive(Clone, Copy)]
 pub struct KindWord {
     pub manual: bool,
     pub bits: u64,

@@ -1,0 +1,13 @@
+-- `inputs_instances::same` meets its contract. Assumes nothing.
+use borrow.Author.Tests.{eq-eqb, ne_eqb}
+use Rattle.base.specs.Choice.{both}
+use Rattle.rules_record.specs.Instances.{same_key}
+use Rattle.inputs_instances.proofs.same.Goals as goal
+
+pub returns-then-a-b : goal.returns-then-a-b
+unfolding same_key both
+returns-then-a-b c = rw (ne_eqb _ _ c.if-a-b.true)
+
+pub returns : goal.returns
+unfolding same_key both
+returns c = rw (eq-eqb _ _ c.if-a-b.false)
