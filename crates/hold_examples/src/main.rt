@@ -3,84 +3,81 @@
 #![tactic(auto)]
 
 use delay_hold::{Answer, DelayHold, Lag, Moment, Seed};
-use libc::STDOUT_FILENO;
 use policy::DelayPolicy;
+use std::io;
 
-fn text(bytes: &[u8]) {
-    io::write_all(STDOUT_FILENO, bytes);
+fn text(rt: &impl Print, words: &str) -> io::Result<()> {
+    print!(rt; "{words}")
 }
 
-fn number(n: u64) {
-    io::print_decimal(STDOUT_FILENO, n);
+fn number(rt: &impl Print, n: u64) -> io::Result<()> {
+    print!(rt; "{n}")
 }
 
-fn number_after(bytes: &[u8], n: u64) {
-    text(bytes);
-    number(n);
+fn number_after(rt: &impl Print, words: &str, n: u64) -> io::Result<()> {
+    text(rt, words)?;
+    number(rt, n)
 }
 
-fn pair_after(bytes: &[u8], time: u64, samples: u32) {
-    number_after(bytes, time);
-    number_after(b":", samples as u64);
+fn pair_after(rt: &impl Print, words: &str, time: u64, samples: u32) -> io::Result<()> {
+    number_after(rt, words, time)?;
+    number_after(rt, ":", samples as u64)
 }
 
-fn lag_after(lag: Lag) {
+fn lag_after(rt: &impl Print, lag: Lag) -> io::Result<()> {
     match lag {
-        Lag::None => text(b" -"),
-        Lag::Of(samples) => number_after(b" ", samples as u64),
+        Lag::None => text(rt, " -"),
+        Lag::Of(samples) => number_after(rt, " ", samples as u64),
     }
 }
 
-fn moment_after(moment: Moment) {
+fn moment_after(rt: &impl Print, moment: Moment) -> io::Result<()> {
     match moment {
-        Moment::Never => text(b" -"),
-        Moment::At(time) => number_after(b" ", time),
+        Moment::Never => text(rt, " -"),
+        Moment::At(time) => number_after(rt, " ", time),
     }
 }
 
-fn seed_after(seed: Seed) {
+fn seed_after(rt: &impl Print, seed: Seed) -> io::Result<()> {
     match seed {
-        Seed::Nothing => text(b" -"),
-        Seed::From(time, delay) => pair_after(b" ", time, delay),
+        Seed::Nothing => text(rt, " -"),
+        Seed::From(time, delay) => pair_after(rt, " ", time, delay),
     }
 }
 
-fn bit_after(yes: bool) {
-    if yes {
-        text(b" 1");
-    } else {
-        text(b" 0");
-    }
+fn bit_after(rt: &impl Print, yes: bool) -> io::Result<()> {
+    if yes { text(rt, " 1") } else { text(rt, " 0") }
 }
 
 // The hold as it stands: its peaks, last change, timer, start, startup lates, late before and seed.
-fn hold_after(hold: DelayHold, times: &[u64], lags: &[u32]) {
+fn hold_after(rt: &impl Print, hold: DelayHold, times: &[u64], lags: &[u32]) -> io::Result<()> {
     let n = hold.peaks;
-    number_after(b" H ", n as u64);
+    number_after(rt, " H ", n as u64)?;
     let mut i = 0;
     while i < n {
-        pair_after(b" ", base::place_u64(times, i), base::place_u32(lags, i));
+        pair_after(rt, " ", base::place_u64(times, i), base::place_u32(lags, i))?;
         i += 1;
     }
     let last = hold.last_change;
     let timer = hold.lower;
     let started = hold.started;
     let seed = hold.seeded;
-    moment_after(last);
+    moment_after(rt, last)?;
     if timer.on {
-        pair_after(b" ", timer.since, timer.highest);
+        pair_after(rt, " ", timer.since, timer.highest)?;
     } else {
-        text(b" -");
+        text(rt, " -")?;
     }
-    moment_after(started);
-    number_after(b" ", hold.startup_late as u64);
-    bit_after(hold.late_before);
-    seed_after(seed);
-    text(b"\n");
+    moment_after(rt, started)?;
+    number_after(rt, " ", hold.startup_late as u64)?;
+    bit_after(rt, hold.late_before)?;
+    seed_after(rt, seed)?;
+    text(rt, "\n")
 }
 
 // A call of `next` with a share of half, its answer, and what it leaves.
 fn next(
+    rt: &impl Print,
     hold: DelayHold,
     times: &mut [u64],
     lags: &mut [u32],
@@ -90,50 +87,50 @@ fn next(
     policy: DelayPolicy,
     width: u32,
     time: u64,
-) -> DelayHold {
-    number_after(b"next ", policy.read_offset as u64);
-    number_after(b" ", policy.delay_max as u64);
-    number_after(b" ", width as u64);
-    number_after(b" ", policy.hold);
-    number_after(b" ", policy.window);
-    number_after(b" ", policy.margin as u64);
-    text(b" 4049000000000000");
-    lag_after(p999);
-    lag_after(max_lag);
-    number_after(b" ", current as u64);
-    number_after(b" ", time);
-    text(b"\n");
+) -> io::Result<DelayHold> {
+    number_after(rt, "next ", policy.read_offset as u64)?;
+    number_after(rt, " ", policy.delay_max as u64)?;
+    number_after(rt, " ", width as u64)?;
+    number_after(rt, " ", policy.hold)?;
+    number_after(rt, " ", policy.window)?;
+    number_after(rt, " ", policy.margin as u64)?;
+    text(rt, " 4049000000000000")?;
+    lag_after(rt, p999)?;
+    lag_after(rt, max_lag)?;
+    number_after(rt, " ", current as u64)?;
+    number_after(rt, " ", time)?;
+    text(rt, "\n")?;
     let r = hold.decide_next(times, lags, p999, max_lag, current, policy, width, time);
     let left = r.hold;
     let answer = r.answer;
     match answer {
         Answer::Kept => {
-            text(b"ok -");
-            hold_after(left, times, lags);
+            text(rt, "ok -")?;
+            hold_after(rt, left, times, lags)?;
         }
         Answer::Changed(delay) => {
-            number_after(b"ok ", delay as u64);
-            hold_after(left, times, lags);
+            number_after(rt, "ok ", delay as u64)?;
+            hold_after(rt, left, times, lags)?;
         }
         Answer::Refused(check) => {
-            number_after(b"refused ", check as u64);
-            text(b"\n");
+            number_after(rt, "refused ", check as u64)?;
+            text(rt, "\n")?;
         }
     }
-    left
+    Ok(left)
 }
 
 // A fresh hold.
-fn fresh(times: &mut [u64], lags: &mut [u32]) -> DelayHold {
-    text(b"hnew\n");
+fn fresh(rt: &impl Print, times: &mut [u64], lags: &mut [u32]) -> io::Result<DelayHold> {
+    text(rt, "hnew\n")?;
     let r = DelayHold::new(times, lags);
     if r.number == 0 {
-        text(b"ok\n");
+        text(rt, "ok\n")?;
     } else {
-        number_after(b"refused ", r.number as u64);
-        text(b"\n");
+        number_after(rt, "refused ", r.number as u64)?;
+        text(rt, "\n")?;
     }
-    r.hold
+    Ok(r.hold)
 }
 
 // Offset 480, maximum 4,800, hold 30 s, window 10 s, margin 96, share 0.5.
@@ -149,11 +146,12 @@ fn policy() -> DelayPolicy {
 }
 
 // The first call of a fresh hold.
-fn first(p999: Lag, max_lag: Lag, current: u32) {
+fn first(rt: &impl Print, p999: Lag, max_lag: Lag, current: u32) -> io::Result<()> {
     let mut times = [0u64; 600];
     let mut lags = [0u32; 600];
-    let hold = fresh(&mut times, &mut lags);
+    let hold = fresh(rt, &mut times, &mut lags)?;
     next(
+        rt,
         hold,
         &mut times,
         &mut lags,
@@ -163,18 +161,31 @@ fn first(p999: Lag, max_lag: Lag, current: u32) {
         policy(),
         48,
         1000,
-    );
+    )?;
+    Ok(())
 }
 
 // 200 lowers to 96 at 5 s, not 1 ns before.
-fn lowers() {
+fn lowers(rt: &impl Print) -> io::Result<()> {
     let mut times = [0u64; 600];
     let mut lags = [0u32; 600];
     let p = policy();
     let q = Lag::Of(480);
-    let h0 = fresh(&mut times, &mut lags);
-    let h1 = next(h0, &mut times, &mut lags, q, Lag::None, 200, p, 48, 1000);
+    let h0 = fresh(rt, &mut times, &mut lags)?;
+    let h1 = next(
+        rt,
+        h0,
+        &mut times,
+        &mut lags,
+        q,
+        Lag::None,
+        200,
+        p,
+        48,
+        1000,
+    )?;
     let h2 = next(
+        rt,
         h1,
         &mut times,
         &mut lags,
@@ -184,8 +195,9 @@ fn lowers() {
         p,
         48,
         5_000_000_999,
-    );
+    )?;
     next(
+        rt,
         h2,
         &mut times,
         &mut lags,
@@ -195,17 +207,19 @@ fn lowers() {
         p,
         48,
         5_000_001_000,
-    );
+    )?;
+    Ok(())
 }
 
 // A raise, lates that end startup, a peak that is joined and one that goes, a clock that goes back, a lowering to the highest need met.
-fn session() {
+fn session(rt: &impl Print) -> io::Result<()> {
     let mut times = [0u64; 600];
     let mut lags = [0u32; 600];
     let p = policy();
     let none = Lag::None;
-    let h0 = fresh(&mut times, &mut lags);
+    let h0 = fresh(rt, &mut times, &mut lags)?;
     let h1 = next(
+        rt,
         h0,
         &mut times,
         &mut lags,
@@ -215,8 +229,9 @@ fn session() {
         p,
         48,
         1_000_000_000,
-    );
+    )?;
     let h2 = next(
+        rt,
         h1,
         &mut times,
         &mut lags,
@@ -226,8 +241,9 @@ fn session() {
         p,
         48,
         1_500_000_000,
-    );
+    )?;
     let h3 = next(
+        rt,
         h2,
         &mut times,
         &mut lags,
@@ -237,8 +253,9 @@ fn session() {
         p,
         48,
         2_500_000_000,
-    );
+    )?;
     let h4 = next(
+        rt,
         h3,
         &mut times,
         &mut lags,
@@ -248,8 +265,9 @@ fn session() {
         p,
         48,
         3_500_000_000,
-    );
+    )?;
     let h5 = next(
+        rt,
         h4,
         &mut times,
         &mut lags,
@@ -259,8 +277,9 @@ fn session() {
         p,
         48,
         4_500_000_000,
-    );
+    )?;
     let h6 = next(
+        rt,
         h5,
         &mut times,
         &mut lags,
@@ -270,8 +289,9 @@ fn session() {
         p,
         48,
         15_000_000_000,
-    );
+    )?;
     let h7 = next(
+        rt,
         h6,
         &mut times,
         &mut lags,
@@ -281,8 +301,9 @@ fn session() {
         p,
         48,
         14_000_000_000,
-    );
+    )?;
     let h8 = next(
+        rt,
         h7,
         &mut times,
         &mut lags,
@@ -292,8 +313,9 @@ fn session() {
         p,
         48,
         44_999_999_999,
-    );
+    )?;
     next(
+        rt,
         h8,
         &mut times,
         &mut lags,
@@ -303,37 +325,39 @@ fn session() {
         p,
         48,
         45_000_000_000,
-    );
+    )?;
+    Ok(())
 }
 
 // Each number that refuses a call of `next`.
-fn refusals() {
+fn refusals(rt: &impl Print) -> io::Result<()> {
     let mut times = [0u64; 600];
     let mut lags = [0u32; 600];
     let p = policy();
     let q = Lag::Of(480);
-    let hold = fresh(&mut times, &mut lags);
+    let hold = fresh(rt, &mut times, &mut lags)?;
     let far = DelayPolicy {
         delay_max: 96001,
         ..p
     };
-    next(hold, &mut times, &mut lags, q, q, 0, far, 48, 1000);
-    next(hold, &mut times, &mut lags, q, q, 0, p, 0, 1000);
-    next(hold, &mut times, &mut lags, q, q, 0, p, 4801, 1000);
-    next(hold, &mut times, &mut lags, q, q, 0, p, 2, 1000);
+    next(rt, hold, &mut times, &mut lags, q, q, 0, far, 48, 1000)?;
+    next(rt, hold, &mut times, &mut lags, q, q, 0, p, 0, 1000)?;
+    next(rt, hold, &mut times, &mut lags, q, q, 0, p, 4801, 1000)?;
+    next(rt, hold, &mut times, &mut lags, q, q, 0, p, 2, 1000)?;
     let short = DelayPolicy {
         window: 999_999_999,
         ..p
     };
-    next(hold, &mut times, &mut lags, q, q, 0, short, 48, 1000);
+    next(rt, hold, &mut times, &mut lags, q, q, 0, short, 48, 1000)?;
     let wide = DelayPolicy { margin: 96001, ..p };
-    next(hold, &mut times, &mut lags, q, q, 0, wide, 48, 1000);
+    next(rt, hold, &mut times, &mut lags, q, q, 0, wide, 48, 1000)?;
     let mut few = [0u64; 599];
-    text(b"!5 ");
-    next(hold, &mut few, &mut lags, q, q, 0, p, 48, 1000);
+    text(rt, "!5 ")?;
+    next(rt, hold, &mut few, &mut lags, q, q, 0, p, 48, 1000)?;
     let mut marked = [1u32; 600];
-    next(hold, &mut times, &mut marked, q, q, 0, p, 48, 1000);
+    next(rt, hold, &mut times, &mut marked, q, q, 0, p, 48, 1000)?;
     next(
+        rt,
         hold,
         &mut times,
         &mut lags,
@@ -343,9 +367,10 @@ fn refusals() {
         p,
         48,
         4_000_000_000_000_000_001,
-    );
-    next(hold, &mut times, &mut lags, q, q, 4801, p, 48, 1000);
+    )?;
+    next(rt, hold, &mut times, &mut lags, q, q, 4801, p, 48, 1000)?;
     next(
+        rt,
         hold,
         &mut times,
         &mut lags,
@@ -355,8 +380,9 @@ fn refusals() {
         p,
         48,
         1000,
-    );
+    )?;
     next(
+        rt,
         hold,
         &mut times,
         &mut lags,
@@ -366,18 +392,19 @@ fn refusals() {
         p,
         48,
         4_000_000_000_000_000_000,
-    );
+    )?;
+    Ok(())
 }
 
-fn main() {
-    first(Lag::None, Lag::Of(485), 0);
-    first(Lag::None, Lag::Of(480), 0);
-    first(Lag::None, Lag::Of(5281), 0);
-    first(Lag::Of(480), Lag::None, 47);
-    first(Lag::Of(480), Lag::None, 48);
-    first(Lag::Of(480), Lag::None, 143);
-    first(Lag::Of(480), Lag::None, 144);
-    lowers();
-    session();
-    refusals();
+fn main(rt: HostRuntime) -> io::Result<()> {
+    first(&rt, Lag::None, Lag::Of(485), 0)?;
+    first(&rt, Lag::None, Lag::Of(480), 0)?;
+    first(&rt, Lag::None, Lag::Of(5281), 0)?;
+    first(&rt, Lag::Of(480), Lag::None, 47)?;
+    first(&rt, Lag::Of(480), Lag::None, 48)?;
+    first(&rt, Lag::Of(480), Lag::None, 143)?;
+    first(&rt, Lag::Of(480), Lag::None, 144)?;
+    lowers(&rt)?;
+    session(&rt)?;
+    refusals(&rt)
 }

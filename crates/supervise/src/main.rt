@@ -5,6 +5,7 @@
 use base::product_usize;
 use rules_record::{ExtraDelay, Inputs};
 use rules_tick::Look;
+use std::io::{Read, Write};
 use text_alone::Alone;
 use text_answers::Answer;
 use text_called::Called;
@@ -26,7 +27,7 @@ type Input = [u8; 1_048_640];
 const FLOW_BYTES: usize = 16;
 
 // All that is kept from line to line, but for the supervisor's record and the lists.
-#[derive(Drop)]
+#[derive(Clone, Copy)]
 pub struct State {
     // There may be more lines.
     pub more: bool,
@@ -39,14 +40,14 @@ pub struct State {
 }
 
 // What a line leaves that is no call on a supervisor, and its answer.
-#[derive(Drop)]
+#[derive(Clone, Copy)]
 pub struct Told {
     pub state: State,
     pub answer: Answer,
 }
 
 // What a line leaves of all that is kept.
-#[derive(Drop)]
+#[derive(Clone, Copy)]
 pub struct Turn {
     pub state: State,
     pub inputs: Inputs,
@@ -76,21 +77,27 @@ fn known(inputs: Inputs, alone: Alone) -> Known {
 
 // ---- calls alone
 // How many bytes of a file a line brings, and where its answer goes.
-#[derive(Drop)]
+#[derive(Clone, Copy)]
 pub struct Brought {
     pub length: usize,
     pub place: usize,
 }
 
 // The bytes of a file go to the output buffer, whose answers are written out first.
-fn bring(request: Request, s: &[u8], out: &mut Out, place: usize) -> Brought {
+fn bring<W: Write>(
+    writer: &mut W,
+    request: Request,
+    s: &[u8],
+    out: &mut Out,
+    place: usize,
+) -> Brought {
     let Request::Alone(call) = request else {
         return Brought { length: 0, place };
     };
     let Lone::ReadDelays(at) = call else {
         return Brought { length: 0, place };
     };
-    text_lines::write(out, place);
+    text_lines::write(writer, out, place);
     Brought {
         length: file_at(s, at, out),
         place: 0,
@@ -219,11 +226,18 @@ fn looks_for(call: Call, s: &[u8], count: usize) -> [Look; 16] {
 }
 
 // The delays that `new` loads: their flows go to the output buffer, whose answers are written out first.
-fn load(call: Call, s: &[u8], out: &mut Out, place: usize, heard: &mut Heard) {
+fn load<W: Write>(
+    writer: &mut W,
+    call: Call,
+    s: &[u8],
+    out: &mut Out,
+    place: usize,
+    heard: &mut Heard,
+) {
     let Call::New(asked) = call else {
         return;
     };
-    text_lines::write(out, place);
+    text_lines::write(writer, out, place);
     loads_at(s, asked.loads, asked.loaded, out, heard);
 }
 
@@ -237,7 +251,7 @@ fn heard_by(call: Call) -> usize {
 }
 
 // What a call does that changes nothing, or changes the record by a call, or crafts a part of it.
-#[derive(Drop)]
+#[derive(Clone, Copy)]
 enum Deed {
     Ask,
     Change,
@@ -261,7 +275,8 @@ fn deed_of(call: Call) -> Deed {
 }
 
 // A call on a supervisor, or what a line crafts of its record.
-fn called(
+fn called<W: Write>(
+    writer: &mut W,
     call: Call,
     inputs: Inputs,
     short: bool,
@@ -278,7 +293,7 @@ fn called(
     bytes: &mut Bytes,
     heard: &mut Heard,
 ) -> Called {
-    load(call, s, out, place, heard);
+    load(writer, call, s, out, place, heard);
     let what = deed_of(call);
     match what {
         Deed::Change => {
@@ -337,17 +352,18 @@ fn place_for(call: Call, place: usize) -> usize {
     }
 }
 
-fn flushed(state: State, out: &mut Out) -> State {
-    let at = text_lines::room(out, state.place);
+fn flushed<W: Write>(writer: &mut W, state: State, out: &mut Out) -> State {
+    let at = text_lines::room(writer, out, state.place);
     let place = put_text(out, at, b"flushed\n");
     let mut changed = state;
-    changed.more = text_lines::write(out, place);
+    changed.more = text_lines::write(writer, out, place);
     changed.place = 0;
     changed
 }
 
 // What a line leaves, with its answer shown.
-fn shown(
+fn shown<W: Write>(
+    writer: &mut W,
     state: State,
     inputs: Inputs,
     answer: Answer,
@@ -366,6 +382,7 @@ fn shown(
     let window = alone.window;
     let hold = alone.hold;
     let next = text_shown::show(
+        writer,
         answer,
         state.full,
         out,
@@ -392,7 +409,8 @@ fn shown(
 }
 
 // The line that the cursor shows becomes a request, the request an answer, the answer a line.
-fn answered(
+fn answered<W: Write>(
+    writer: &mut W,
     state: State,
     line: Cursor,
     inputs: Inputs,
@@ -414,11 +432,12 @@ fn answered(
     let request = read.request;
     match request {
         Request::Flush => Turn {
-            state: flushed(state, out),
+            state: flushed(writer, state, out),
             inputs,
         },
         Request::On(call) => {
             let done = called(
+                writer,
                 call,
                 inputs,
                 read.short,
@@ -438,6 +457,7 @@ fn answered(
             let left = done.inputs;
             let answer = done.answer;
             shown(
+                writer,
                 state,
                 left,
                 answer,
@@ -454,7 +474,7 @@ fn answered(
             )
         }
         _ => {
-            let file = bring(request, s, out, state.place);
+            let file = bring(writer, request, s, out, state.place);
             let done = alone_by(
                 request,
                 state,
@@ -473,17 +493,24 @@ fn answered(
             let left = done.state;
             let answer = done.answer;
             shown(
-                left, inputs, answer, out, file.place, starts, totals, counts, times, peaks,
-                commands, bytes, heard,
+                writer, left, inputs, answer, out, file.place, starts, totals, counts, times,
+                peaks, commands, bytes, heard,
             )
         }
     }
 }
 
 // Nothing more to answer in what was read: what was answered is written, and more is read.
-fn refilled(state: State, cursor: Cursor, input: &mut Input, out: &Out) -> State {
-    let written = text_lines::write(out, state.place);
-    let c = text_lines::more(input, cursor);
+fn refilled<R: Read, W: Write>(
+    reader: &mut R,
+    writer: &mut W,
+    state: State,
+    cursor: Cursor,
+    input: &mut Input,
+    out: &Out,
+) -> State {
+    let written = text_lines::write(writer, out, state.place);
+    let c = text_lines::more(reader, input, cursor);
     let mut changed = state;
     changed.cursor = c;
     changed.place = 0;
@@ -491,23 +518,32 @@ fn refilled(state: State, cursor: Cursor, input: &mut Input, out: &Out) -> State
     changed
 }
 
-fn ended(state: State, out: &Out) -> State {
-    text_lines::write(out, state.place);
+fn ended<W: Write>(writer: &mut W, state: State, out: &Out) -> State {
+    text_lines::write(writer, out, state.place);
     let mut changed = state;
     changed.more = false;
     changed
 }
 
 // No line was found: more is read, unless there is none.
-fn unfound(state: State, cursor: Cursor, input: &mut Input, out: &Out) -> State {
+fn unfound<R: Read, W: Write>(
+    reader: &mut R,
+    writer: &mut W,
+    state: State,
+    cursor: Cursor,
+    input: &mut Input,
+    out: &Out,
+) -> State {
     if cursor.ended {
-        return ended(state, out);
+        return ended(writer, state, out);
     }
-    refilled(state, cursor, input, out)
+    refilled(reader, writer, state, cursor, input, out)
 }
 
 // Answers line after line.
-fn run(
+fn run<R: Read, W: Write>(
+    reader: &mut R,
+    writer: &mut W,
     input: &mut Input,
     out: &mut Out,
     starts: &mut Seconds,
@@ -531,7 +567,7 @@ fn run(
             let next = text_lines::passed(c);
             passing.cursor = next;
             let done = answered(
-                passing, c, inputs, input, out, starts, totals, counts, sums, times, peaks,
+                writer, passing, c, inputs, input, out, starts, totals, counts, sums, times, peaks,
                 commands, bytes, heard,
             );
             let after = done.state;
@@ -539,13 +575,15 @@ fn run(
             let left = done.inputs;
             inputs = left;
         } else {
-            state = unfound(state, c, input, out);
+            state = unfound(reader, writer, state, c, input, out);
         }
         turns -= 1;
     }
 }
 
-fn main() {
+fn main(rt: HostRuntime) {
+    let mut reader = rt.stdin();
+    let mut writer = rt.stdout();
     let mut input = [0u8; 1_048_640];
     let mut out = [0u8; 262_144];
     let mut starts = [0u64; 187];
@@ -558,6 +596,8 @@ fn main() {
     let mut bytes = [0u8; 1_287];
     let mut heard = [0u32; 524_288];
     run(
+        &mut reader,
+        &mut writer,
         &mut input,
         &mut out,
         &mut starts,

@@ -84,7 +84,7 @@ moved_bytes c s = pick (ltb c.to (length s)) s (shifted c.from s)
 abbrev pub read_up_to : (to : ℕ) (c : Cursor) → Cursor
 read_up_to to c = record { from = c.from; seen = c.seen; to = to; ended = eqb to c.to; found = c.found; end = c.end; next = c.next; dropped = c.dropped }
 
--- from a cursor and a buffer to a cursor and a buffer, by one read: what came stands in the buffer after what was read before, which stays. Which bytes come, and whether any do, the contract of `libc::read` does not say.
+-- from a cursor and a buffer to a cursor and a buffer, by one read: what came stands in the buffer after what was read before, which stays. Which bytes come, and whether any do, the contract of `read` does not say of every reader.
 pub record ReadAfter (c : Cursor) (s : List ℕ) (r : Cursor) (t : List ℕ) : Type 0 where
   pub cursor : r ≡ read_up_to r.to c
   pub onwards : c.to ≤ r.to

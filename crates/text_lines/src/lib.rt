@@ -1,11 +1,11 @@
-// Lines from standard input, and answers to standard output, each through a buffer of the caller's.
+// Lines from a reader, and answers to a writer, each through a buffer of the caller's.
 #![tactic(auto)]
 
 ghost use Rattle.std.specs.Prelude.{◌-◌, ◌≤◌, ◌≡◌, length, take};
 ghost use Rattle.text_lines.specs.Lines.{at_begin, found_at, last_of, unfinished_of, look_of, text_end, line_of, passed_by, moved_cursor, moved_bytes, ReadAfter, room_at};
 
 use base::{less_usize, sum_usize};
-use libc::{STDIN_FILENO, STDOUT_FILENO};
+use std::io::{Read, Write};
 use text_print::Out;
 use text_scan::bytes::{part, shift_u8};
 use text_scan::{Step, first};
@@ -147,16 +147,18 @@ pub fn passed(c: Cursor) -> Cursor
     }
 }
 
-// Reads once, to the end of the buffer: how many bytes came. The bytes before `to` stay.
-fn read_after(input: &mut [u8], to: usize) -> usize
+// Reads once, to the end of the buffer: how many bytes came, none where reading failed. The bytes before `to` stay.
+fn read_after<R: Read>(reader: &mut R, input: &mut [u8], to: usize) -> usize
     ensures { (result ≤ length input.old - to) × (take to input.new ≡ take to input.old) }
 {
     if input.len() < to {
         return 0;
     }
     let room = &mut input[to..];
-    let got = libc::read(STDIN_FILENO, room);
-    io::count(got, room)
+    match reader.read(room) {
+        Ok(got) => got,
+        Err(_) => 0,
+    }
 }
 
 // Where the buffer is used up, the lines that were answered make room.
@@ -176,11 +178,11 @@ fn moved(input: &mut [u8], c: Cursor) -> Cursor
 }
 
 // Reads more of the input, after what stands in the buffer. A line of which a part was dropped stays dropped.
-pub fn more(input: &mut [u8], c: Cursor) -> Cursor
+pub fn more<R: Read>(reader: &mut R, input: &mut [u8], c: Cursor) -> Cursor
     ensures { ReadAfter (moved_cursor (length input.old) c) (moved_bytes c input.old) result input.new }
 {
     let m = moved(input, c);
-    let got = read_after(input, m.to);
+    let got = read_after(reader, input, m.to);
     Cursor {
         to: sum_usize(m.to, got),
         ended: got == 0,
@@ -189,17 +191,17 @@ pub fn more(input: &mut [u8], c: Cursor) -> Cursor
 }
 
 // Writes the answers so far: whether that could be done.
-pub fn write(out: &Out, place: usize) -> bool {
-    io::write_all(STDOUT_FILENO, part(out, 0, place))
+pub fn write<W: Write>(writer: &mut W, out: &Out, place: usize) -> bool {
+    writer.write_all(part(out, 0, place)).is_ok()
 }
 
 // The place for the next words: where few places are left, the answers so far are written and the buffer begins anew.
-pub fn room(out: &Out, place: usize) -> usize
+pub fn room<W: Write>(writer: &mut W, out: &Out, place: usize) -> usize
     ensures { result ≡ room_at 262_144 place }
 {
     if SPARE <= less_usize(out.len(), place) {
         return place;
     }
-    write(out, place);
+    write(writer, out, place);
     0
 }

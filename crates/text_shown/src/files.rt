@@ -2,6 +2,7 @@
 use crate::words::{Word, put_word};
 use base::{least_usize, less_usize, place_u32, product_usize};
 use inputs_flows::inner::flow_from;
+use std::io::Write;
 use text_lending::{Bytes, Heard};
 use text_lines::room;
 use text_print::{Out, put_byte};
@@ -20,7 +21,8 @@ fn entry(i: usize, flows: &[u8], delays: &[u32]) -> Word {
 }
 
 // The first n flows, each with its delay.
-pub(crate) fn show_delays(
+pub(crate) fn show_delays<W: Write>(
+    writer: &mut W,
     out: &mut Out,
     place: usize,
     n: usize,
@@ -30,25 +32,37 @@ pub(crate) fn show_delays(
     let mut next = place;
     let mut i: usize = 0;
     while i < n {
-        next = put_word(out, next, entry(i, flows, delays));
+        next = put_word(writer, out, next, entry(i, flows, delays));
         i += 1;
     }
     next
 }
 
 // The first n bytes as one word.
-fn show_bytes(out: &mut Out, place: usize, n: usize, file: &[u8]) -> usize {
-    let at = room(out, place);
+fn show_bytes<W: Write>(
+    writer: &mut W,
+    out: &mut Out,
+    place: usize,
+    n: usize,
+    file: &[u8],
+) -> usize {
+    let at = room(writer, out, place);
     let end = least_usize(n, file.len());
     let mut next = put_byte(out, at, b' ');
     let mut i: usize = 0;
     while i < end {
-        next = put_word(out, next, Word::Byte(file[i]));
+        next = put_word(writer, out, next, Word::Byte(file[i]));
         i += 1;
     }
     next
 }
 
-pub(crate) fn show_file(out: &mut Out, place: usize, length: usize, file: &Bytes) -> usize {
-    show_bytes(out, place, length, file)
+pub(crate) fn show_file<W: Write>(
+    writer: &mut W,
+    out: &mut Out,
+    place: usize,
+    length: usize,
+    file: &Bytes,
+) -> usize {
+    show_bytes(writer, out, place, length, file)
 }

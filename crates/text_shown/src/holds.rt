@@ -3,6 +3,7 @@ use crate::words;
 use crate::words::{Line, Word, put_word, put_words};
 use base::{least_usize, place_u32, place_u64, sum_usize};
 use delay_hold::DelayHold;
+use std::io::Write;
 use text_lending::{Peaks, Times};
 use text_print::Out;
 
@@ -15,7 +16,8 @@ fn peak(i: usize, from: usize, times: &Times, lags: &Peaks) -> Word {
     Word::Two(b' ', place_u64(times, at), b':', place_u32(lags, at) as u64)
 }
 
-fn show_peaks(
+fn show_peaks<W: Write>(
+    writer: &mut W,
     out: &mut Out,
     place: usize,
     n: usize,
@@ -26,7 +28,7 @@ fn show_peaks(
     let mut next = place;
     let mut i: usize = 0;
     while i < n {
-        next = put_word(out, next, peak(i, from, times, lags));
+        next = put_word(writer, out, next, peak(i, from, times, lags));
         i += 1;
     }
     next
@@ -101,7 +103,8 @@ fn fields(hold: DelayHold) -> Line {
 }
 
 // ` H`, how many peaks, all of them or their ends, and the fields from the last change on.
-pub(crate) fn show(
+pub(crate) fn show<W: Write>(
+    writer: &mut W,
     out: &mut Out,
     place: usize,
     full: bool,
@@ -111,11 +114,11 @@ pub(crate) fn show(
     lags: &Peaks,
 ) -> usize {
     let n = hold.peaks;
-    let a = put_word(out, place, Word::Head(b'H', n as u64));
+    let a = put_word(writer, out, place, Word::Head(b'H', n as u64));
     let b = if full {
-        show_peaks(out, a, n, from, times, lags)
+        show_peaks(writer, out, a, n, from, times, lags)
     } else {
-        put_words(out, a, ends(n, from, times, lags))
+        put_words(writer, out, a, ends(n, from, times, lags))
     };
-    put_words(out, b, fields(hold))
+    put_words(writer, out, b, fields(hold))
 }

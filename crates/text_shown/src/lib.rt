@@ -6,6 +6,7 @@ use base::{product_usize, sum_usize};
 use delay_hold::DelayHold;
 use lag_window::LagWindow;
 use rules_record::Inputs;
+use std::io::Write;
 use text_answers::Answer;
 use text_lending::{
     Bytes, Counts, Heard, LONE_COUNTS, LONE_PEAKS, LONE_SECONDS, Peaks, Seconds, Times, Words,
@@ -46,20 +47,20 @@ fn second_of(answer: Answer) -> Word {
 }
 
 // What a line begins with, and the words.
-fn show_words(out: &mut Out, place: usize, answer: Answer) -> usize {
-    let a = room(out, place);
+fn show_words<W: Write>(writer: &mut W, out: &mut Out, place: usize, answer: Answer) -> usize {
+    let a = room(writer, out, place);
     let b = match answer {
         Answer::BadLine => put_text(out, a, b"bad line"),
         Answer::Refused(_) => put_text(out, a, b"refused"),
         _ => put_text(out, a, b"ok"),
     };
-    let c = put_word(out, b, first_of(answer));
-    put_word(out, c, second_of(answer))
+    let c = put_word(writer, out, b, first_of(answer));
+    put_word(writer, out, c, second_of(answer))
 }
 
 // ---- the record that an answer shows
 // Whether all of it, how many commands at most, and which inputs.
-#[derive(Drop)]
+#[derive(Clone, Copy)]
 struct Part {
     full: bool,
     commands: usize,
@@ -99,7 +100,8 @@ fn part_of(answer: Answer, full: bool, count: usize) -> Part {
 
 // Writes the answer's line from `place` of the output buffer on: the place after it. A supervisor has so many buckets a second; the window and
 // the hold alone have the lists' last places. The flows of a delay file, or the file itself, are `bytes`, and its delays the first of `heard`.
-pub fn show(
+pub fn show<W: Write>(
+    writer: &mut W,
     answer: Answer,
     full: bool,
     out: &mut Out,
@@ -117,12 +119,13 @@ pub fn show(
     bytes: &Bytes,
     heard: &Heard,
 ) -> usize {
-    let a = show_words(out, place, answer);
+    let a = show_words(writer, out, place, answer);
     let b = match answer {
-        Answer::Status(status) => put_words(out, a, status::words_of(status)),
-        Answer::Delays(n) => files::show_delays(out, a, n, bytes, heard),
-        Answer::File(n) => files::show_file(out, a, n, bytes),
+        Answer::Status(status) => put_words(writer, out, a, status::words_of(status)),
+        Answer::Delays(n) => files::show_delays(writer, out, a, n, bytes, heard),
+        Answer::File(n) => files::show_file(writer, out, a, n, bytes),
         Answer::Window => windows::show(
+            writer,
             out,
             a,
             true,
@@ -133,9 +136,10 @@ pub fn show(
             totals,
             counts,
         ),
-        Answer::Next(_) => holds::show(out, a, true, hold, LONE_PEAKS, times, peaks),
+        Answer::Next(_) => holds::show(writer, out, a, true, hold, LONE_PEAKS, times, peaks),
         Answer::Input(_) | Answer::All | Answer::Ticked(_) | Answer::Dump | Answer::Dry => {
             record::show(
+                writer,
                 out,
                 a,
                 part_of(answer, full, inputs.count),

@@ -6,6 +6,7 @@ use delay_hold::DelayHold;
 use inputs_flows::flow_at;
 use lag_window::LagWindow;
 use rules_record::{Inputs, Routed, Slot};
+use std::io::Write;
 use text_lending::{Counts, Peaks, Seconds, Times, Words};
 use text_print::Out;
 
@@ -23,11 +24,17 @@ fn command(i: usize, commands: &Words) -> Word {
 }
 
 // ` C`, and of the first n commands each that was sent, in sending order.
-fn show_commands(out: &mut Out, place: usize, n: usize, commands: &Words) -> usize {
-    let mut next = put_word(out, place, Word::Mark(b'C'));
+fn show_commands<W: Write>(
+    writer: &mut W,
+    out: &mut Out,
+    place: usize,
+    n: usize,
+    commands: &Words,
+) -> usize {
+    let mut next = put_word(writer, out, place, Word::Mark(b'C'));
     let mut i: usize = 0;
     while i < n {
-        next = put_word(out, next, command(i, commands));
+        next = put_word(writer, out, next, command(i, commands));
         i += 1;
     }
     next
@@ -72,7 +79,8 @@ fn numbers(inputs: Inputs, i: usize, slot: Slot) -> Line {
 }
 
 // Input i, with so many buckets a second: its parts of the lists begin at its own places.
-fn show_input(
+fn show_input<W: Write>(
+    writer: &mut W,
     out: &mut Out,
     place: usize,
     full: bool,
@@ -86,9 +94,10 @@ fn show_input(
     peaks: &Peaks,
 ) -> usize {
     let slot = inputs_slots::slot_at(inputs, i);
-    let a = put_words(out, place, numbers(inputs, i, slot));
+    let a = put_words(writer, out, place, numbers(inputs, i, slot));
     let hold = slot.hold;
     let b = holds::show(
+        writer,
         out,
         a,
         full,
@@ -104,6 +113,7 @@ fn show_input(
     };
     let from = product_usize(i, LagWindow::SECONDS);
     windows::show(
+        writer,
         out,
         b,
         full,
@@ -117,7 +127,8 @@ fn show_input(
 }
 
 // The commands, the tables, and the inputs of the part.
-pub(crate) fn show(
+pub(crate) fn show<W: Write>(
+    writer: &mut W,
     out: &mut Out,
     place: usize,
     part: Part,
@@ -132,12 +143,12 @@ pub(crate) fn show(
 ) -> usize {
     let full = part.full;
     let to = part.to;
-    let a = show_commands(out, place, part.commands, commands);
-    let mut next = tables::show(out, a, full, inputs);
+    let a = show_commands(writer, out, place, part.commands, commands);
+    let mut next = tables::show(writer, out, a, full, inputs);
     let mut i = part.from;
     while i < to {
         next = show_input(
-            out, next, full, inputs, i, buckets, starts, totals, counts, times, peaks,
+            writer, out, next, full, inputs, i, buckets, starts, totals, counts, times, peaks,
         );
         i += 1;
     }

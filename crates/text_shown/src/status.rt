@@ -4,7 +4,7 @@ use crate::words::{Line, Word};
 use rules_calls::{Arrival, InputStatus};
 
 // The three quantiles: all of them, or none.
-#[derive(Drop)]
+#[derive(Clone, Copy)]
 struct Quantiles {
     p50: Word,
     p99: Word,

@@ -2,6 +2,7 @@
 use crate::words::{Line, Word, put_word, put_words};
 use base::{least_usize, place_u32, place_u64, sum_usize};
 use lag_window::LagWindow;
+use std::io::Write;
 use text_lending::{Counts, Seconds};
 use text_print::Out;
 
@@ -15,7 +16,8 @@ fn second(i: usize, from: usize, starts: &Seconds, totals: &Seconds) -> Word {
 }
 
 // Row i: past the rows that a window has there is nothing.
-fn show_row(
+fn show_row<W: Write>(
+    writer: &mut W,
     out: &mut Out,
     place: usize,
     i: usize,
@@ -32,6 +34,7 @@ fn show_row(
         let count = place_u32(counts, sum_usize(first, bucket));
         if count != 0 {
             next = put_word(
+                writer,
                 out,
                 next,
                 Word::Two(b',', bucket as u64, b'=', count as u64),
@@ -42,7 +45,8 @@ fn show_row(
     next
 }
 
-fn show_rows(
+fn show_rows<W: Write>(
+    writer: &mut W,
     out: &mut Out,
     place: usize,
     window: LagWindow,
@@ -58,8 +62,8 @@ fn show_rows(
     let mut cell = first;
     let mut i: usize = 0;
     while i < n {
-        next = put_word(out, next, second(i, from, starts, totals));
-        next = show_row(out, next, i, buckets, counts, cell);
+        next = put_word(writer, out, next, second(i, from, starts, totals));
+        next = show_row(writer, out, next, i, buckets, counts, cell);
         cell = sum_usize(cell, buckets);
         i += 1;
     }
@@ -123,7 +127,8 @@ fn ends(n: usize, from: usize, starts: &Seconds, totals: &Seconds) -> Line {
 }
 
 // ` L`, how many seconds, and rows or their ends.
-pub(crate) fn show(
+pub(crate) fn show<W: Write>(
+    writer: &mut W,
     out: &mut Out,
     place: usize,
     full: bool,
@@ -135,9 +140,9 @@ pub(crate) fn show(
     counts: &Counts,
 ) -> usize {
     let n = window.seconds;
-    let a = put_word(out, place, Word::Head(b'L', n as u64));
+    let a = put_word(writer, out, place, Word::Head(b'L', n as u64));
     if full {
-        return show_rows(out, a, window, from, first, starts, totals, counts);
+        return show_rows(writer, out, a, window, from, first, starts, totals, counts);
     }
-    put_words(out, a, ends(n, from, starts, totals))
+    put_words(writer, out, a, ends(n, from, starts, totals))
 }

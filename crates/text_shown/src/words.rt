@@ -4,6 +4,7 @@ use rules_calls::{Milliseconds, Sourced};
 use rules_record::{ExtraDelay, Inode, Proposal};
 use sources::QueryDown;
 use state::Due;
+use std::io::Write;
 use text_lines::room;
 use text_print::bits::bits_of;
 use text_print::{
@@ -41,8 +42,8 @@ pub(crate) enum Word {
 pub(crate) type Line = [Word; 16];
 
 // A word fits: what is kept free of the buffer is longer.
-pub(crate) fn put_word(out: &mut Out, place: usize, word: Word) -> usize {
-    let at = room(out, place);
+pub(crate) fn put_word<W: Write>(writer: &mut W, out: &mut Out, place: usize, word: Word) -> usize {
+    let at = room(writer, out, place);
     match word {
         Word::End => at,
         Word::None => put_none_after(out, at, b' '),
@@ -78,12 +79,17 @@ pub(crate) fn put_word(out: &mut Out, place: usize, word: Word) -> usize {
     }
 }
 
-pub(crate) fn put_words(out: &mut Out, place: usize, words: Line) -> usize {
+pub(crate) fn put_words<W: Write>(
+    writer: &mut W,
+    out: &mut Out,
+    place: usize,
+    words: Line,
+) -> usize {
     let mut next = place;
     let mut i: usize = 0;
     while i < 16 {
         let word = words[i];
-        next = put_word(out, next, word);
+        next = put_word(writer, out, next, word);
         i += 1;
     }
     next
