@@ -141,7 +141,13 @@ pub(crate) fn announce(i: usize, new: Routed, slot: Slot, commands: &mut [u32]) 
     let old = slot.route;
     let used = forget(i, old, commands);
     if starts_over(new, slot) {
-        return inputs_commands::inner::send(commands, used, inputs_commands::inner::SET_DELAY, i, 0);
+        return inputs_commands::inner::send(
+            commands,
+            used,
+            inputs_commands::inner::SET_DELAY,
+            i,
+            0,
+        );
     }
     used
 }

@@ -1,5 +1,4 @@
 -- `base::blank_u64` meets its contract. Assumes nothing.
-use Rattle.std.specs.Prelude.{◌-◌}
 use native.Mathlib.Omega.{arith}
 use Rattle.base.proofs.All.{blank_more, blank_end}
 use Rattle.base.proofs.Quarters.{quarters_none, quarters_more, quarters_tell}

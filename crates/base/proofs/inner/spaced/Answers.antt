@@ -1,5 +1,4 @@
 -- `base::inner::spaced` meets its contract. Assumes nothing.
-use Rattle.std.specs.Prelude.{◌-◌}
 use Rattle.base.proofs.Rows.{apart_none, apart_empty, apart_more, apart_stop, apart_end}
 use native.Mathlib.Omega.{arith}
 use Rattle.base.proofs.inner.spaced.Goals as goal

@@ -1,5 +1,4 @@
 -- `base::inner::up_to_u64` meets its contract. Assumes nothing.
-use Rattle.std.specs.Prelude.{◌-◌}
 use Rattle.base.proofs.Rows.{up_to_none, up_to_more, up_to_stop, up_to_end}
 use native.Mathlib.Omega.{arith}
 use Rattle.base.proofs.inner.up_to_u64.Goals as goal
