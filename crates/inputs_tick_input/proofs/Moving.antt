@@ -1,13 +1,10 @@
 -- An input that is watched: its state, and what `looked` makes of it where its head moved, whatever the record around its slot. Assumes nothing.
-use Rattle.std.specs.Prelude.{◌≡◌, ℕ, ◌≤◌, [], ◌∷◌}
-use mathlib.Core.Path.{sym, ◌∙◌}
+use Rattle.std.specs.Prelude.{◌≡◌, ℕ, ◌≤◌, ◌⊎◌}
+use mathlib.Core.Path.{sym, ap, ◌∙◌}
 use mathlib.Core.Logic.{⊎_elim}
 use native.Mathlib.Omega.{arith}
-use denote.Enum.Declared.{tag_of}
-use types.Run.{OneOf}
 use Rattle.rules_record.specs.declared.State.{State}
 use Rattle.rules_record.specs.declared.State.TheVariants.{Unrouted, Waiting, Running, Stalled}
-use Rattle.rules_record.specs.contracts.State.{the_type}
 use Rattle.rules_record.specs.declared.Slot.{Slot}
 use Rattle.rules_record.specs.declared.Inputs.{Inputs}
 use Rattle.rules_record.specs.States.{state_number}
@@ -23,11 +20,8 @@ use Rattle.inputs_watch.specs.WatchInPlace.{found_by}
 use Rattle.inputs_watch.proofs.Finding.{watch_by}
 
 -- the arm of Running and Stalled
-pub watches : (state : State) → OneOf (2 ∷ 3 ∷ []) (tag_of the_type state) → 2 ≤ state_number state
-watches Unrouted k = absurd (⊎_elim (λ e. omega arith) (λ e. omega arith) k)
-watches Waiting k = absurd (⊎_elim (λ e. omega arith) (λ e. omega arith) k)
-watches Running k = omega arith
-watches Stalled k = omega arith
+pub watches : (state : State) → (state ≡ Running) ⊎ (state ≡ Stalled) → 2 ≤ state_number state
+watches state k = ⊎_elim (λ e. omega (arith, ap state_number e)) (λ e. omega (arith, ap state_number e)) k
 
 pub only_moves : (look : Look) (slot : Slot) {code : ℕ} → code ≡ state_number slot.state → 2 ≤ code
     → {found : Found} → found ≡ found_by slot.route look.seen slot.inode slot.last_head look.world.head → found ≡ Moved

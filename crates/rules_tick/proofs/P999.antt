@@ -7,8 +7,6 @@ use mathlib.Core.Logic.{⊎_elim}
 use native.Mathlib.Nat.{add-mul}
 use native.Mathlib.Omega.{arith}
 use borrow.Author.Tests.{le-leb}
-use denote.Enum.Declared.{tag_of}
-use types.Run.{OneOf}
 use lib.Dec.{leb}
 use Rattle.base.specs.Limits.{nanos}
 use Rattle.base.proofs.Choices.{le_yes, le_no, pick_rule}

@@ -48,8 +48,8 @@ pub returns-then-up-lt1 : goal.returns-then-up-lt1
 unfolding target_of
 returns-then-up-lt1 c =
     let e : ceil_of (product c.args.total c.args.q) ≡ c.if-t-x.up = elim c.if-t-x.branch [
-      then-t-x w ↦ up_next c.args.total c.args.q _ _ c.requires c.truncating_f64_to_u64-t.ensures w.if-t-x.true w.up-is
-    | else-t-x w ↦ up_same c.args.total c.args.q _ _ c.requires c.truncating_f64_to_u64-t.ensures w.if-t-x.false w.up-is
+      | then-t-x w ↦ up_next c.args.total c.args.q _ _ c.requires c.truncating_f64_to_u64-t.ensures w.if-t-x.true w.up-is
+      | else-t-x w ↦ up_same c.args.total c.args.q _ _ c.requires c.truncating_f64_to_u64-t.ensures w.if-t-x.false w.up-is
     ] in
     omega (arith, e)
 
@@ -57,7 +57,7 @@ pub returns-else-up-lt1 : goal.returns-else-up-lt1
 unfolding target_of
 returns-else-up-lt1 c =
     let e : ceil_of (product c.args.total c.args.q) ≡ c.if-t-x.up = elim c.if-t-x.branch [
-      then-t-x w ↦ up_next c.args.total c.args.q _ _ c.requires c.truncating_f64_to_u64-t.ensures w.if-t-x.true w.up-is
-    | else-t-x w ↦ up_same c.args.total c.args.q _ _ c.requires c.truncating_f64_to_u64-t.ensures w.if-t-x.false w.up-is
+      | then-t-x w ↦ up_next c.args.total c.args.q _ _ c.requires c.truncating_f64_to_u64-t.ensures w.if-t-x.true w.up-is
+      | else-t-x w ↦ up_same c.args.total c.args.q _ _ c.requires c.truncating_f64_to_u64-t.ensures w.if-t-x.false w.up-is
     ] in
     omega (arith, e)

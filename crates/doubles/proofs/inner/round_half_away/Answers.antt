@@ -47,8 +47,8 @@ returns-else-tie c =
     let d = distance_is x _ _ b c.nearest_u64_to_f64.ensures in
     let no_tie = subst (λ (y : Float). T (not (eq y half))) d (isnt c.if-tie.false) in
     elim c.if-distance.branch [
-      then-distance w ↦ w.nearest-is ∙ ap (λ (n : ℕ). n + 1) b ∙ sym (above_nearest x (is c.well_formed.0.1) h (subst (λ (y : Float). T (lt half y)) d (is w.if-distance.true)))
-    | else-distance w ↦ w.nearest-is ∙ b ∙ sym (below_nearest x (is c.well_formed.0.1) h (subst (λ (y : Float). T (not (lt half y))) d (isnt w.if-distance.false)) no_tie)
+      | then-distance w ↦ w.nearest-is ∙ ap (λ (n : ℕ). n + 1) b ∙ sym (above_nearest x (is c.well_formed.0.1) h (subst (λ (y : Float). T (lt half y)) d (is w.if-distance.true)))
+      | else-distance w ↦ w.nearest-is ∙ b ∙ sym (below_nearest x (is c.well_formed.0.1) h (subst (λ (y : Float). T (not (lt half y))) d (isnt w.if-distance.false)) no_tie)
     ]
 
 -- not above zero

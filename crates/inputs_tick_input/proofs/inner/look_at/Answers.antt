@@ -14,4 +14,4 @@ pub returns-in-Waiting : goal.returns-in-Waiting
 returns-in-Waiting c = did_by (looked_opens _ _ _ _ c.slot_at-slot.ensures refl (ap state_number c.in-Waiting.is)) c.try_open.ensures
 
 pub returns-in-Running : goal.returns-in-Running
-returns-in-Running c = let high = watches c.slot_at-slot.result.state c.in-Running.keys3 in did_by (looked_watches _ _ _ _ c.slot_at-slot.ensures refl (λ waits. omega (arith, high, waits)) high) c.watch.ensures
+returns-in-Running c = let high = watches c.slot_at-slot.result.state c.in-Running.is in did_by (looked_watches _ _ _ _ c.slot_at-slot.ensures refl (λ waits. omega (arith, high, waits)) high) c.watch.ensures

@@ -1,0 +1,9 @@
+-- `delay_files::read_delays` meets its contract. Assumes nothing.
+use native.Mathlib.Omega.{arith}
+use Rattle.delay_files.proofs.read_delays.Goals as goal
+
+pub read-requires : goal.read-requires
+read-requires c = (omega arith, omega arith)
+
+pub returns : goal.returns
+returns c = let h = c.read.ensures in record { delays_after = h.0; all_bytes = h.1 }

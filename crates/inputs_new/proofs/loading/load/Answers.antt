@@ -1,0 +1,34 @@
+-- `inputs_new::loading::load` meets its contract. Assumes nothing.
+use Rattle.std.specs.Prelude.{◌-◌}
+use mathlib.Core.Path.{refl, sym}
+use native.Mathlib.Omega.{arith}
+use Rattle.base.proofs.Tests.{not_both}
+use Rattle.rules_calls.proofs.NewLoops.{loading_none, loading_stop, loading_more, loading_fits, loading_end}
+use Rattle.inputs_new.proofs.loading.load.Goals as goal
+
+pub loop-k-init : goal.loop-k-init
+loop-k-init c = loading_none _ _ _
+
+pub flow_of-flow-requires : goal.flow_of-flow-requires
+flow_of-flow-requires c = omega (arith, c.requires, c.loop-k-test.true)
+
+pub has_room-requires : goal.has_room-requires
+has_room-requires c = tt
+
+pub returns-then-not-has_room : goal.returns-then-not-has_room
+returns-then-not-has_room c = record { fits_value = loading_stop _ _ _ c.loop-k.invariant c.loop-k-test.true c.flow_of-flow.ensures c.has_room.ensures (c.if-not-has_room.true); inputs_value = λ e. absurd (not_both refl (sym e)) }
+
+pub bounds-delays-k : goal.bounds-delays-k
+bounds-delays-k c = c.loop-k-test.true
+
+pub load_one-all-requires : goal.load_one-all-requires
+load_one-all-requires c = tt
+
+pub loop-k-smaller : goal.loop-k-smaller
+loop-k-smaller c = omega (arith, c.loop-k-test.true)
+
+pub loop-k-preserved : goal.loop-k-preserved
+loop-k-preserved c = loading_more _ _ _ c.loop-k.invariant c.loop-k-test.true c.flow_of-flow.ensures c.has_room.ensures (c.if-not-has_room.false) c.load_one-all.ensures
+
+pub returns : goal.returns
+returns c = record { fits_value = loading_fits _ _ _ c.loop-k.invariant c.loop-k-test.false; inputs_value = λ e. loading_end _ _ _ c.loop-k.invariant c.loop-k-test.false }
