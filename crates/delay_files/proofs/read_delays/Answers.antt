@@ -6,4 +6,4 @@ pub read-requires : goal.read-requires
 read-requires c = (omega arith, omega arith)
 
 pub returns : goal.returns
-returns c = let h = c.read.ensures in record { delays_after = h.0; all_bytes = h.1 }
+returns c = record { delays_after = c.read.ensures.delays_after; all_bytes = c.read.ensures.all_bytes }
