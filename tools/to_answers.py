@@ -333,7 +333,7 @@ class Function:
                 fields[1:2] = [fields[1].replace("-", "_")] if len(fields) > 1 else []
                 if len(fields) > 1 and re.fullmatch(r"t\d+", fields[1]):
                     # the copy that an older Rattle passed on
-                    fields[1] = "inputs"
+                    fields[1] = {"t2": "looks"}.get(fields[1], "inputs")
                 return "c." + ".".join(fields)
             if fields[0] in ("requires",):
                 req = self.clauses.get(self.key, ([], []))[0]

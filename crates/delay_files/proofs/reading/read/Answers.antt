@@ -6,7 +6,7 @@ use Rattle.rules_files.proofs.ReadCases.{readable, read_refused, read_accepted}
 use Rattle.delay_files.proofs.reading.read.Goals as goal
 
 pub returns-then-number-ne0 : goal.returns-then-number-ne0
-returns-then-number-ne0 c = record { delays_after = read_refused _ _ _ _ _ c.read_number-number.ensures c.if-number-ne0.true; all_bytes = record { small = λ i. (c.shared_slice_known-1.given i).fits } }
+returns-then-number-ne0 c = record { delays_after = read_refused _ _ _ _ _ c.read_number-number.ensures c.if-number-ne0.true; all_bytes = record { small = λ i. (c.type_inv.file i).fits } }
 
 pub little_two-count-requires : goal.little_two-count-requires
 little_two-count-requires c = omega (arith, (readable _ _ _ _ _ (sym c.read_number-number.ensures ∙ c.if-number-ne0.false)).headed.long, c.requires.0)
@@ -21,4 +21,4 @@ fill_delays-requires c = let r = readable _ _ _ _ _ (sym c.read_number-number.en
 
 pub returns : goal.returns
 unfolding count_in
-returns c = record { delays_after = read_accepted _ _ _ _ _ c.read_number-number.ensures c.if-number-ne0.false c.little_two-count.ensures c.fill_flows.ensures c.fill_delays.ensures; all_bytes = record { small = λ i. (c.shared_slice_known-1.given i).fits } }
+returns c = record { delays_after = read_accepted _ _ _ _ _ c.read_number-number.ensures c.if-number-ne0.false c.little_two-count.ensures c.fill_flows.ensures c.fill_delays.ensures; all_bytes = record { small = λ i. (c.type_inv.file i).fits } }
