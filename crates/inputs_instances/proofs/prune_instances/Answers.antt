@@ -47,8 +47,8 @@ loop-i-preserved c =
     let at = table_key c.args.inputs c.loop-i.i (omega (arith, held_most c.args.inputs, c.places-n.ensures, c.loop-i-test.true)) in
     let told = told_wanted c.args.inputs c.args.extra _ c.all_read-read.result c.all_read-read.ensures c.wanted.ensures in
     elim c.if-wanted.branch [
-      then-wanted w ↦ prune_keeps c.loop-i.invariant c.loop-i-test.true at told w.if-wanted.true w.kept-is w.count-is
-    | else-wanted w ↦ prune_drops c.loop-i.invariant c.loop-i-test.true at told w.if-wanted.false w.kept-is w.count-is
+      | then-wanted w ↦ prune_keeps c.loop-i.invariant c.loop-i-test.true at told w.if-wanted.true w.kept-is w.count-is
+      | else-wanted w ↦ prune_drops c.loop-i.invariant c.loop-i-test.true at told w.if-wanted.false w.kept-is w.count-is
     ]
 
 pub returns : goal.returns
