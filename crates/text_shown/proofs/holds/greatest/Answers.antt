@@ -1,0 +1,12 @@
+-- `text_shown::holds::greatest` is safe and ends: nothing has to hold from turn to turn. Assumes nothing.
+use Rattle.std.specs.Prelude.{◌-◌}
+use Rattle.text_shown.proofs.holds.greatest.Goals as goal
+
+pub loop-i-init : goal.loop-i-init
+loop-i-init c = tt
+
+pub loop-i-preserved : goal.loop-i-preserved
+loop-i-preserved c = tt
+
+pub returns : goal.returns
+returns c = tt
