@@ -7,8 +7,8 @@ The calls are made for reading: ticks of 1 s where something happens, of 10 s in
 quiet hours between. Every run writes the same bytes: the noise comes from a counter.
 
 A mixer reports with every tick the delay that it applies, which is the last SetDelay
-it was sent. So the calls go twice through PROGRAM (target/bin/supervise of the
-repository, or the words of the variable PORT): first with 0 as every applied delay,
+it was sent. So the calls go twice through PROGRAM (crates/supervise/out/supervise of
+the repository, or the words of the variable PORT): first with 0 as every applied delay,
 for the SetDelay commands, then with the delays of those commands from the next call on.
 (The applied delay decides about late events only, so the commands are the same.)"""
 import os
@@ -260,7 +260,7 @@ def filled(line, delays):
 
 
 def main():
-    program = sys.argv[1:] or shlex.split(os.environ.get("PORT", "")) or [str(HERE.parent / "target/bin/supervise")]
+    program = sys.argv[1:] or shlex.split(os.environ.get("PORT", "")) or [str(HERE.parent / "crates/supervise/out/supervise")]
     lines = night()
     found = answers(program, [filled(line, [0] * INPUTS) for line in lines])
     delays, out = [0] * INPUTS, []
