@@ -51,7 +51,7 @@ module _ (offset maximum width : ℕ) where
   unfolding buckets_of
   buckets_some = omega arith
 
-  -- what `core::buckets_of` asks
+  -- what `inner::buckets_of` asks
   pub buckets_asked : Ranged offset maximum width → (offset ≤ samples_limit) × (maximum ≤ samples_limit) × (1 ≤ width)
   buckets_asked r = (r.offset_most, r.maximum_most, r.width_least)
 

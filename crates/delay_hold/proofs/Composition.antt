@@ -1,5 +1,5 @@
--- `core::next`, one step after the other, is `next_of`. Each step is given by what its function ensures. Assumes nothing.
-use Rattle.std.specs.Prelude.{◌≡◌, ℕ, ◌+◌, ◌-◌, ◌≤◌, Bool, true, List, length, take}
+-- `inner::next`, one step after the other, is `next_of`. Each step is given by what its function ensures. Assumes nothing.
+use Rattle.std.specs.Prelude.{◌≡◌, ℕ, ◌+◌, ◌≤◌, Bool, true, List, length, take}
 use mathlib.Core.Path.{ap, ◌∙◌}
 use native.Mathlib.Omega.{arith}
 use Rattle.base.specs.Limits.{samples_limit}

@@ -1,6 +1,6 @@
 -- A hold that is cleared, seeded or interrupted stays whole, and its times stay by now. Assumes nothing.
 -- the same peaks under another hold
-use Rattle.std.specs.Prelude.{◌≡◌, ℕ, ◌-◌, ◌≤◌, true, List, replicate}
+use Rattle.std.specs.Prelude.{◌≡◌, ℕ, ◌≤◌, true, List, replicate}
 use mathlib.Core.Path.{refl}
 use native.Mathlib.Omega.{arith}
 use borrow.Author.Tests.{le-leb}

@@ -98,7 +98,7 @@ unfoldable pub next_reply : (policy : DelayPolicy) (width : ℕ) (s : Held) (p99
 next_reply policy width s p999 largest current time =
     reply_of (next_number policy width s p999 current time) s (next_of one_millisecond always_lower policy s p999 largest current time)
 
--- ---- what `core::next` asks: what the checks say, but for the time
+-- ---- what `inner::next` asks: what the checks say, but for the time
 pub record AskedFor (width : ℕ) (policy : DelayPolicy) (s : Held) (p999 : Lag) (current : ℕ) : Type 0 where
   pub sound : Sound policy
   pub window_least : nanos ≤ policy.window

@@ -1,5 +1,5 @@
 -- Document 01, "DelayHold", step 4: the peaks in use, oldest first, their times and their lags. Assumes nothing.
-use Rattle.std.specs.Prelude.{ℕ, suc, ◌+◌, ◌-◌, max, Bool, true, List, [], ◌∷◌, ◌++◌, length, drop, ◌==◌, nat_le, slice_index, slice_set}
+use Rattle.std.specs.Prelude.{ℕ, suc, ◌-◌, max, Bool, true, List, [], ◌∷◌, ◌++◌, length, drop, ◌==◌, nat_le, slice_index, slice_set}
 use Rattle.base.specs.Choice.{pick}
 use Rattle.base.specs.Limits.{nanos}
 use Rattle.delay_hold.specs.declared.Lag.{Lag}

@@ -1,5 +1,5 @@
 -- A manual delay from 0 to `ms`(n), in samples, is at most n. Assumes nothing.
-use Rattle.std.proofs.Common.{ℕ, ◌+◌, ◌-◌, ◌*◌, ◌/◌, ◌^◌, ◌<◌, ◌≤◌, false, T, pos, le_trans, arith, leb→le, pow_pos}
+use Rattle.std.proofs.Common.{ℕ, ◌+◌, ◌*◌, ◌/◌, ◌^◌, ◌<◌, ◌≤◌, false, T, pos, le_trans, arith, leb→le, pow_pos}
 use lib.Ieee.{Float, fin, binary64, mul, div, le}
 use Rattle.doubles.specs.Doubles.{thousand, rate, double, ms_of, samples_of}
 use Rattle.doubles.proofs.Products.{double_value}

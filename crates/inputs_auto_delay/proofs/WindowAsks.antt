@@ -16,7 +16,6 @@ use Rattle.rules_window.proofs.WholeAt.{whole_of}
 use Rattle.rules_window.proofs.OneSecond.{row_placeable}
 use Rattle.rules_window.proofs.Numbers.{sound_placeable}
 use Rattle.rules_window.proofs.Thousandths.{thousandths_in}
-use Rattle.delay_hold.specs.Next.{held}
 use Rattle.rules_record.specs.declared.Slot.{Slot}
 use Rattle.rules_record.specs.declared.Inputs.{Inputs}
 use Rattle.rules_record.specs.Inputs.{slot_at}

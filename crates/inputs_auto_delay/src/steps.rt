@@ -1,4 +1,4 @@
-// The parts of the steps in `core`: one input's window and lags, its late events, its quantile, and the answer of its hold.
+// The parts of the steps in `inner`: one input's window and lags, its late events, its quantile, and the answer of its hold.
 ghost use Rattle.std.specs.Prelude.{◌≡◌, ℕ, ◌+◌, ◌<◌, ◌≤◌, List, length};
 ghost use Rattle.base.specs.Limits.{samples_limit, counter_limit};
 ghost use Rattle.policy.specs.Settings.{Sound};

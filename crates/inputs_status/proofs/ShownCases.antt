@@ -6,7 +6,6 @@ use lib.Ieee.{Float}
 use Rattle.base.specs.Lists.{part}
 use Rattle.doubles.specs.Doubles.{ms_of}
 use Rattle.lag_window.specs.declared.LagWindow.{LagWindow}
-use Rattle.rules_window.specs.declared.Quantile.TheVariants as Quantile
 use Rattle.rules_window.specs.WholeWindow.{Sound}
 use Rattle.rules_window.specs.Quantile.{Placeable, thousandths}
 use Rattle.rules_window.specs.ColumnSums.{as_one_second}
@@ -27,7 +26,6 @@ use Rattle.rules_record.proofs.Shapes.{window_sound, window_sums, sums_within, h
 use Rattle.rules_calls.specs.declared.Sourced.{Sourced}
 use Rattle.rules_calls.specs.declared.Milliseconds.{Milliseconds}
 use Rattle.rules_calls.specs.declared.Arrival.{Arrival}
-use Rattle.rules_calls.specs.declared.Arrival.TheVariants as Arrival
 use Rattle.rules_calls.specs.declared.InputStatus.{InputStatus}
 use Rattle.rules_calls.specs.Status.{source_of, channels_shown, proposed_ms, arrival_in, worst_ms, status_for, status_of}
 use Rattle.rules_calls.proofs.StatusShows.{arrival_row}

@@ -1,5 +1,5 @@
 -- The window of input j among the lists of all inputs. The end of a part `a..a + k` comes back as `a + k - a`. Assumes nothing.
-use Rattle.std.specs.Prelude.{◌≡◌, ℕ, ◌+◌, ◌-◌, ◌*◌, ◌≤◌, Bool, true, List, length}
+use Rattle.std.specs.Prelude.{◌≡◌, ℕ, ◌+◌, ◌*◌, ◌≤◌, Bool, true, List, length}
 use mathlib.Core.Path.{sym, ap, subst, ◌∙◌}
 use lib.Ieee.{Float}
 use Rattle.base.specs.Lists.{part, patched}

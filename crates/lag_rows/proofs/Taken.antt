@@ -1,6 +1,5 @@
 -- Rows taken off the sums, as the loops go. Assumes nothing.
 use Rattle.std.proofs.Common.{◌≡◌, ℕ, ◌+◌, ◌-◌, ◌*◌, ◌<◌, ◌≤◌, List, length, get_or, set, sym, refl, ap, ◌∙◌, le_antisymm, arith}
-use Rattle.base.specs.Lists.{sum}
 use Rattle.base.proofs.All.{sum_more}
 use Rattle.base.proofs.Listed.{listed_length, listed_at}
 use Rattle.base.proofs.Toward.{toward, toward_ahead, toward_more, toward_all}

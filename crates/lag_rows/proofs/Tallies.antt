@@ -1,6 +1,6 @@
 -- Sums of all rows and columns at once in 32 bits, as the loops go, and where they are the sums themselves. Assumes nothing.
-use Rattle.std.proofs.Common.{◌≡◌, ℕ, ◌+◌, ◌-◌, ◌*◌, ◌%◌, ◌<◌, ◌≤◌, Bool, true, false, not, eqb, leb, List, [], length, get_or, set, replicate, sym, refl, ap, ◌∙◌, ⊎_elim, le_antisymm, eq-or-lt_of_le, add-one, arith, get_or-set_other, get_or-set_same, w64, Fits, eq-eqb, ne_eqb, le-leb}
-use borrow.Author.Tests.{lt-leb, not-true, not-false}
+use Rattle.std.proofs.Common.{◌≡◌, ℕ, ◌+◌, ◌*◌, ◌%◌, ◌<◌, ◌≤◌, Bool, true, false, eqb, leb, List, [], length, get_or, set, replicate, sym, refl, ap, ◌∙◌, ⊎_elim, le_antisymm, eq-or-lt_of_le, add-one, arith, get_or-set_other, get_or-set_same, w64, Fits, eq-eqb, ne_eqb, le-leb}
+use borrow.Author.Tests.{lt-leb}
 use lib.Bits.{bit_or, bit_xor}
 use Rattle.base.specs.Choice.{pick, both}
 use Rattle.base.specs.Limits.{buckets_limit}

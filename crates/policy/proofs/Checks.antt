@@ -13,7 +13,6 @@ use Rattle.doubles.proofs.Values.{is}
 use Rattle.policy.specs.declared.DelayPolicy.{DelayPolicy}
 use Rattle.policy.specs.declared.Need.TheVariants.{Of, Refused}
 use Rattle.policy.specs.declared.Share.{Share}
-use Rattle.policy.specs.declared.Share.TheVariants as Share
 use Rattle.policy.specs.Settings.{times_allowed, margins_allowed, Sound, percent_allowed, share_of_percent, share_number, share_answer, share_reply, share_number_of, share_value_of}
 use Rattle.policy.specs.Need.{need_of, need_number, need_answer, need_reply, number_of, value_of}
 

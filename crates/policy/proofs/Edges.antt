@@ -1,5 +1,5 @@
 -- Document 01's sentences about the settings, each at its edge, computed on the definitions. Assumes nothing.
-use Rattle.std.specs.Prelude.{◌≡◌, ℕ, Bool, true, false, List, [], ◌∷◌, pos, negsuc}
+use Rattle.std.specs.Prelude.{◌≡◌, ℕ, true, false, [], ◌∷◌, pos, negsuc}
 use mathlib.Core.Path.{refl}
 use lib.Ieee.{Float, nan, fin, binary64, round, div, le}
 use Rattle.base.specs.Choice.{both, ask}

@@ -1,13 +1,13 @@
 -- The checks of `new` and what it leaves, case by case, as the code goes. Assumes nothing.
 use Prim.Native.Nat.{ℕ, ◌*◌, ◌<◌, ◌≤◌}
-use mathlib.Core.Bool.{Bool, true, false, not}
+use mathlib.Core.Bool.{Bool, true, false}
 use mathlib.Core.Path.{◌≡◌, sym, ap, ◌∙◌}
 use mathlib.Core.List.{List}
 use native.Mathlib.Omega.{arith}
 use lib.Dec.{eqb}
 use lib.ListN.{length, replicate, length-replicate}
 use lib.Seq.{sets}
-use borrow.Author.Tests.{leb-true, not-false}
+use borrow.Author.Tests.{leb-true}
 use Rattle.base.specs.Choice.{ask}
 use Rattle.base.specs.Limits.{time_limit, buckets_limit}
 use Rattle.base.proofs.All.{told_no, told_yes}

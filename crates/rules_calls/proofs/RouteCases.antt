@@ -28,7 +28,6 @@ use Rattle.rules_routing.specs.declared.World.{World}
 use Rattle.rules_routing.specs.TryOpen.{try_open_of}
 use Rattle.rules_calls.specs.declared.Source.{Source}
 use Rattle.rules_calls.specs.declared.Wanted.{Wanted}
-use Rattle.rules_calls.specs.declared.Wanted.TheVariants as Wanted
 use Rattle.rules_calls.specs.RouteChecks.{wanted_fits}
 use Rattle.rules_calls.specs.Route.{enrolled_for, route_for, equal_route, other_flow, starts_over, forgetting, zeroing, started_over, state_for, routed_slot, opened_for}
 

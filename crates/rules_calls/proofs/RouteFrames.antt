@@ -26,7 +26,6 @@ use Rattle.rules_routing.specs.Clear.{cleared_slot, cleared}
 use Rattle.rules_routing.proofs.ClearFrames.{cleared_beside}
 use Rattle.rules_routing.proofs.SettingsKept.{SameSettings, settings_then, settings_frame}
 use Rattle.rules_calls.specs.declared.Wanted.{Wanted}
-use Rattle.rules_calls.specs.declared.Wanted.TheVariants as Wanted
 use Rattle.rules_calls.specs.RouteChecks.{route_number}
 use Rattle.rules_calls.specs.Route.{enrolled_for, route_for, equal_route, routed_slot, opened_for, moved, rerouted, routed_to, routed}
 use Rattle.rules_calls.specs.RouteReply.{route_reply}

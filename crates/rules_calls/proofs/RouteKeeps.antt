@@ -32,7 +32,6 @@ use Rattle.rules_routing.specs.Clear.{cleared_lists, cleared}
 use Rattle.rules_routing.proofs.SettingsKept.{settings_put}
 use Rattle.rules_routing.proofs.TryOpenKeeps.{waiting_keeps}
 use Rattle.rules_calls.specs.declared.Wanted.{Wanted}
-use Rattle.rules_calls.specs.declared.Wanted.TheVariants as Wanted
 use Rattle.rules_calls.specs.RouteChecks.{wanted_fits, route_number}
 use Rattle.rules_calls.specs.Route.{enrolled_for, route_for, equal_route, starts_over, started_over, state_for, routed_slot, opened_for, moved, rerouted, routed_to, routed}
 use Rattle.rules_calls.specs.RouteReply.{route_reply}

@@ -31,7 +31,6 @@ use Rattle.rules_record.specs.Effects.{silent, followed_by}
 use Rattle.rules_record.specs.Facts.{Checked}
 use Rattle.rules_routing.specs.Clear.{cleared}
 use Rattle.rules_calls.specs.declared.Wanted.{Wanted}
-use Rattle.rules_calls.specs.declared.Wanted.TheVariants as Wanted
 use Rattle.rules_calls.specs.RouteChecks.{wanted_fits}
 use Rattle.rules_calls.specs.Route.{enrolled_for, route_for, equal_route, opened_for, moved, routed_to, routed}
 use Rattle.rules_calls.proofs.Enrolling.{for_slot}

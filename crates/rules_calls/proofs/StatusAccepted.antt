@@ -9,7 +9,6 @@ use Rattle.base.proofs.Choices.{yes_ask, yes_pick, refused_old}
 use Rattle.base.proofs.Points.{both_true, true_both}
 use Rattle.doubles.specs.Doubles.{ms_of}
 use Rattle.rules_window.specs.declared.Quantile.{Quantile}
-use Rattle.rules_window.specs.declared.Quantile.TheVariants as Quantile
 use Rattle.rules_window.specs.Window.{Window}
 use Rattle.rules_window.specs.WholeWindow.{Sound}
 use Rattle.rules_window.specs.Quantile.{quantile_in, quantile_of, total_upto, thousandths}
@@ -28,7 +27,6 @@ use Rattle.rules_record.proofs.Checked.{of_checked}
 use Rattle.rules_record.specs.Facts.{Checked}
 use Rattle.rules_calls.specs.declared.ArrivalLag.{ArrivalLag}
 use Rattle.rules_calls.specs.declared.Arrival.{Arrival}
-use Rattle.rules_calls.specs.declared.Arrival.TheVariants as Arrival
 use Rattle.rules_record.specs.Checks.{input_number}
 use Rattle.rules_calls.specs.StatusChecks.{status_number, channels_number, settled_number}
 use Rattle.rules_calls.specs.Status.{arrival_of, arrival_in, no_status, status_of, status_reply}

@@ -1,14 +1,10 @@
 -- What a status shows, part by part, and what its functions ask of a record that was checked. Assumes nothing.
-use Prim.Native.Nat.{ℕ, ◌-◌}
+use Prim.Native.Nat.{ℕ}
 use mathlib.Core.Path.{◌≡◌, refl, sym, ap, ◌∙◌}
-use mathlib.Core.List.{List, [], ◌∷◌}
-use mathlib.Core.Logic.{⊎_elim}
-use native.Mathlib.Omega.{arith}
+use mathlib.Core.List.{List}
 use lib.Ieee.{Float}
 use Rattle.doubles.specs.Doubles.{ms_of}
 use Rattle.rules_window.specs.declared.Quantile.{Quantile}
-use Rattle.rules_window.specs.declared.Quantile.TheVariants as Quantile
-use Rattle.rules_window.specs.contracts.Quantile.{the_type}
 use Rattle.rules_window.specs.Window.{Window}
 use Rattle.rules_window.specs.Quantile.{quantile_of, thousandths}
 use Rattle.rules_window.specs.ColumnSums.{column_sums, as_one_second}
@@ -21,7 +17,6 @@ use Rattle.rules_record.specs.declared.Inputs.{Inputs}
 use Rattle.rules_record.specs.Flows.{flow_at}
 use Rattle.rules_calls.specs.declared.Sourced.TheVariants.{From}
 use Rattle.rules_calls.specs.declared.Arrival.{Arrival}
-use Rattle.rules_calls.specs.declared.Arrival.TheVariants as Arrival
 use Rattle.rules_calls.specs.Status.{source_of, arrival_by, arrival_with, arrival_of, arrival_in}
 
 -- ---- the three quantiles, all or none

@@ -19,7 +19,6 @@ use Rattle.rules_record.specs.Lent.{Lists}
 use Rattle.rules_record.specs.Effects.{Effect, silent, beside, followed_by}
 use Rattle.rules_routing.specs.Clear.{cleared}
 use Rattle.rules_calls.specs.declared.Wanted.{Wanted}
-use Rattle.rules_calls.specs.declared.Wanted.TheVariants as Wanted
 
 -- ---- the route that is wanted
 -- "Routes .. enrol flows"

@@ -5,19 +5,15 @@ use Rattle.base.specs.Choice.{pick, accepted}
 use Rattle.base.specs.Lists.{part}
 use Rattle.doubles.specs.Doubles.{ms_of}
 use Rattle.rules_window.specs.declared.Quantile.{Quantile}
-use Rattle.rules_window.specs.declared.Quantile.TheVariants as Quantile
 use Rattle.rules_window.specs.Window.{Window}
 use Rattle.rules_window.specs.Quantile.{quantile_of, thousandths}
 use Rattle.delay_hold.specs.declared.Lag.{Lag}
-use Rattle.delay_hold.specs.declared.Lag.TheVariants as Lag
 use Rattle.delay_hold.specs.Step4Peaks.{worst_of}
 use Rattle.rules_record.specs.declared.AutoTag.TheVariants as AutoTag
 use Rattle.rules_record.specs.declared.ExtraDelay.TheVariants.{Auto}
 use Rattle.rules_record.specs.declared.State.{State}
 use Rattle.rules_record.specs.declared.Routed.{Routed}
-use Rattle.rules_record.specs.declared.Routed.TheVariants as Routed
 use Rattle.rules_record.specs.declared.Proposal.{Proposal}
-use Rattle.rules_record.specs.declared.Proposal.TheVariants as Proposal
 use Rattle.rules_record.specs.declared.Slot.{Slot}
 use Rattle.rules_record.specs.declared.Inputs.{Inputs}
 use Rattle.rules_record.specs.Slots.{is_auto}
@@ -26,11 +22,8 @@ use Rattle.rules_record.specs.Inputs.{slot_at}
 use Rattle.rules_record.specs.Flows.{flow_at}
 use Rattle.rules_record.specs.Lent.{Lists, window_for}
 use Rattle.rules_calls.specs.declared.Sourced.{Sourced}
-use Rattle.rules_calls.specs.declared.Sourced.TheVariants as Sourced
 use Rattle.rules_calls.specs.declared.Milliseconds.{Milliseconds}
-use Rattle.rules_calls.specs.declared.Milliseconds.TheVariants as Milliseconds
 use Rattle.rules_calls.specs.declared.Arrival.{Arrival}
-use Rattle.rules_calls.specs.declared.Arrival.TheVariants as Arrival
 use Rattle.rules_calls.specs.declared.InputStatus.{InputStatus}
 use Rattle.rules_calls.specs.StatusChecks.{status_number}
 

@@ -1,8 +1,8 @@
 -- Check 8 after 1 to 7, and the call's own check after it. Assumes nothing.
-use Rattle.std.specs.Prelude.{◌≡◌, ℕ, ◌*◌, ◌<◌, ◌≤◌, ltb}
+use Rattle.std.specs.Prelude.{◌≡◌, ℕ, ◌*◌, ◌<◌, ◌≤◌}
 use mathlib.Core.Path.{sym, ◌∙◌}
 use native.Mathlib.Omega.{arith}
-use borrow.Author.Tests.{leb-true, ltb-true, eqb-true, lt-ltb, le-ltb, le-leb, lt-leb}
+use borrow.Author.Tests.{leb-true, eqb-true, le-leb, lt-leb}
 use Rattle.base.specs.Limits.{time_limit, timely, counter_limit}
 use Rattle.base.proofs.Choices.{yes_ask, no_ask, asked, by_bool, by_zero}
 use Rattle.rules_record.specs.declared.Inputs.{Inputs}

@@ -8,7 +8,6 @@ use Rattle.base.proofs.Points.{both_true}
 use Rattle.delay_hold.specs.declared.Moment.{Moment}
 use Rattle.delay_hold.specs.declared.Moment.TheVariants.{Never, At}
 use Rattle.delay_hold.specs.declared.Seed.{Seed}
-use Rattle.delay_hold.specs.declared.Seed.TheVariants as Seed
 use Rattle.delay_hold.specs.declared.LowerTimer.{LowerTimer}
 use Rattle.delay_hold.specs.declared.DelayHold.{DelayHold}
 use Rattle.delay_hold.specs.Next.{fresh_hold}
@@ -25,7 +24,6 @@ use Rattle.rules_record.specs.declared.Proposal.{Proposal}
 use Rattle.rules_record.specs.declared.Proposal.TheVariants.{Nothing, Pending}
 use Rattle.rules_record.specs.declared.Slot.{Slot}
 use Rattle.rules_record.specs.declared.Remembered.{Remembered}
-use Rattle.rules_record.specs.declared.Remembered.TheVariants as Remembered
 use Rattle.rules_record.specs.declared.FlowEntry.{FlowEntry}
 use Rattle.rules_record.specs.declared.Instance.{Instance}
 use Rattle.rules_record.specs.Slots.{is_auto, empty_slot}

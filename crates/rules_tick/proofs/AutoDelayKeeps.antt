@@ -11,7 +11,7 @@ use Rattle.delay_hold.specs.declared.Lag.{Lag}
 use Rattle.delay_hold.specs.declared.Change.{Change}
 use Rattle.delay_hold.specs.declared.Change.TheVariants.{Keep, To}
 use Rattle.delay_hold.specs.Steps5To8.{timer_off, with_lower}
-use Rattle.delay_hold.specs.Next.{held, Decided, one_millisecond, always_lower}
+use Rattle.delay_hold.specs.Next.{Decided, one_millisecond, always_lower}
 use Rattle.delay_hold.specs.Whole.{whole_hold}
 use Rattle.delay_hold.specs.Checks.{AskedFor}
 use Rattle.delay_hold.proofs.Keeps.{ChangeFits, next_keeps_whole, next_keeps_lengths, next_change_fits}

@@ -1,5 +1,5 @@
 -- An input is looked at: the cases as the code goes, what stays, and that the input is ready after it. Assumes nothing.
-use Prim.Native.Nat.{ℕ, ◌*◌, ◌<◌, ◌≤◌}
+use Prim.Native.Nat.{ℕ, ◌<◌, ◌≤◌}
 use mathlib.Core.Bool.{true}
 use mathlib.Core.Path.{◌≡◌, refl, sym, ap, subst, ◌∙◌}
 use native.Mathlib.Omega.{arith}
@@ -21,7 +21,7 @@ use Rattle.rules_record.specs.declared.Routed.TheVariants.{Nowhere, To}
 use Rattle.rules_record.specs.declared.Slot.{Slot}
 use Rattle.rules_record.specs.declared.Inputs.{Inputs}
 use Rattle.rules_record.specs.Slots.{with_state}
-use Rattle.rules_record.specs.Inputs.{slot_at, put_slot}
+use Rattle.rules_record.specs.Inputs.{slot_at}
 use Rattle.rules_record.specs.States.{state_number, is_waiting, is_stalled, is_open}
 use Rattle.rules_record.specs.Sized.{Sized}
 use Rattle.rules_record.specs.Commands.{Done, quiet}

@@ -8,7 +8,6 @@ use borrow.Author.Tests.{leb-true}
 use lib.ListN.{length}
 use Rattle.base.specs.Lists.{part}
 use Rattle.rules_window.specs.WholeWindow.{Sound}
-use Rattle.rules_window.specs.Parts as parts
 use Rattle.rules_window.proofs.Parting.{held_sound}
 use Rattle.delay_hold.specs.declared.Lag.{Lag}
 use Rattle.delay_hold.specs.Next.{held}

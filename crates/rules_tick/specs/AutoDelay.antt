@@ -3,7 +3,6 @@ use Rattle.std.specs.Prelude.{ℕ, ◌+◌, Bool, ◌≡◌, leb}
 use Rattle.base.specs.Choice.{pick, both}
 use Rattle.base.specs.Limits.{nanos}
 use Rattle.rules_window.specs.declared.Quantile.{Quantile}
-use Rattle.rules_window.specs.declared.Quantile.TheVariants as Quantile
 use Rattle.base.specs.Rows.{span_of}
 use Rattle.rules_window.specs.Window.{Window}
 use Rattle.rules_window.specs.Quantile.{quantile_upto, thousandths}

@@ -1,5 +1,5 @@
 -- The window of input j among the lists of all inputs. The end of a part `a..a + k` comes back as `a + k - a`. Assumes nothing.
-use Prim.Native.Nat.{ℕ, ◌-◌, ◌*◌}
+use Prim.Native.Nat.{ℕ, ◌*◌}
 use mathlib.Core.Bool.{Bool, true, false}
 use mathlib.Core.Path.{◌≡◌, refl, ◌∙◌}
 use mathlib.Core.List.{List, [], ◌∷◌}

@@ -15,7 +15,6 @@ use Rattle.base.proofs.Choices.{by_le, no_pick, yes_pick}
 use Rattle.base.proofs.All.{sum_none, sum_more, sum_end}
 use Rattle.base.proofs.Points.{sum_cong}
 use Rattle.doubles.specs.Quantile as places
-use Rattle.rules_window.specs.declared.Quantile.{Quantile}
 use Rattle.rules_window.specs.declared.Quantile.TheVariants.{End, None}
 use Rattle.rules_window.specs.declared.Found.{Found}
 use Rattle.rules_window.specs.declared.Found.TheVariants.{At, Nowhere}

@@ -1,6 +1,6 @@
 -- Thousandths as doubles: they are from 0 to 1, and the code's literals are three of them. Assumes nothing.
 use Prim.Native.Nat.{ℕ, ◌≤◌}
-use mathlib.Core.Bool.{true, false}
+use mathlib.Core.Bool.{true}
 use mathlib.Core.Path.{◌≡◌, refl}
 use native.Mathlib.Omega.{arith}
 use denote.Floats.{is_true}

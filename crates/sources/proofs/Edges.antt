@@ -1,14 +1,11 @@
 -- Document 01's sentences about a schedule, each at its edge, computed on the definitions. Assumes nothing.
-use Prim.Native.Nat.{ℕ}
-use mathlib.Core.Bool.{Bool, true, false}
+use mathlib.Core.Bool.{true, false}
 use mathlib.Core.Path.{◌≡◌, refl}
-use mathlib.Core.List.{List, [], ◌∷◌}
+use mathlib.Core.List.{[], ◌∷◌}
 use Rattle.base.specs.Choice.{both, ask}
 use Rattle.base.specs.Limits.{call_number}
 use Rattle.sources.specs.Queries.{fresh_schedule, whole_down, whole_schedule, schedule_number, is_up, next_wait, query_failed_of}
 use Rattle.sources.specs.declared.QueryDown.TheVariants.{Never, Until}
-use Rattle.sources.specs.declared.Schedule.{Schedule}
-use Rattle.sources.specs.declared.Failure.{Failure}
 
 -- "waits 5 s at first, then twice the wait before, at most 60 s"
 pub waits_from_5_s_to_60_s :

@@ -1,16 +1,13 @@
 -- Document 01's sentences about `Coalesce`, each at its edge, computed on the definitions. Assumes nothing.
 use Prim.Native.Nat.{ℕ}
-use mathlib.Core.Bool.{Bool, true, false}
+use mathlib.Core.Bool.{true, false}
 use mathlib.Core.Path.{◌≡◌, refl}
-use mathlib.Core.List.{List, [], ◌∷◌}
+use mathlib.Core.List.{[], ◌∷◌}
 use Rattle.base.specs.Choice.{ask}
 use Rattle.base.specs.Limits.{call_number}
 use Rattle.state.specs.Coalesce.{fresh_coalesce, whole_due, whole_coalesce, due_after_change, changed_number, is_set, record_number, pending_of, is_due, take_due_of, take_of}
-use Rattle.state.specs.declared.Due.{Due}
 use Rattle.state.specs.declared.Due.TheVariants.{Unset, At}
 use Rattle.state.specs.declared.Coalesce.{Coalesce}
-use Rattle.state.specs.declared.Answer.{Answer}
-use Rattle.state.specs.declared.Taken.{Taken}
 
 -- a record that is due then
 abbrev due_at : ℕ → Coalesce

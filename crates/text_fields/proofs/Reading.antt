@@ -1,5 +1,5 @@
 -- A field after a separator: none where the separator is missing, else what stands after it, in the form that is asked for. Assumes nothing.
-use Rattle.std.specs.Prelude.{◌≡◌, ℕ, ◌<◌, ◌≤◌, Bool, true, false, eqb, List}
+use Rattle.std.specs.Prelude.{◌≡◌, ℕ, ◌<◌, ◌≤◌, eqb, List}
 use mathlib.Core.Path.{ap, ◌∙◌}
 use borrow.Author.Tests.{le-leb, lt-leb}
 use Rattle.text_scan.specs.declared.Step.{Step}
@@ -18,7 +18,7 @@ use Rattle.text_fields.specs.declared.FlowText.{FlowText}
 use Rattle.text_fields.specs.declared.FlowText.TheVariants.{Bad as no_flow}
 use Rattle.text_fields.specs.declared.KindText.{KindText}
 use Rattle.text_fields.specs.declared.KindText.TheVariants.{Auto, Ms, Bad as no_kind}
-use Rattle.text_scan.specs.Scan.{has_byte, ends_at, after_byte, after_text, after_word, number_from}
+use Rattle.text_scan.specs.Scan.{after_byte, number_from}
 use Rattle.text_fields.specs.Fields.{number_after, small_of_number, small_after, flag_of, flag_after, some_of, maybe_after, small_maybe_of, maybe_small_after, ms_of, kind_after, flow_from, flow_after}
 
 -- ---- a number in another form

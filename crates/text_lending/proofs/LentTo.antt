@@ -1,15 +1,11 @@
 -- What `new` is lent, and what every other call. Assumes nothing.
-use Rattle.std.specs.Prelude.{◌≡◌, ℕ, Bool, [], ◌∷◌}
+use Rattle.std.specs.Prelude.{◌≡◌, ℕ, Bool}
 use mathlib.Core.Path.{◌∙◌, ap}
-use mathlib.Core.Logic.{⊎_elim}
-use native.Mathlib.Omega.{arith}
-use denote.Enum.Declared.{tag_of}
 use mathlib.Core.Path.{refl}
 use Rattle.rules_record.specs.declared.Inputs.{Inputs}
 use Rattle.text_lending.specs.declared.Sizes.{Sizes}
 use Rattle.text_requests.specs.declared.Call.{Call}
 use Rattle.text_requests.specs.declared.Call.TheVariants.{New, Route, Update, Confirm, Tick, Status, Has, Settled, WriteDelays, Dump, Put}
-use Rattle.text_requests.specs.contracts.Call.{the_type}
 use Rattle.text_requests.specs.declared.NewAsked.{NewAsked}
 use Rattle.text_lending.specs.Lengths.{buckets_lent, lengths_for}
 use Rattle.text_lending.specs.LentTo.{by_settings, by_record, lent_to}

@@ -1,17 +1,17 @@
 -- A text laid into a buffer, byte by byte and one after another, and digits as a loop writes them from the last to the first. Assumes nothing.
-use Prim.Native.Nat.{ℕ, zero, suc, ◌+◌, ◌-◌, ◌/◌, ◌%◌, ◌<◌, ◌≤◌, min}
+use Prim.Native.Nat.{ℕ, suc, ◌+◌, ◌-◌, ◌/◌, ◌%◌, ◌<◌, ◌≤◌, min}
 use mathlib.Core.Bool.{Bool, true, false}
 use mathlib.Core.Path.{◌≡◌, refl, sym, ap, ◌∙◌, subst}
-use mathlib.Core.List.{List, [], ◌∷◌, ◌++◌, append_assoc, append-nil}
+use mathlib.Core.List.{List, [], ◌∷◌, ◌++◌}
 use native.Mathlib.Numerals.{add-one}
 use native.Mathlib.Nat.{add-zero, add-suc, suc-add}
 use native.Mathlib.Omega.{arith}
 use borrow.Author.Tests.{eq-eqb, ne_eqb, lt-ltb, le-ltb}
 use lib.Dec.{leb}
-use lib.ListN.{length, get_or, set, take, drop, length-set, length-drop, length-append, drop_of_length-le}
-use lib.Seq.{take-suc, take_all, drop-cons, sets, set_out, length-sets, get_or-set_same, drop-set-lt}
+use lib.ListN.{length, get_or, set, drop, length-set, length-drop, length-append, drop_of_length-le}
+use lib.Seq.{drop-cons, sets, set_out, length-sets, get_or-set_same, drop-set-lt}
 use Rattle.base.proofs.Choices.{by_le}
-use Rattle.text_print.specs.Print.{Page, page, printed, glyph_of, spells, spelled, digits_text, hex_text, whole_hex_text, byte_text, decimal_text, flow_text}
+use Rattle.text_print.specs.Print.{Page, page, printed, glyph_of, spells, spelled, digits_text, hex_text, whole_hex_text, byte_text, flow_text}
 
 -- ---- a text in a buffer
 -- past the end nothing is written

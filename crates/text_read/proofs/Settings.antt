@@ -1,6 +1,6 @@
 -- The word of `update` that is a setting, by what was found at its place. Assumes nothing.
 use Prim.Native.Nat.{ℕ}
-use mathlib.Core.Path.{◌≡◌, refl}
+use mathlib.Core.Path.{◌≡◌}
 use mathlib.Core.List.{List}
 use lib.Ieee.{Float, binary64, of_bits}
 use borrow.Author.Tests.{eq-eqb, ne_eqb}

@@ -12,7 +12,7 @@ use Rattle.text_requests.specs.declared.Call.TheVariants.{New, Route, Update, Co
 use Rattle.text_requests.specs.declared.Known.{Known}
 use Rattle.text_requests.specs.declared.Part.TheVariants.{Window, Hold, Counters, Delays, Sum}
 use Rattle.text_requests.specs.Forms.{space, slash, u64_at, hex_at, u32_at, bit_at, maybe_u64_at, maybe_u32_at, flow_at, kind_at, text_end, word_end}
-use Rattle.text_requests.specs.Lists.{kinds_end, looks_end, loads_end, Lags, lags_at, rows_at}
+use Rattle.text_requests.specs.Lists.{kinds_end, looks_end, loads_end, lags_at, rows_at}
 use Rattle.text_requests.specs.Parts.{inode_of, reader_of, setting_of, proposal_of}
 use Rattle.text_read_alone.specs.Alone.{hold_at, sum_at}
 use Rattle.text_read.specs.declared.supervisor.CallLine.{CallLine}

@@ -11,7 +11,7 @@ use Rattle.text_requests.specs.declared.Request.TheVariants.{Bad, Flush, Full, A
 use Rattle.text_requests.specs.Forms.{space, bit_at, text_end, word_end}
 use Rattle.text_read_alone.specs.Alone.{lone_line}
 use Rattle.text_read.specs.declared.Begins.{Begins}
-use Rattle.text_read.specs.Supervisor.{TickLine, lags_of, tick_line, call_line}
+use Rattle.text_read.specs.Supervisor.{lags_of, tick_line, call_line}
 
 -- a request, and the lags that a tick has stored
 pub record Said : Type 0 where

@@ -1,7 +1,7 @@
 -- What the calls take a word for, by the tests that tell it. Assumes nothing.
 use Prim.Native.Nat.{ℕ, ◌≤◌, ◌<◌}
 use mathlib.Core.Bool.{true}
-use mathlib.Core.Path.{◌≡◌, refl}
+use mathlib.Core.Path.{◌≡◌}
 use lib.Ieee.{binary64, of_bits}
 use borrow.Author.Tests.{le-leb, lt-leb}
 use Rattle.delay_hold.specs.declared.Seed.TheVariants.{From}

@@ -4,7 +4,7 @@ use mathlib.Core.Path.{ap, ◌∙◌}
 use native.Mathlib.Omega.{arith}
 use borrow.Author.Tests.{leb-true, leb-false, eqb-false}
 use lib.ListN.{length-drop}
-use lib.Seq.{length-sets, get_or-drop}
+use lib.Seq.{get_or-drop}
 use Rattle.base.proofs.Choices.{by_bool}
 use Rattle.text_scan.specs.declared.Step.{Step}
 use Rattle.text_scan.specs.declared.Step.TheVariants.{At, Bad}

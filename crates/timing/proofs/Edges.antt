@@ -1,10 +1,8 @@
 -- Document 01's sentences about the block clock, each at its edge, computed on the definitions. Assumes nothing.
-use Prim.Native.Nat.{ℕ}
 use mathlib.Core.Path.{◌≡◌, refl}
-use mathlib.Core.List.{List, [], ◌∷◌}
+use mathlib.Core.List.{[], ◌∷◌}
 use Rattle.base.specs.Choice.{ask}
 use Rattle.timing.specs.Clock.{index_at, time_of, index_number, time_number, index_answer, time_answer}
-use Rattle.timing.specs.declared.Answer.{Answer}
 
 -- "`index_at` (rounds down)": a sample takes 20,833 1/3 ns
 pub index_rounds_down : index_at 48000 20833 ∷ index_at 48000 20834 ∷ index_at 48000 41666 ∷ index_at 48000 41667 ∷ [] ≡ 0 ∷ 1 ∷ 1 ∷ 2 ∷ []

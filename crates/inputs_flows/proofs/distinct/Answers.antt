@@ -1,5 +1,4 @@
 -- `inputs_flows::distinct` meets its contract. Assumes nothing.
-use Rattle.std.specs.Prelude.{◌-◌}
 use mathlib.Core.Path.{refl}
 use native.Mathlib.Omega.{arith}
 use Rattle.base.proofs.All.{all_none, all_more, all_stop, all_end}

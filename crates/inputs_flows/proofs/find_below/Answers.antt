@@ -1,5 +1,4 @@
 -- `inputs_flows::find_below` meets its contract. Assumes nothing.
-use Rattle.std.specs.Prelude.{◌-◌}
 use mathlib.Core.Path.{sym, ◌∙◌}
 use native.Mathlib.Omega.{arith}
 use Rattle.base.proofs.First.{first_none, first_more, first_stop, first_end}

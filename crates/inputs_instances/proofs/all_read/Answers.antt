@@ -1,5 +1,4 @@
 -- `inputs_instances::all_read` meets its contract. Assumes nothing.
-use Prim.Native.Nat.{◌-◌}
 use native.Mathlib.Omega.{arith}
 use Rattle.rules_record.specs.Slots.{empty_slot}
 use Rattle.rules_record.proofs.InstanceCases.{collect_start, collect_more}

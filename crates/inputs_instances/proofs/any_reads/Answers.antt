@@ -1,5 +1,4 @@
 -- `inputs_instances::any_reads` meets its contract. Assumes nothing.
-use Prim.Native.Nat.{◌-◌}
 use mathlib.Core.Path.{sym, ◌∙◌}
 use native.Mathlib.Omega.{arith}
 use Rattle.base.proofs.Any.{any_none, any_more, any_stop, any_end}

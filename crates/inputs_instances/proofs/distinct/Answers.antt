@@ -1,5 +1,4 @@
 -- `inputs_instances::distinct` meets its contract. Assumes nothing.
-use Prim.Native.Nat.{◌-◌}
 use mathlib.Core.Path.{refl}
 use native.Mathlib.Omega.{arith}
 use Rattle.base.proofs.All.{all_none, all_more, all_stop, all_end}

@@ -1,5 +1,4 @@
 -- `inputs_instances::find_below` meets its contract. Assumes nothing.
-use Prim.Native.Nat.{◌-◌}
 use mathlib.Core.Path.{sym, ◌∙◌}
 use native.Mathlib.Omega.{arith}
 use Rattle.base.proofs.First.{first_none, first_more, first_stop, first_end}

@@ -1,6 +1,4 @@
 -- `inputs_instances::prune_instances` meets its contract. Assumes nothing.
-use Prim.Native.Nat.{◌-◌}
-use mathlib.Core.Logic.{⊎_elim}
 use native.Mathlib.Omega.{arith}
 use Rattle.rules_record.specs.Instances.{no_key}
 use Rattle.rules_record.proofs.InstanceCases.{held_most, table_key, told_wanted, prune_start, prune_keeps, prune_drops, prune_ends}

@@ -1,5 +1,4 @@
 -- `inputs_places::entries_fit` meets its contract. Assumes nothing.
-use Prim.Native.Nat.{◌-◌}
 use native.Mathlib.Omega.{arith}
 use Rattle.base.proofs.All.{all_end, all_more, all_none, all_stop, told_no, told_yes}
 use Rattle.rules_record.specs.Flows.{empty_entry}

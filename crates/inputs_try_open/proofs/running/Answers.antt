@@ -1,11 +1,5 @@
 -- `inputs_try_open::running` meets its contract. Assumes nothing.
 use Rattle.rules_routing.proofs.TryOpenCases.{running_stalled, running_now}
-use Rattle.inputs_try_open.proofs.running.Reads as reads
-use Rattle.inputs_try_open.proofs.running.Lts as lts
-use Rattle.inputs_slots.proofs.code.Reads as code_Reads
-use Rattle.inputs_slots.proofs.with_head.Reads as with-head-reads
-use Rattle.inputs_slots.proofs.with_inode.Reads as with-inode-reads
-use Rattle.inputs_slots.proofs.with_state.Reads as with-state-reads
 use Rattle.inputs_try_open.proofs.running.Goals as goal
 
 pub returns-then-code-eq-STALLED : goal.returns-then-code-eq-STALLED

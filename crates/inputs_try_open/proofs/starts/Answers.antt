@@ -1,10 +1,6 @@
 -- `inputs_try_open::starts` meets its contract. Assumes nothing.
 use mathlib.Core.Path.{sym, ◌∙◌}
 use Rattle.rules_routing.proofs.TryOpenCases.{starts_manual, starts_other, starts_waiting}
-use Rattle.inputs_try_open.proofs.starts.Reads as reads
-use Rattle.inputs_try_open.proofs.starts.Lts as lts
-use Rattle.inputs_slots.proofs.automatic.Reads as automatic-reads
-use Rattle.inputs_slots.proofs.code.Reads as code_Reads
 use Rattle.inputs_try_open.proofs.starts.Goals as goal
 
 pub returns-then-not-automatic : goal.returns-then-not-automatic

@@ -1,10 +1,5 @@
 -- `inputs_watch::moved` meets its contract. Assumes nothing.
 use Rattle.rules_routing.proofs.WatchCases.{moved_stalled, moved_other}
-use Rattle.inputs_watch.proofs.moved.Reads as reads
-use Rattle.inputs_watch.proofs.moved.Lts as lts
-use Rattle.inputs_slots.proofs.code.Reads as code_Reads
-use Rattle.inputs_slots.proofs.with_head.Reads as with-head-reads
-use Rattle.inputs_slots.proofs.with_state.Reads as with-state-reads
 use Rattle.inputs_watch.proofs.moved.Goals as goal
 
 pub returns-then-code-eq-STALLED : goal.returns-then-code-eq-STALLED

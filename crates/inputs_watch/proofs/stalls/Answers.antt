@@ -1,9 +1,5 @@
 -- `inputs_watch::stalls` meets its contract. Assumes nothing.
 use Rattle.rules_routing.proofs.WatchCases.{stalls_other, stalls_running}
-use Rattle.inputs_watch.proofs.stalls.Reads as reads
-use Rattle.inputs_watch.proofs.stalls.Lts as lts
-use Rattle.base.proofs.age.Reads as age-reads
-use Rattle.inputs_slots.proofs.code.Reads as code_Reads
 use Rattle.inputs_watch.proofs.stalls.Goals as goal
 
 pub returns-then-code-ne-RUNNING : goal.returns-then-code-ne-RUNNING

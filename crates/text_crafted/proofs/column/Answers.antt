@@ -1,5 +1,4 @@
 -- `text_crafted::column` is safe and ends: eleven counts of 32 bits fit 64. Assumes nothing.
-use Prim.Native.Nat.{◌-◌}
 use native.Mathlib.Omega.{arith}
 use Rattle.text_crafted.proofs.column.Goals as goal
 

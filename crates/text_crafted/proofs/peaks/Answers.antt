@@ -1,5 +1,4 @@
 -- `text_crafted::peaks` is safe and ends. Assumes nothing.
-use Prim.Native.Nat.{◌-◌}
 use Rattle.text_crafted.proofs.peaks.Goals as goal
 
 pub loop-i-init : goal.loop-i-init

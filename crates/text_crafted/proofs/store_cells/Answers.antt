@@ -1,5 +1,4 @@
 -- `text_crafted::store_cells` is safe and ends: the list keeps its length. Assumes nothing.
-use Prim.Native.Nat.{◌-◌}
 use Rattle.text_crafted.proofs.store_cells.Goals as goal
 
 pub returns-then-not-is_at : goal.returns-then-not-is_at

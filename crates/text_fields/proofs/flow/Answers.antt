@@ -1,5 +1,4 @@
 -- `text_fields::flow` meets its contract. Assumes nothing.
-use Rattle.std.specs.Prelude.{◌-◌}
 use mathlib.Core.Path.{refl}
 use native.Mathlib.Omega.{arith}
 use Rattle.text_scan.specs.Scan.{number_from}

@@ -1,5 +1,4 @@
 -- `text_files::digits_end` meets its contract: the digits that are left end where all do. Assumes nothing.
-use Prim.Native.Nat.{◌-◌}
 use mathlib.Core.Path.{refl}
 use native.Mathlib.Omega.{arith}
 use Rattle.text_files.specs.Files.{digits_end}

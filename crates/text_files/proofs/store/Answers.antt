@@ -1,5 +1,4 @@
 -- `text_files::store` meets its contract: the bytes that were stored, with those that are left in the line, are all that are kept. Assumes nothing.
-use Prim.Native.Nat.{◌-◌}
 use mathlib.Core.Path.{refl}
 use native.Mathlib.Omega.{arith}
 use borrow.Author.Rules.{rules}

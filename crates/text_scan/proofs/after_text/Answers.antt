@@ -1,5 +1,4 @@
 -- `text_scan::after_text` meets its contract. Assumes nothing.
-use Rattle.std.specs.Prelude.{◌-◌}
 use mathlib.Core.Path.{refl}
 use Rattle.text_scan.specs.Scan.{after_text}
 use Rattle.text_scan.proofs.Scanning.{text_more, text_other, text_short, text_end_law}

@@ -1,5 +1,4 @@
 -- `text_scan::first` meets its contract. Assumes nothing.
-use Rattle.std.specs.Prelude.{◌-◌}
 use mathlib.Core.Path.{refl}
 use Rattle.text_scan.specs.Scan.{first_from}
 use Rattle.text_scan.proofs.Scanning.{first_past, first_found, first_more, first_end}

@@ -1,5 +1,4 @@
 -- `byte_order::inner::big_eight` meets its contract. Assumes nothing.
-use Rattle.std.specs.Prelude.{◌-◌}
 use native.Mathlib.Omega.{arith}
 use Rattle.byte_order.proofs.ByteLoops.{reading_none, reading_room, reading_more, reading_end}
 use Rattle.byte_order.proofs.inner.big_eight.Goals as goal

@@ -1,6 +1,5 @@
 -- `delay_files::reading::fill_flows` meets its contract. Assumes nothing.
 use native.Mathlib.Omega.{arith}
-use Rattle.std.specs.Prelude.{◌-◌}
 use mathlib.Core.Path.{refl}
 use lib.ListN.{length-set}
 use Rattle.base.proofs.Listed.{fill_step, fill_end}

@@ -1,6 +1,5 @@
 -- `delay_files::reading::rising` meets its contract. Assumes nothing.
 use native.Mathlib.Omega.{arith}
-use Rattle.std.specs.Prelude.{◌-◌}
 use mathlib.Core.Path.{ap₂, ◌∙◌}
 use Rattle.base.proofs.All.{all_none, all_more, all_stop, all_end, told_no, told_yes}
 use Rattle.rules_files.specs.Files.{lower_flow, rises}

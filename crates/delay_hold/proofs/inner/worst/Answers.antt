@@ -1,5 +1,5 @@
 -- `delay_hold::inner::worst` meets its contract. Assumes nothing.
-use Rattle.std.specs.Prelude.{◌≡◌, ◌-◌, take}
+use Rattle.std.specs.Prelude.{◌≡◌, take}
 use mathlib.Core.Path.{sym, ◌∙◌, ap}
 use native.Mathlib.Omega.{arith}
 use lib.ListN.{length-take}

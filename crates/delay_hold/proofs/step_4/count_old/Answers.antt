@@ -1,5 +1,4 @@
 -- `delay_hold::step_4::count_old` meets its contract. Assumes nothing.
-use Rattle.std.specs.Prelude.{◌-◌}
 use native.Mathlib.Omega.{arith}
 use Rattle.delay_hold.proofs.Loops.{old_more, old_stop, old_none}
 use Rattle.delay_hold.proofs.step_4.count_old.Goals as goal

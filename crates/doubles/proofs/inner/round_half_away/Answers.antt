@@ -1,6 +1,6 @@
 -- `doubles::inner::round_half_away` meets its contract: the distance from the whole number below is exact, and the answer turns on how it compares with a half. Assumes nothing.
-use Rattle.std.proofs.Common.{◌≡◌, ℕ, ◌+◌, ◌*◌, ◌<◌, not, T, sym, ap, ◌∙◌, subst, arith}
-use lib.Ieee.{Float, binary64, of_bits, sub, lt, eq, fits, to_unsigned}
+use Rattle.std.proofs.Common.{◌≡◌, ℕ, ◌+◌, not, T, sym, ap, ◌∙◌, subst, arith}
+use lib.Ieee.{Float, binary64, of_bits, sub, lt, eq, to_unsigned}
 use Rattle.doubles.specs.Doubles.{double}
 use Rattle.doubles.proofs.Values.{is, isnt}
 use Rattle.doubles.proofs.Halves.{halves_none}

@@ -1,5 +1,4 @@
 -- `inputs_checks::inner::whole_inputs` meets its contract. Assumes nothing.
-use Rattle.std.specs.Prelude.{◌-◌}
 use mathlib.Core.Path.{refl}
 use native.Mathlib.Omega.{arith}
 use Rattle.base.proofs.All.{all_end, all_more, all_none, all_stop, told_no, told_yes}

@@ -1,5 +1,4 @@
 -- `inputs_new::loading::load` meets its contract. Assumes nothing.
-use Rattle.std.specs.Prelude.{◌-◌}
 use mathlib.Core.Path.{refl, sym}
 use native.Mathlib.Omega.{arith}
 use Rattle.base.proofs.Tests.{not_both}

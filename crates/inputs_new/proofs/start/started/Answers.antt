@@ -1,5 +1,4 @@
 -- `inputs_new::start::started` meets its contract. Assumes nothing.
-use Rattle.std.specs.Prelude.{◌-◌}
 use native.Mathlib.Omega.{arith}
 use Rattle.rules_calls.proofs.NewLoops.{starting_none, starting_used, starting_more, starting_end}
 use Rattle.inputs_new.proofs.start.started.Goals as goal

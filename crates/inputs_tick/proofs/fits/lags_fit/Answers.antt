@@ -1,5 +1,4 @@
 -- `inputs_tick::fits::lags_fit` meets its contract. Assumes nothing.
-use Rattle.std.specs.Prelude.{◌-◌}
 use mathlib.Core.Path.{refl}
 use native.Mathlib.Omega.{arith}
 use Rattle.rules_tick.proofs.LagCounting.{lags_none, lags_more, lags_stop, lags_end}

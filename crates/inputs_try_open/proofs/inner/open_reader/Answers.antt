@@ -3,13 +3,6 @@ use Rattle.rules_record.proofs.Sending.{did_by, did_quiet, did_first}
 use mathlib.Core.Path.{refl}
 use native.Mathlib.Omega.{arith}
 use Rattle.rules_routing.proofs.TryOpenCases.{reader_shut, reader_opens}
-use Rattle.inputs_try_open.proofs.inner.open_reader.Reads as reads
-use Rattle.inputs_try_open.proofs.inner.open_reader.Lts as lts
-use Rattle.inputs_commands.proofs.inner.send.Reads as send-reads
-use Rattle.inputs_try_open.proofs.inner.opened.Reads as opened-reads
-use Rattle.inputs_try_open.proofs.inner.recall.Reads as recall-reads
-use Rattle.inputs_slots.proofs.put_slot.Reads as put-slot-reads
-use Rattle.inputs_slots.proofs.slot_at.Reads as slot-at-reads
 use Rattle.inputs_try_open.proofs.inner.open_reader.Goals as goal
 
 pub returns-in_default : goal.returns-in_default

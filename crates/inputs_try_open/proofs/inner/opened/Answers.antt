@@ -1,10 +1,5 @@
 -- `inputs_try_open::inner::opened` meets its contract. Assumes nothing.
 use Rattle.rules_routing.proofs.TryOpenCases.{opened_waiting, opened_again}
-use Rattle.inputs_try_open.proofs.inner.opened.Reads as reads
-use Rattle.inputs_try_open.proofs.inner.opened.Lts as lts
-use Rattle.inputs_try_open.proofs.running.Reads as running-reads
-use Rattle.inputs_slots.proofs.code.Reads as code_Reads
-use Rattle.inputs_slots.proofs.with_reopens.Reads as with-reopens-reads
 use Rattle.inputs_try_open.proofs.inner.opened.Goals as goal
 
 pub returns-then-code-eq-WAITING : goal.returns-then-code-eq-WAITING

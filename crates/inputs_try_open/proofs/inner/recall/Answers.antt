@@ -2,11 +2,6 @@
 use Rattle.rules_record.proofs.Sending.{did_by, did_quiet}
 use mathlib.Core.Path.{refl, sym, ◌∙◌}
 use Rattle.rules_routing.proofs.TryOpenCases.{recall_not, recall_none, recall_last}
-use Rattle.inputs_try_open.proofs.inner.recall.Reads as reads
-use Rattle.inputs_try_open.proofs.inner.recall.Lts as lts
-use Rattle.inputs_flows.proofs.recall.Reads as recall-reads
-use Rattle.inputs_try_open.proofs.inner.start.Reads as start-reads
-use Rattle.inputs_try_open.proofs.starts.Reads as starts-reads
 use Rattle.inputs_try_open.proofs.inner.recall.Goals as goal
 
 pub returns-then-not-starts : goal.returns-then-not-starts

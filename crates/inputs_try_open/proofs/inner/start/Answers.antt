@@ -2,11 +2,6 @@
 use Rattle.rules_record.proofs.Sending.{did_by, did_changed}
 use Rattle.rules_routing.specs.TryOpen.{start_at}
 use Rattle.rules_routing.proofs.TryOpenCases.{start_by_law}
-use Rattle.inputs_try_open.proofs.inner.start.Reads as reads
-use Rattle.inputs_try_open.proofs.inner.start.Lts as lts
-use Rattle.base.proofs.least.Reads as least-reads
-use Rattle.inputs_try_open.proofs.seed.Reads as seed-reads
-use Rattle.inputs_set_delay.proofs.inner.set_delay.Reads as set-delay-reads
 use Rattle.inputs_try_open.proofs.inner.start.Goals as goal
 
 pub returns : goal.returns

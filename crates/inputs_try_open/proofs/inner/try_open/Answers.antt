@@ -2,13 +2,6 @@
 use Rattle.rules_record.proofs.Sending.{did_by, did_quiet}
 use mathlib.Core.Path.{refl, sym, ◌∙◌}
 use Rattle.rules_routing.proofs.TryOpenCases.{open_nowhere, open_gone, open_found, open_unmade, open_made, slot_pruned, slot_made}
-use Rattle.inputs_try_open.proofs.inner.try_open.Reads as reads
-use Rattle.inputs_try_open.proofs.inner.try_open.Lts as lts
-use Rattle.inputs_instances.proofs.found.Reads as found-reads
-use Rattle.inputs_instances.proofs.make.Reads as make-reads
-use Rattle.inputs_instances.proofs.prune_instances.Reads as prune-reads
-use Rattle.inputs_try_open.proofs.inner.open_reader.Reads as open-reader-reads
-use Rattle.inputs_slots.proofs.slot_at.Reads as slot-at-reads
 use borrow.Author.Tests.{not-true, not-false}
 use Rattle.inputs_try_open.proofs.inner.try_open.Goals as goal
 

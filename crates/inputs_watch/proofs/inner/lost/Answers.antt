@@ -1,9 +1,5 @@
 -- `inputs_watch::inner::lost` meets its contract. Assumes nothing.
 use Rattle.rules_routing.proofs.WatchCases.{lost_by}
-use Rattle.inputs_watch.proofs.inner.lost.Reads as reads
-use Rattle.inputs_watch.proofs.inner.lost.Lts as lts
-use Rattle.inputs_slots.proofs.with_reopens.Reads as with-reopens-reads
-use Rattle.inputs_slots.proofs.with_state.Reads as with-state-reads
 use Rattle.inputs_watch.proofs.inner.lost.Goals as goal
 
 pub returns : goal.returns

@@ -1,5 +1,5 @@
 -- `lag_rows::inner::add_blocks` meets its contract. Assumes nothing.
-use Rattle.std.proofs.Common.{◌-◌, refl, arith, rules}
+use Rattle.std.proofs.Common.{refl, arith, rules}
 use Rattle.lag_rows.proofs.BlockSums.{kept_none, kept_more, kept_end, total_more, total_end, total_few}
 use Rattle.base.proofs.All.{from_none}
 use Rattle.lag_rows.proofs.inner.add_blocks.Goals as goal

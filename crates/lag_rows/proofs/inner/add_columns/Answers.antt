@@ -1,5 +1,5 @@
 -- `lag_rows::inner::add_columns` meets its contract. Assumes nothing.
-use Rattle.std.proofs.Common.{◌-◌, refl, add-zero, add_assoc, arith, rules}
+use Rattle.std.proofs.Common.{refl, add-zero, add_assoc, arith, rules}
 use Rattle.lag_rows.proofs.Tallies.{rows_done, covered_done, columns_none, columns_next, columns_end}
 use Rattle.lag_rows.proofs.inner.add_columns.Goals as goal
 

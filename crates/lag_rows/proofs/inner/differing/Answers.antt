@@ -1,5 +1,5 @@
 -- `lag_rows::inner::differing` meets its contract. Assumes nothing.
-use Rattle.std.proofs.Common.{◌-◌, arith}
+use Rattle.std.proofs.Common.{arith}
 use Rattle.lag_rows.proofs.Tallies.{alike_none, alike_next, alike_end}
 use Rattle.lag_rows.proofs.inner.differing.Goals as goal
 

@@ -1,5 +1,5 @@
 -- `lag_rows::inner::long_column` meets its contract. Assumes nothing.
-use Rattle.std.proofs.Common.{◌-◌, arith, rules}
+use Rattle.std.proofs.Common.{arith, rules}
 use borrow.Author.Rules.{scaled_Fits}
 use Rattle.base.proofs.Flat.{row_fits, flat_in, flat_fits}
 use Rattle.rules_window.proofs.Reaching.{column_none, column_more, column_end}

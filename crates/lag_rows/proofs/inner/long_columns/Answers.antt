@@ -1,5 +1,5 @@
 -- `lag_rows::inner::long_columns` meets its contract. Assumes nothing.
-use Rattle.std.proofs.Common.{◌-◌, arith}
+use Rattle.std.proofs.Common.{arith}
 use Rattle.rules_window.proofs.Checking.{columns_none, columns_more, columns_stop, columns_end}
 use Rattle.lag_rows.proofs.inner.long_columns.Goals as goal
 

@@ -1,5 +1,5 @@
 -- `lag_rows::inner::long_rows` meets its contract. Assumes nothing.
-use Rattle.std.proofs.Common.{◌-◌, arith, rules}
+use Rattle.std.proofs.Common.{arith, rules}
 use Rattle.base.proofs.Flat.{row_fits, row_within}
 use Rattle.rules_window.proofs.Checking.{summed_none, summed_more, summed_stop_total, summed_stop_row, summed_end}
 use Rattle.lag_rows.proofs.inner.long_rows.Goals as goal

@@ -1,5 +1,5 @@
 -- `lag_rows::inner::long_sum` meets its contract. Assumes nothing.
-use Rattle.std.proofs.Common.{◌-◌, arith}
+use Rattle.std.proofs.Common.{arith}
 use Rattle.base.proofs.All.{from_none, from_more, from_end}
 use Rattle.lag_rows.proofs.inner.long_sum.Goals as goal
 

@@ -1,5 +1,5 @@
 -- `lag_rows::inner::reached` meets its contract. Assumes nothing.
-use Rattle.std.proofs.Common.{◌-◌, sym, ◌∙◌, arith}
+use Rattle.std.proofs.Common.{sym, ◌∙◌, arith}
 use native.Mathlib.Nat.{sub-zero}
 use Rattle.rules_window.proofs.Reaching.{running_none, running_block, block_few, reach_block}
 use Rattle.lag_rows.proofs.BlockSums.{kept_at}

@@ -1,5 +1,5 @@
 -- `lag_rows::inner::reached_from` meets its contract. Assumes nothing.
-use Rattle.std.proofs.Common.{◌-◌, refl, arith}
+use Rattle.std.proofs.Common.{refl, arith}
 use Rattle.rules_window.proofs.Reaching.{running_more, next_few, reach_more, reach_stop, reach_past}
 use Rattle.lag_rows.proofs.inner.reached_from.Goals as goal
 

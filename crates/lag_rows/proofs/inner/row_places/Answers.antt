@@ -1,5 +1,5 @@
 -- `lag_rows::inner::row_places` meets its contract. Assumes nothing.
-use Rattle.std.proofs.Common.{◌-◌, refl, arith, rules}
+use Rattle.std.proofs.Common.{refl, arith, rules}
 use Rattle.base.proofs.Flat.{row_le}
 use Rattle.lag_rows.proofs.Tallies.{places_next, places_end}
 use Rattle.lag_rows.proofs.inner.row_places.Goals as goal

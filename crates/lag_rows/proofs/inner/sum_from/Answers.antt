@@ -1,5 +1,5 @@
 -- `lag_rows::inner::sum_from` meets its contract. Assumes nothing.
-use Rattle.std.proofs.Common.{◌-◌, arith}
+use Rattle.std.proofs.Common.{arith}
 use Rattle.base.proofs.All.{from_none, from_more, from_end}
 use Rattle.rules_window.proofs.Sums.{from_next}
 use Rattle.lag_rows.proofs.inner.sum_from.Goals as goal

@@ -1,5 +1,5 @@
 -- `lag_rows::inner::sums_right` meets its contract. Assumes nothing.
-use Rattle.std.proofs.Common.{◌-◌, refl, arith}
+use Rattle.std.proofs.Common.{refl, arith}
 use Rattle.lag_rows.proofs.Tallies.{rows_start, covered_none, alike_to_none, alike_to_more, columns_fail, totals_tell, long_fails, long_tells}
 use Rattle.lag_rows.proofs.inner.sums_right.Goals as goal
 

@@ -1,5 +1,5 @@
 -- `lag_rows::inner::take_row` meets its contract. Assumes nothing.
-use Rattle.std.proofs.Common.{◌-◌, refl, arith, rules}
+use Rattle.std.proofs.Common.{refl, arith, rules}
 use borrow.Author.Rules.{scaled_Fits}
 use Rattle.base.proofs.Flat.{row_fits, flat_in, flat_fits}
 use Rattle.lag_rows.proofs.Taken.{take_fits, take_next, take_end}

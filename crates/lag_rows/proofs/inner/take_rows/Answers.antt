@@ -1,5 +1,5 @@
 -- `lag_rows::inner::take_rows` meets its contract. Assumes nothing.
-use Rattle.std.proofs.Common.{◌-◌, ◌∙◌, arith, rules}
+use Rattle.std.proofs.Common.{◌∙◌, arith, rules}
 use Rattle.rules_window.proofs.SumsKept.{less_none, less_more}
 use Rattle.lag_rows.proofs.Taken.{row_in_sums, less_end}
 use Rattle.lag_rows.proofs.inner.take_rows.Goals as goal

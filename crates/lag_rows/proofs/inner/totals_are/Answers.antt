@@ -1,5 +1,5 @@
 -- `lag_rows::inner::totals_are` meets its contract. Assumes nothing.
-use Rattle.std.proofs.Common.{◌-◌, arith}
+use Rattle.std.proofs.Common.{arith}
 use Rattle.lag_rows.proofs.Tallies.{totals_none, totals_more, totals_stop, totals_end}
 use Rattle.lag_rows.proofs.inner.totals_are.Goals as goal
 

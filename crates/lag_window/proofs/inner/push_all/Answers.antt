@@ -1,5 +1,4 @@
 -- `lag_window::inner::push_all` meets its contract. Assumes nothing.
-use Rattle.std.specs.Prelude.{◌-◌}
 use native.Mathlib.Omega.{arith}
 use Rattle.rules_window.proofs.Ticks.{going_start, going_asks, going_more, going_end}
 use Rattle.rules_window.specs.ColumnSums.{column_sums}

@@ -1,5 +1,4 @@
 -- `lag_window::inner::stale` meets its contract. Assumes nothing.
-use Rattle.std.specs.Prelude.{◌-◌}
 use native.Mathlib.Omega.{arith}
 use Rattle.rules_window.proofs.Stales.{stales}
 use native.Mathlib.Nat.{zero-add, sub-zero}

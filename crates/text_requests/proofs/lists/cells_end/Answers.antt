@@ -1,5 +1,4 @@
 -- `text_requests::lists::cells_end` meets its contract: the place after the cells that are left is the place after all. Assumes nothing.
-use Prim.Native.Nat.{◌-◌}
 use lib.ListN.{length}
 use Rattle.text_requests.specs.Lists.{cells_end}
 use Rattle.text_requests.proofs.Loops.{left_all, cells_done, cells_beyond, cells_again, cells_full}

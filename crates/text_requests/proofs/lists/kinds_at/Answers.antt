@@ -1,5 +1,4 @@
 -- `text_requests::lists::kinds_at` meets its contract: the places are filled one after the other. Assumes nothing.
-use Prim.Native.Nat.{◌-◌}
 use mathlib.Core.Path.{refl, ap, ◌∙◌}
 use Rattle.text_words.specs.declared.KindWord.{KindWord}
 use Rattle.text_requests.specs.Lists.{kinds_at}

@@ -1,5 +1,5 @@
 -- `text_requests::lists::kinds_end` meets its contract: the place after those that are left is the place after all. Assumes nothing.
-use Prim.Native.Nat.{ℕ, ◌-◌}
+use Prim.Native.Nat.{ℕ}
 use Rattle.text_words.specs.declared.KindWord.{KindWord}
 use Rattle.text_requests.specs.Forms.{space, kind_at}
 use Rattle.text_requests.specs.Lists.{kinds_end}

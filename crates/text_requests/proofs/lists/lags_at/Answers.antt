@@ -1,5 +1,5 @@
 -- `text_requests::lists::lags_at` meets its contract: the lags that are left, after those that were stored, are all lags. Assumes nothing.
-use Prim.Native.Nat.{ℕ, ◌-◌}
+use Prim.Native.Nat.{ℕ}
 use mathlib.Core.Path.{refl, ap, ◌∙◌}
 use mathlib.Core.List.{[]}
 use native.Mathlib.Omega.{arith}

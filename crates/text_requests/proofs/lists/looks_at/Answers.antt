@@ -1,5 +1,4 @@
 -- `text_requests::lists::looks_at` meets its contract: the places are filled one after the other. Assumes nothing.
-use Prim.Native.Nat.{◌-◌}
 use mathlib.Core.Path.{ap}
 use Rattle.text_requests.specs.declared.lists.LookWord.{LookWord}
 use Rattle.text_requests.specs.Lists.{looks_at}

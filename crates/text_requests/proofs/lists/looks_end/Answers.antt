@@ -1,5 +1,5 @@
 -- `text_requests::lists::looks_end` meets its contract: the place after those that are left is the place after all. Assumes nothing.
-use Prim.Native.Nat.{ℕ, ◌-◌}
+use Prim.Native.Nat.{ℕ}
 use Rattle.text_requests.specs.declared.lists.LookWord.{LookWord}
 use Rattle.text_requests.specs.Lists.{looks_end, look_at}
 use Rattle.text_requests.proofs.Loops.{left_all, times_again, times_lost, times_done}

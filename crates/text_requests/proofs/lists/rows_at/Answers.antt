@@ -1,5 +1,4 @@
 -- `text_requests::lists::rows_at` meets its contract: the rows that are left, after those that were read, are all rows. Assumes nothing.
-use Prim.Native.Nat.{◌-◌}
 use lib.ListN.{length}
 use Rattle.text_requests.specs.Lists.{rows_at}
 use Rattle.text_requests.proofs.Loops.{left_all, rows_done, rows_lost, rows_again, rows_full}

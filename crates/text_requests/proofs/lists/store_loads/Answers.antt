@@ -1,5 +1,4 @@
 -- `text_requests::lists::store_loads` meets its contract: the flows and delays that are left, after those that were stored, are all. Assumes nothing.
-use Prim.Native.Nat.{◌-◌}
 use mathlib.Core.Path.{refl, ◌∙◌}
 use native.Mathlib.Omega.{arith}
 use lib.ListN.{length-set}

@@ -1,5 +1,4 @@
 -- `text_scan::bytes::shift_u8` meets its contract. Assumes nothing.
-use Rattle.std.specs.Prelude.{◌-◌}
 use native.Mathlib.Omega.{arith}
 use lib.ListN.{length-set}
 use Rattle.base.proofs.Toward.{shift_end, shift_low_step, shift_high_step}

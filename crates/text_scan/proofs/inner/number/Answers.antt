@@ -1,5 +1,4 @@
 -- `text_scan::inner::number` meets its contract. Assumes nothing.
-use Rattle.std.specs.Prelude.{◌-◌}
 use mathlib.Core.Path.{refl}
 use native.Mathlib.Omega.{arith}
 use borrow.Author.Rules.{rules}
