@@ -1,5 +1,5 @@
 -- Each event keeps an input whole: check 6 never refuses what the calls themselves leave. Assumes nothing.
-use Prim.Native.Nat.{ℕ, ◌+◌, ◌-◌, ◌≤◌}
+use Prim.Native.Nat.{ℕ, ◌+◌, ◌≤◌}
 use mathlib.Core.Path.{◌≡◌, refl, ◌∙◌, subst}
 use mathlib.Core.Bool.{Bool, true, false}
 use mathlib.Core.List.{List}
@@ -11,10 +11,8 @@ use Rattle.base.specs.Choice.{pick}
 use Rattle.base.proofs.Points.{both_true, true_both}
 use Rattle.buckets.proofs.Told.{buckets_some}
 use Rattle.policy.specs.declared.DelayPolicy.{DelayPolicy}
-use Rattle.base.specs.Rows.{span_of}
 use Rattle.rules_window.specs.Window.{Window, fresh, pushed_all}
 use Rattle.rules_record.specs.Lent.{buckets_for}
-use Rattle.rules_window.specs.Quantile.{quantile_upto}
 use Rattle.rules_window.specs.WholeWindow as windows
 use Rattle.rules_window.specs.Checks.{room_for, newest}
 use Rattle.rules_window.proofs.Laws.{fresh_sound}

@@ -5,7 +5,7 @@ ghost use Rattle.rules_calls.specs.NewLoading.{loaded_flow, loaded_one, loaded_b
 use rules_record::{Flow, Inputs};
 
 // The record with the loaded delays, where each flow had room.
-#[derive(Drop)]
+#[derive(Clone, Copy)]
 pub(crate) struct Loaded {
     pub fits: bool,
     pub inputs: Inputs,

@@ -10,7 +10,7 @@ use rules_record::{Inode, Routed, Slot, State};
 pub mod inner;
 
 // What `watch` finds: the input has no route; its flow is gone; is there under another inode, or was not opened yet; its head moved; its head stands still.
-#[derive(Drop)]
+#[derive(Clone, Copy)]
 pub enum Found {
     Unwatched,
     Lost,

@@ -1,8 +1,7 @@
 -- What a record notes of the commands to an input: its delay, when the last SetDelay went, when the last SetInput; and what commands make of it. Assumes nothing.
 use Prim.Native.Nat.{ℕ}
-use mathlib.Core.Path.{◌≡◌, refl, sym, ap, ◌∙◌}
+use mathlib.Core.Path.{◌≡◌, refl, ap, ◌∙◌}
 use mathlib.Core.List.{List, [], ◌++◌}
-use lib.ListN.{length}
 use Rattle.base.specs.Lists.{padded}
 use Rattle.delay_hold.specs.declared.Moment.{Moment}
 use Rattle.delay_hold.specs.declared.Moment.TheVariants.{At}

@@ -22,7 +22,6 @@ use Rattle.rules_record.specs.Lent.{Lists}
 use Rattle.rules_record.specs.Effects.{followed_by}
 use Rattle.rules_routing.specs.Clear.{cleared_slot, cleared}
 use Rattle.rules_calls.specs.declared.Wanted.{Wanted}
-use Rattle.rules_calls.specs.declared.Wanted.TheVariants as Wanted
 use Rattle.rules_calls.specs.Route.{enrolled_for, route_for, equal_route, starts_over, forgetting, zeroing, started_over, routed_slot, opened_for, moved, rerouted, routed_to, routed}
 use Rattle.rules_calls.specs.Update.{kind_stored, delay_set, updated}
 use Rattle.rules_calls.specs.ConfirmDelay.{taken, confirmed_by, confirmed}

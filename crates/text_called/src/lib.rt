@@ -11,7 +11,7 @@ use text_lending::{file_sizes, sizes_for};
 use text_requests::Call;
 
 // The record that a call leaves, and its answer.
-#[derive(Drop)]
+#[derive(Clone, Copy)]
 pub struct Called {
     pub inputs: Inputs,
     pub answer: Answer,

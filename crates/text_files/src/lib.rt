@@ -14,7 +14,7 @@ pub const MOST_FILE: usize = 1_292;
 const NO_BYTE: u64 = 256;
 
 // Where a file's digits begin, and the place after them.
-#[derive(Drop)]
+#[derive(Clone, Copy)]
 pub struct FileWord {
     pub at: usize,
     pub next: usize,

@@ -41,7 +41,7 @@ pub type Heard = [u32; 524_288];
 pub type Bytes = [u8; 1_287];
 
 // The lengths that a call asks for.
-#[derive(Drop)]
+#[derive(Clone, Copy)]
 pub struct Sizes {
     pub seconds: usize,
     pub counts: usize,
@@ -51,7 +51,7 @@ pub struct Sizes {
 }
 
 // The lengths of a delay file that is written, and of the flows and the delays that one is read into.
-#[derive(Drop)]
+#[derive(Clone, Copy)]
 pub struct FileSizes {
     pub file: usize,
     pub flows: usize,
@@ -59,7 +59,7 @@ pub struct FileSizes {
 }
 
 // From `from` up to `to`.
-#[derive(Drop)]
+#[derive(Clone, Copy)]
 pub struct Span {
     pub from: usize,
     pub to: usize,

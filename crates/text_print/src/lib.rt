@@ -11,7 +11,7 @@ ghost use Rattle.text_print.specs.Print.{page, printed, glyph_of, spells, digits
 pub type Out = [u8; 262_144];
 
 // A number's digits: the bytes from `from` on.
-#[derive(Drop)]
+#[derive(Clone, Copy)]
 struct Digits {
     bytes: [u8; 20],
     from: usize,

@@ -12,7 +12,7 @@ use text_words::{BitWord, LOST, bit_word, text_end, word_end};
 mod supervisor;
 
 // Where a line's name begins, and whether its lists are short.
-#[derive(Drop)]
+#[derive(Clone, Copy)]
 pub struct Begins {
     pub short: bool,
     pub at: usize,

@@ -20,7 +20,7 @@ use text_words::{
 };
 
 // A line that was read, and the place after its words.
-#[derive(Drop)]
+#[derive(Clone, Copy)]
 pub struct CallLine {
     pub call: Call,
     pub next: usize,
@@ -37,7 +37,7 @@ fn either(first: CallLine, second: CallLine) -> CallLine
 }
 
 // ---- new
-#[derive(Drop)]
+#[derive(Clone, Copy)]
 pub struct SettingsWords {
     pub time: u64,
     pub settings: Settings,
@@ -101,7 +101,7 @@ fn new(s: &[u8], at: usize) -> CallLine
 }
 
 // ---- route
-#[derive(Drop)]
+#[derive(Clone, Copy)]
 pub struct WantedWord {
     pub wanted: Wanted,
     pub next: usize,
@@ -165,7 +165,7 @@ fn route(s: &[u8], at: usize) -> CallLine
 }
 
 // ---- update, confirm, settled
-#[derive(Drop)]
+#[derive(Clone, Copy)]
 pub struct SettingWord {
     pub setting: DelaySetting,
     pub next: usize,
@@ -241,7 +241,7 @@ fn settled(s: &[u8], at: usize) -> CallLine
 }
 
 // ---- tick
-#[derive(Drop)]
+#[derive(Clone, Copy)]
 pub struct TickName {
     pub dry: bool,
     pub next: usize,
@@ -341,7 +341,7 @@ fn dwrite1(s: &[u8], at: usize) -> CallLine
 }
 
 // ---- put
-#[derive(Drop)]
+#[derive(Clone, Copy)]
 pub struct PartLine {
     pub part: Part,
     pub next: usize,

@@ -20,7 +20,7 @@ use text_words::{
 };
 
 // A line that was read, and the place after its words.
-#[derive(Drop)]
+#[derive(Clone, Copy)]
 pub struct LoneLine {
     pub lone: Lone,
     pub next: usize,
@@ -140,7 +140,7 @@ fn wset(s: &[u8], at: usize, buckets: usize) -> LoneLine
 }
 
 // A sum of a line, and the place after it.
-#[derive(Drop)]
+#[derive(Clone, Copy)]
 pub struct SumWords {
     pub asked: SumAsked,
     pub next: usize,
@@ -230,7 +230,7 @@ fn wquant(s: &[u8], at: usize) -> LoneLine
 // ---- the hold
 
 // A hold of a line, and the place after it.
-#[derive(Drop)]
+#[derive(Clone, Copy)]
 pub struct HoldWords {
     pub asked: HoldAsked,
     pub next: usize,

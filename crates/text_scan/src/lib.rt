@@ -9,14 +9,14 @@ ghost use Rattle.std.specs.Prelude.{◌≡◌};
 ghost use Rattle.text_scan.specs.Scan.{has_byte, after_byte, ends_at, first_from, after_text, after_word, digit_of, closed};
 
 // The place after what was looked for, or that it is not there.
-#[derive(Drop)]
+#[derive(Clone, Copy)]
 pub enum Step {
     At(usize),
     Bad,
 }
 
 // A number and the place after it.
-#[derive(Drop)]
+#[derive(Clone, Copy)]
 pub enum Number {
     Of(u64, usize),
     Bad,

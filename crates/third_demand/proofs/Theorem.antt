@@ -26,7 +26,7 @@ use Rattle.history.specs.Events.{Event, fresh_view, history, Lawful, clock}
 use Rattle.history.specs.Events as events
 use Rattle.history.specs.Stretch.{Allowed, running_ticks, bucket_end}
 use Rattle.history.proofs.Demand.{history_append, floor_after, ceiling_after}
-use Rattle.third_demand.specs.Calls.{Call, ticks, after, run, Accepted, clock_after, Orderly, told, Night, fresh, left_by, delay_of}
+use Rattle.third_demand.specs.Calls.{Call, ticks, after, run, Accepted, clock_after, Orderly, Night, fresh, left_by, delay_of}
 use Rattle.third_demand.specs.Demand.{RunsOn, InStretch, Stretch, ending, StaysWhole, StaysWholeAlways, Floor, Ceiling, ThirdDemand}
 use Rattle.third_demand.proofs.Lifted.{TickLifted}
 use Rattle.third_demand.proofs.Good.{Sure, Good, most, seen_at, Laws}
