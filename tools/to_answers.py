@@ -249,9 +249,8 @@ def record_of(names, body):
         elif re.match(r"search |omega|grind|cc\b", rest):
             parts += [rest] * len(left)
         else:
-            at = "h"
             lets += f"let h = {rest} in "
-            for k, n in enumerate(left):
+            for k in range(len(left)):
                 parts.append("h" + ".1" * k + (".0" if k < len(left) - 1 else ""))
     return lets + "record { " + "; ".join(f"{n} = {p}" for n, p in zip(names, parts)) + " }"
 
