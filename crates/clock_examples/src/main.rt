@@ -2,8 +2,8 @@
 // as the oracle of the Rust reads and writes them.
 #![tactic(auto)]
 
-use sources::{QueryDown, Schedule};
-use state::{Coalesce, Due};
+use sources::{Down, Schedule};
+use state::Coalesce;
 use std::io;
 
 fn text(rt: &impl Print, words: &str) -> io::Result<()> {
@@ -30,8 +30,8 @@ fn yes_or_no(rt: &impl Print, yes: bool) -> io::Result<()> {
 fn due_line(rt: &impl Print, coalesce: Coalesce) -> io::Result<()> {
     let due = coalesce.due;
     match due {
-        Due::Unset => text(rt, "-\n"),
-        Due::At(at) => {
+        None => text(rt, "-\n"),
+        Some(at) => {
             number(rt, at)?;
             text(rt, "\n")
         }
@@ -41,8 +41,8 @@ fn due_line(rt: &impl Print, coalesce: Coalesce) -> io::Result<()> {
 fn down_line(rt: &impl Print, schedule: Schedule) -> io::Result<()> {
     let down = schedule.query_down;
     match down {
-        QueryDown::Never => text(rt, "-\n"),
-        QueryDown::Until { until, wait } => {
+        None => text(rt, "-\n"),
+        Some(Down { until, wait }) => {
             number(rt, until)?;
             number_after(rt, ":", wait)?;
             text(rt, "\n")
@@ -149,7 +149,7 @@ fn down_until(rt: &impl Print, until: u64, wait: u64) -> io::Result<Schedule> {
     schedule_line(
         rt,
         Schedule {
-            query_down: QueryDown::Until { until, wait },
+            query_down: Some(Down { until, wait }),
         },
     )
 }
@@ -219,7 +219,7 @@ fn state_lines(rt: &impl Print) -> io::Result<()> {
     coalesce = coalesce_line(
         rt,
         Coalesce {
-            due: Due::At(4_000_000_600_000_000_001),
+            due: Some(4_000_000_600_000_000_001),
         },
     )?;
     pending(rt, coalesce)?;

@@ -1,14 +1,10 @@
 -- The checks of `new` and of `next` alone (document 01's, with document 02's 17 and 18), the answers, and what each call leaves. Assumes nothing.
-use Rattle.std.specs.Prelude.{◌≡◌, ℕ, zero, suc, ◌≤◌, Bool, true, List, length, ◌==◌, nat_le}
+use Rattle.std.specs.Prelude.{◌≡◌, ℕ, zero, suc, ◌≤◌, Bool, true, List, length, ◌==◌, nat_le, None, Option, Some}
 use Rattle.base.specs.Choice.{ask, both, accepted}
 use Rattle.base.specs.Limits.{nanos, span_limit, timely, width_limit}
 use Rattle.buckets.specs.Ranges.{ranges_number}
 use Rattle.policy.specs.declared.DelayPolicy.{DelayPolicy}
 use Rattle.policy.specs.Settings.{times_allowed, margins_allowed, Sound}
-use Rattle.delay_hold.specs.declared.Lag.{Lag}
-use Rattle.delay_hold.specs.declared.Lag.TheVariants.{None, Of}
-use Rattle.delay_hold.specs.declared.Change.{Change}
-use Rattle.delay_hold.specs.declared.Change.TheVariants.{Keep, To}
 use Rattle.delay_hold.specs.declared.Answer.{Answer}
 use Rattle.delay_hold.specs.declared.Answer.TheVariants.{Kept, Changed, Refused}
 use Rattle.delay_hold.specs.declared.DelayHold.{DelayHold}
@@ -40,9 +36,9 @@ new_reply times lags =
 
 -- ---- next alone
 -- a lag, if there is one, is at most the limit
-abbrev pub lag_up_to : Lag → (limit : ℕ) → Bool
+abbrev pub lag_up_to : Option ℕ → (limit : ℕ) → Bool
 lag_up_to None limit = true
-lag_up_to (Of lag) limit = nat_le lag limit
+lag_up_to (Some lag) limit = nat_le lag limit
 
 -- 2 17 18 of offset, maximum and W, from which the buckets follow. 3. 4.
 unfoldable pub settings_number : (policy : DelayPolicy) (width : ℕ) → ℕ
@@ -52,7 +48,7 @@ settings_number policy width =
     (ask 4 (margins_allowed policy) 0))
 
 -- 5. 6. 8. 15: "current at most maximum, p999 at most offset + maximum + W"
-unfoldable pub held_number : (policy : DelayPolicy) (width : ℕ) (s : Held) (p999 : Lag) (current time : ℕ) → ℕ
+unfoldable pub held_number : (policy : DelayPolicy) (width : ℕ) (s : Held) (p999 : Option ℕ) (current time : ℕ) → ℕ
 held_number policy width s p999 current time =
     ask 5 (lists_fit s)
     (ask 6 (whole_hold policy width s)
@@ -61,14 +57,14 @@ held_number policy width s p999 current time =
     (ask 15 (lag_up_to p999 (peak_most policy width)) 0))))
 
 -- the first check of `next` that says no, or 0
-unfoldable pub next_number : (policy : DelayPolicy) (width : ℕ) (s : Held) (p999 : Lag) (current time : ℕ) → ℕ
+unfoldable pub next_number : (policy : DelayPolicy) (width : ℕ) (s : Held) (p999 : Option ℕ) (current time : ℕ) → ℕ
 next_number policy width s p999 current time =
     accepted (settings_number policy width) (settings_number policy width) (held_number policy width s p999 current time)
 
 -- the answer for a number and a change
-abbrev pub next_answer : ℕ → (change : Change) → Answer
-next_answer zero Keep = Kept
-next_answer zero (To delay) = Changed delay
+abbrev pub next_answer : ℕ → (change : Option ℕ) → Answer
+next_answer zero None = Kept
+next_answer zero (Some delay) = Changed delay
 next_answer (suc k) change = Refused (suc k)
 
 -- an answer's number and value: a refusal changes nothing
@@ -77,10 +73,10 @@ number_of Kept = 0
 number_of (Changed delay) = 0
 number_of (Refused number) = number
 
-abbrev pub value_of : Answer → Change
-value_of Kept = Keep
-value_of (Changed delay) = To delay
-value_of (Refused number) = Keep
+abbrev pub value_of : Answer → Option ℕ
+value_of Kept = None
+value_of (Changed delay) = Some delay
+value_of (Refused number) = None
 
 -- what `next` leaves: its answer, and the hold and both lists, as they came where it is refused
 pub record Reply : Type 0 where
@@ -94,12 +90,12 @@ left_hold r h times lags = record { answer = r; held = held h times lags }
 abbrev pub reply_of : (number : ℕ) (s : Held) (d : Decided) → Reply
 reply_of number s d = record { answer = next_answer number d.change; held = accepted number s d.held }
 
-unfoldable pub next_reply : (policy : DelayPolicy) (width : ℕ) (s : Held) (p999 largest : Lag) (current time : ℕ) → Reply
+unfoldable pub next_reply : (policy : DelayPolicy) (width : ℕ) (s : Held) (p999 largest : Option ℕ) (current time : ℕ) → Reply
 next_reply policy width s p999 largest current time =
     reply_of (next_number policy width s p999 current time) s (next_of one_millisecond always_lower policy s p999 largest current time)
 
 -- ---- what `inner::next` asks: what the checks say, but for the time
-pub record AskedFor (width : ℕ) (policy : DelayPolicy) (s : Held) (p999 : Lag) (current : ℕ) : Type 0 where
+pub record AskedFor (width : ℕ) (policy : DelayPolicy) (s : Held) (p999 : Option ℕ) (current : ℕ) : Type 0 where
   pub sound : Sound policy
   pub window_least : nanos ≤ policy.window
   pub window_most : policy.window ≤ span_limit
@@ -111,6 +107,6 @@ pub record AskedFor (width : ℕ) (policy : DelayPolicy) (s : Held) (p999 : Lag)
   pub p999_in : lag_up_to p999 (peak_most policy width) ≡ true
 
 -- for some width
-pub record Asked (policy : DelayPolicy) (s : Held) (p999 : Lag) (current : ℕ) : Type 0 where
+pub record Asked (policy : DelayPolicy) (s : Held) (p999 : Option ℕ) (current : ℕ) : Type 0 where
   pub width : ℕ
   pub asked : AskedFor width policy s p999 current

@@ -17,25 +17,11 @@ mod steps_1_to_3;
 mod steps_5_to_8;
 mod whole;
 
-// A moment that may not have been yet.
-#[derive(Clone, Copy)]
-pub enum Moment {
-    Never,
-    At(u64),
-}
-
 // The delay of the last run: since when, and how many samples.
 #[derive(Clone, Copy)]
-pub enum Seed {
-    Nothing,
-    From(u64, u32),
-}
-
-// A lag in samples, where there is one.
-#[derive(Clone, Copy)]
-pub enum Lag {
-    None,
-    Of(u32),
+pub struct Seed {
+    pub since: u64,
+    pub delay: u32,
 }
 
 // Since when the need has been lower, and the highest need since then; zero where it is off.
@@ -50,30 +36,23 @@ pub struct LowerTimer {
 pub struct DelayHold {
     // How many peaks there are. Each is the highest lag of its second, within the limit; their times and lags are lent.
     pub peaks: usize,
-    pub last_change: Moment,
+    pub last_change: Option<u64>,
     pub lower: LowerTimer,
     // The first decision: the startup phase runs 60 s from it.
-    pub started: Moment,
+    pub started: Option<u64>,
     // Late events (a call with a late block after one without, after the first change) seen in the startup phase
     // (2: it ended), and whether the last call had a late block.
     pub startup_late: u8,
     pub late_before: bool,
     // The delay of the last run: a floor for one hold time.
-    pub seeded: Seed,
-}
-
-// The delay stays, or goes to so many samples.
-#[derive(Clone, Copy)]
-pub enum Change {
-    Keep,
-    To(u32),
+    pub seeded: Option<Seed>,
 }
 
 // What a decision leaves of the hold, and the change.
 #[derive(Clone, Copy)]
 pub struct Next {
     pub hold: DelayHold,
-    pub change: Change,
+    pub change: Option<u32>,
 }
 
 // The answer of `next`: the delay is kept, or changed to so many samples, or the number of the check that refuses.
@@ -98,16 +77,11 @@ pub struct NewHold {
     pub hold: DelayHold,
 }
 
-impl Lag {
-    // There is none, or it is at most the limit.
-    fn up_to(self, limit: u32) -> bool
-        ensures { result ≡ lag_up_to self limit }
-    {
-        let Lag::Of(lag) = self else {
-            return true;
-        };
-        lag <= limit
-    }
+// There is no lag, or it is at most the limit.
+fn lag_up_to(lag: Option<u32>, limit: u32) -> bool
+    ensures { result ≡ lag_up_to lag limit }
+{
+    lag.is_none_or(|samples| samples <= limit)
 }
 
 // Both lists have their 600 places (check 5).
@@ -162,7 +136,7 @@ impl DelayHold {
         self,
         times: &[u64],
         lags: &[u32],
-        p999: Lag,
+        p999: Option<u32>,
         current: u32,
         policy: DelayPolicy,
         width: u32,
@@ -183,7 +157,7 @@ impl DelayHold {
         if policy.delay_max < current {
             return 15;
         }
-        if !p999.up_to(policy.read_offset + policy.delay_max + width) {
+        if !lag_up_to(p999, policy.read_offset + policy.delay_max + width) {
             return 15;
         }
         0
@@ -194,7 +168,7 @@ impl DelayHold {
         self,
         times: &[u64],
         lags: &[u32],
-        p999: Lag,
+        p999: Option<u32>,
         current: u32,
         policy: DelayPolicy,
         width: u32,
@@ -216,8 +190,8 @@ impl DelayHold {
         self,
         times: &mut [u64],
         lags: &mut [u32],
-        p999: Lag,
-        max_lag: Lag,
+        p999: Option<u32>,
+        max_lag: Option<u32>,
         current: u32,
         policy: DelayPolicy,
         width: u32,
@@ -246,7 +220,7 @@ impl DelayHold {
         );
         let hold = next.hold;
         let change = next.change;
-        let Change::To(delay) = change else {
+        let Some(delay) = change else {
             return Answered {
                 hold,
                 answer: Answer::Kept,
@@ -263,8 +237,8 @@ impl DelayHold {
         &mut self,
         times: &mut [u64],
         lags: &mut [u32],
-        p999: Lag,
-        max_lag: Lag,
+        p999: Option<u32>,
+        max_lag: Option<u32>,
         current: u32,
         policy: DelayPolicy,
         width: u32,

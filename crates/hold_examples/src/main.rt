@@ -2,7 +2,7 @@
 // Rust reads and writes them. crates/hold_examples/stdout holds what the Rust answers, and after it the refusals, which it has not.
 #![tactic(auto)]
 
-use delay_hold::{Answer, DelayHold, Lag, Moment, Seed};
+use delay_hold::{Answer, DelayHold, Seed};
 use policy::DelayPolicy;
 use std::io;
 
@@ -24,24 +24,24 @@ fn pair_after(rt: &impl Print, words: &str, time: u64, samples: u32) -> io::Resu
     number_after(rt, ":", samples as u64)
 }
 
-fn lag_after(rt: &impl Print, lag: Lag) -> io::Result<()> {
+fn lag_after(rt: &impl Print, lag: Option<u32>) -> io::Result<()> {
     match lag {
-        Lag::None => text(rt, " -"),
-        Lag::Of(samples) => number_after(rt, " ", samples as u64),
+        None => text(rt, " -"),
+        Some(samples) => number_after(rt, " ", samples as u64),
     }
 }
 
-fn moment_after(rt: &impl Print, moment: Moment) -> io::Result<()> {
+fn moment_after(rt: &impl Print, moment: Option<u64>) -> io::Result<()> {
     match moment {
-        Moment::Never => text(rt, " -"),
-        Moment::At(time) => number_after(rt, " ", time),
+        None => text(rt, " -"),
+        Some(time) => number_after(rt, " ", time),
     }
 }
 
-fn seed_after(rt: &impl Print, seed: Seed) -> io::Result<()> {
+fn seed_after(rt: &impl Print, seed: Option<Seed>) -> io::Result<()> {
     match seed {
-        Seed::Nothing => text(rt, " -"),
-        Seed::From(time, delay) => pair_after(rt, " ", time, delay),
+        None => text(rt, " -"),
+        Some(last) => pair_after(rt, " ", last.since, last.delay),
     }
 }
 
@@ -81,8 +81,8 @@ fn next(
     hold: DelayHold,
     times: &mut [u64],
     lags: &mut [u32],
-    p999: Lag,
-    max_lag: Lag,
+    p999: Option<u32>,
+    max_lag: Option<u32>,
     current: u32,
     policy: DelayPolicy,
     width: u32,
@@ -146,7 +146,7 @@ fn policy() -> DelayPolicy {
 }
 
 // The first call of a fresh hold.
-fn first(rt: &impl Print, p999: Lag, max_lag: Lag, current: u32) -> io::Result<()> {
+fn first(rt: &impl Print, p999: Option<u32>, max_lag: Option<u32>, current: u32) -> io::Result<()> {
     let mut times = [0u64; 600];
     let mut lags = [0u32; 600];
     let hold = fresh(rt, &mut times, &mut lags)?;
@@ -170,27 +170,16 @@ fn lowers(rt: &impl Print) -> io::Result<()> {
     let mut times = [0u64; 600];
     let mut lags = [0u32; 600];
     let p = policy();
-    let q = Lag::Of(480);
+    let q = Some(480);
     let h0 = fresh(rt, &mut times, &mut lags)?;
-    let h1 = next(
-        rt,
-        h0,
-        &mut times,
-        &mut lags,
-        q,
-        Lag::None,
-        200,
-        p,
-        48,
-        1000,
-    )?;
+    let h1 = next(rt, h0, &mut times, &mut lags, q, None, 200, p, 48, 1000)?;
     let h2 = next(
         rt,
         h1,
         &mut times,
         &mut lags,
         q,
-        Lag::None,
+        None,
         200,
         p,
         48,
@@ -202,7 +191,7 @@ fn lowers(rt: &impl Print) -> io::Result<()> {
         &mut times,
         &mut lags,
         q,
-        Lag::None,
+        None,
         200,
         p,
         48,
@@ -216,7 +205,7 @@ fn session(rt: &impl Print) -> io::Result<()> {
     let mut times = [0u64; 600];
     let mut lags = [0u32; 600];
     let p = policy();
-    let none = Lag::None;
+    let none = None;
     let h0 = fresh(rt, &mut times, &mut lags)?;
     let h1 = next(
         rt,
@@ -224,7 +213,7 @@ fn session(rt: &impl Print) -> io::Result<()> {
         &mut times,
         &mut lags,
         none,
-        Lag::Of(700),
+        Some(700),
         0,
         p,
         48,
@@ -235,8 +224,8 @@ fn session(rt: &impl Print) -> io::Result<()> {
         h1,
         &mut times,
         &mut lags,
-        Lag::Of(720),
-        Lag::Of(600),
+        Some(720),
+        Some(600),
         426,
         p,
         48,
@@ -247,8 +236,8 @@ fn session(rt: &impl Print) -> io::Result<()> {
         h2,
         &mut times,
         &mut lags,
-        Lag::Of(720),
-        Lag::Of(1000),
+        Some(720),
+        Some(1000),
         456,
         p,
         48,
@@ -259,8 +248,8 @@ fn session(rt: &impl Print) -> io::Result<()> {
         h3,
         &mut times,
         &mut lags,
-        Lag::Of(720),
-        Lag::Of(500),
+        Some(720),
+        Some(500),
         876,
         p,
         48,
@@ -271,8 +260,8 @@ fn session(rt: &impl Print) -> io::Result<()> {
         h4,
         &mut times,
         &mut lags,
-        Lag::Of(720),
-        Lag::Of(2000),
+        Some(720),
+        Some(2000),
         876,
         p,
         48,
@@ -283,8 +272,8 @@ fn session(rt: &impl Print) -> io::Result<()> {
         h5,
         &mut times,
         &mut lags,
-        Lag::Of(720),
-        Lag::Of(600),
+        Some(720),
+        Some(600),
         2376,
         p,
         48,
@@ -295,8 +284,8 @@ fn session(rt: &impl Print) -> io::Result<()> {
         h6,
         &mut times,
         &mut lags,
-        Lag::Of(720),
-        Lag::Of(900),
+        Some(720),
+        Some(900),
         2376,
         p,
         48,
@@ -307,8 +296,8 @@ fn session(rt: &impl Print) -> io::Result<()> {
         h7,
         &mut times,
         &mut lags,
-        Lag::Of(720),
-        Lag::Of(600),
+        Some(720),
+        Some(600),
         2376,
         p,
         48,
@@ -319,8 +308,8 @@ fn session(rt: &impl Print) -> io::Result<()> {
         h8,
         &mut times,
         &mut lags,
-        Lag::Of(720),
-        Lag::Of(5300),
+        Some(720),
+        Some(5300),
         2376,
         p,
         48,
@@ -334,7 +323,7 @@ fn refusals(rt: &impl Print) -> io::Result<()> {
     let mut times = [0u64; 600];
     let mut lags = [0u32; 600];
     let p = policy();
-    let q = Lag::Of(480);
+    let q = Some(480);
     let hold = fresh(rt, &mut times, &mut lags)?;
     let far = DelayPolicy {
         delay_max: 96001,
@@ -374,7 +363,7 @@ fn refusals(rt: &impl Print) -> io::Result<()> {
         hold,
         &mut times,
         &mut lags,
-        Lag::Of(5329),
+        Some(5329),
         q,
         0,
         p,
@@ -386,7 +375,7 @@ fn refusals(rt: &impl Print) -> io::Result<()> {
         hold,
         &mut times,
         &mut lags,
-        Lag::Of(5328),
+        Some(5328),
         q,
         4800,
         p,
@@ -397,13 +386,13 @@ fn refusals(rt: &impl Print) -> io::Result<()> {
 }
 
 fn main(rt: HostRuntime) -> io::Result<()> {
-    first(&rt, Lag::None, Lag::Of(485), 0)?;
-    first(&rt, Lag::None, Lag::Of(480), 0)?;
-    first(&rt, Lag::None, Lag::Of(5281), 0)?;
-    first(&rt, Lag::Of(480), Lag::None, 47)?;
-    first(&rt, Lag::Of(480), Lag::None, 48)?;
-    first(&rt, Lag::Of(480), Lag::None, 143)?;
-    first(&rt, Lag::Of(480), Lag::None, 144)?;
+    first(&rt, None, Some(485), 0)?;
+    first(&rt, None, Some(480), 0)?;
+    first(&rt, None, Some(5281), 0)?;
+    first(&rt, Some(480), None, 47)?;
+    first(&rt, Some(480), None, 48)?;
+    first(&rt, Some(480), None, 143)?;
+    first(&rt, Some(480), None, 144)?;
     lowers(&rt)?;
     session(&rt)?;
     refusals(&rt)

@@ -11,9 +11,7 @@ ghost use Rattle.rules_calls.specs.NewReply.{new_reply};
 
 use policy::DelayPolicy;
 use rules_calls::Settings;
-use rules_record::{
-    ExtraDelay, Flow, FlowEntry, Inputs, InputsAnswer, Instance, Output, Remembered,
-};
+use rules_record::{ExtraDelay, Flow, FlowEntry, Inputs, InputsAnswer, Instance, Output};
 
 mod loading;
 mod start;
@@ -39,7 +37,7 @@ fn blank(count: usize, policy: DelayPolicy, width: u32, stall: u64, confirm: boo
     let slot = inputs_slots::empty_slot();
     let slots = [slot; 16];
     let flow = Flow { high: 0, low: 0 };
-    let remembered = Remembered::Never;
+    let remembered = None;
     let entry = FlowEntry { flow, remembered };
     let flows = [entry; 64];
     let key = Instance { flow: 0, inode: 0 };

@@ -7,7 +7,7 @@ ghost use Rattle.rules_record.specs.Reply.{left_inputs};
 ghost use Rattle.rules_calls.specs.RouteChecks.{wanted_fits, route_number};
 ghost use Rattle.rules_calls.specs.RouteReply.{route_reply};
 
-use rules_calls::Wanted;
+use rules_calls::Source;
 use rules_record::{Inputs, InputsAnswer};
 use rules_routing::World;
 
@@ -15,10 +15,10 @@ mod steps;
 
 // ---- the checks
 // Is the flow known, or is there room for it (check 9), where one is given?
-fn wanted_fits(inputs: Inputs, wanted: Wanted) -> bool
+fn wanted_fits(inputs: Inputs, wanted: Option<Source>) -> bool
     ensures { result ≡ wanted_fits inputs wanted }
 {
-    let Wanted::From(source) = wanted else {
+    let Some(source) = wanted else {
         return true;
     };
     let flow = source.flow;
@@ -28,7 +28,7 @@ fn wanted_fits(inputs: Inputs, wanted: Wanted) -> bool
 fn route_number(
     inputs: Inputs,
     input: usize,
-    wanted: Wanted,
+    wanted: Option<Source>,
     time: u64,
     world: World,
     starts: &[u64],
@@ -62,7 +62,7 @@ fn route_number(
 pub fn route(
     inputs: Inputs,
     input: usize,
-    wanted: Wanted,
+    wanted: Option<Source>,
     time: u64,
     world: World,
     starts: &mut [u64],

@@ -11,7 +11,7 @@ ghost use Rattle.rules_calls.specs.Status.{no_status, status_reply};
 ghost use Rattle.rules_calls.specs.HasChannels.{has_channels_reply};
 ghost use Rattle.rules_calls.specs.Settled.{settled_slot, settled_reply};
 
-use rules_calls::{Answer, Arrival, InputStatus, Milliseconds, Sourced};
+use rules_calls::{Answer, InputStatus};
 use rules_record::{AutoTag, ExtraDelay, Inputs, Output, Slot};
 
 mod shown;
@@ -136,15 +136,15 @@ fn no_status(number: u32) -> InputStatus
     InputStatus {
         number,
         state: 0,
-        source: Sourced::Nowhere,
+        source: None,
         channels: 0,
         extra_delay: ExtraDelay::Auto(AutoTag::Auto),
         extra_delay_ms: 0.0,
         effective_delay_ms: 0.0,
-        proposed_delay_ms: Milliseconds::None,
+        proposed_delay_ms: None,
         lag_ms: 0.0,
-        arrival_lag_ms: Arrival::None,
-        worst_lag_ms: Milliseconds::None,
+        arrival_lag_ms: None,
+        worst_lag_ms: None,
         delay_changes: 0,
         late_events: 0,
         reopens: 0,
@@ -222,11 +222,11 @@ fn settled_slot(slot: Slot, hold: u64, time: u64) -> bool
         return false;
     }
     let last_set = slot.last_set;
-    if !last_set.held(hold, time) {
+    if !delay_hold::inner::held_since(last_set, hold, time) {
         return false;
     }
     let last_input = slot.last_input;
-    last_input.held(hold, time)
+    delay_hold::inner::held_since(last_input, hold, time)
 }
 
 // Is the input running, with neither a SetDelay nor a SetInput sent to it within the last hold?

@@ -8,7 +8,7 @@ ghost use Rattle.rules_tick.specs.TickChecks.{tick_number};
 ghost use Rattle.rules_tick.specs.TickAnswer.{told};
 ghost use Rattle.rules_tick.specs.TickLeaves.{tick_leaves};
 
-use rules_record::{Extra, Inputs, Output};
+use rules_record::{Inputs, Output};
 pub use rules_tick::{Look, TickAnswer};
 
 mod each;
@@ -100,7 +100,7 @@ pub fn tick(
         inputs, looks, lags, time, starts, totals, counts, sums, times, peaks, commands,
     );
     let all = sent.inputs;
-    let kept = inputs_instances::prune_instances(all, Extra::Nothing);
+    let kept = inputs_instances::prune_instances(all, None);
     let done = each::saved(kept);
     TickAnswer {
         number: 0,

@@ -9,7 +9,7 @@ ghost use Rattle.rules_record.specs.Reply.{left_inputs};
 ghost use Rattle.rules_calls.specs.UpdateReply.{update_reply, confirm_reply};
 
 use rules_calls::DelaySetting;
-use rules_record::{ExtraDelay, Inputs, InputsAnswer, Proposal};
+use rules_record::{ExtraDelay, Inputs, InputsAnswer};
 
 mod steps;
 
@@ -39,7 +39,7 @@ fn kind_fits(kind: ExtraDelay, maximum: u32) -> bool
 fn desk_limit(maximum: u32) -> u32
     ensures { result ≡ desk_limit maximum }
 {
-    base::least(DESK_REACH, maximum)
+    DESK_REACH.min(maximum)
 }
 
 // Is a delay of the desk at most its limit (check 21)?
@@ -186,7 +186,7 @@ pub fn confirm_delay(
     }
     let slot = inputs_slots::slot_at(inputs, input);
     let proposed = slot.proposed;
-    let Proposal::Pending(delay) = proposed else {
+    let Some(delay) = proposed else {
         return InputsAnswer { number: 13, inputs };
     };
     let all = steps::delay_set(inputs, input, steps::taken(slot), delay, time, commands);

@@ -11,8 +11,8 @@ ghost use Rattle.rules_window.specs.ColumnSums.{right_sums, as_one_second};
 ghost use Rattle.lag_rows.specs.Tallies.{row_places, rows_to, Covered, Columns, alike, totals_are};
 ghost use Rattle.lag_rows.specs.Blocks.{Blocks};
 
-use base::{blank_u32, blank_u64, least_usize};
-use rules_window::{Found, Quantile};
+use base::{blank_u32, blank_u64};
+use rules_window::Quantile;
 
 // The seconds that a window has room for, and the most lags that one of them counts.
 pub const SECONDS: usize = 11;
@@ -228,7 +228,7 @@ fn sums_right(
     let mut wrong: u64 = 0;
     let mut b = 0;
     while b < buckets {
-        let k = least_usize(BLOCK, buckets - b);
+        let k = BLOCK.min(buckets - b);
         bits = add_columns(&mut rows, &mut columns, bits, places, buckets, b, k, counts);
         wrong = differing(&columns, b, k, wrong, sums);
         b += k;
@@ -360,7 +360,7 @@ fn reached_from(
     from: usize,
     before: u64,
     sums: &[u64],
-) -> Found
+) -> Option<usize>
     requires le_width { (1 ≤ width) × (length sums.now ≡ buckets) }
     requires buckets_bound { running limit width buckets 1 sums.now buckets ≤ 47244640245 }
     requires from_bound { (from ≤ min buckets (limit / width + 1)) × (1 ≤ from → before < target) }
@@ -373,11 +373,11 @@ fn reached_from(
     while b < m {
         seen += sums[b];
         if target <= seen {
-            return Found::At(b);
+            return Some(b);
         }
         b += 1;
     }
-    Found::Nowhere
+    None
 }
 
 // The first bucket where the running count reaches target: only the block of 64 buckets that reaches it is walked bucket by bucket.
@@ -388,7 +388,7 @@ fn reached(
     target: u64,
     sums: &[u64],
     blocks: &[u64],
-) -> Found
+) -> Option<usize>
     requires le_width { (1 ≤ width) × (buckets ≤ buckets_limit) × (length sums.now ≡ buckets) × (length blocks.now ≡ 64) }
     requires buckets_bound { running limit width buckets 1 sums.now buckets ≤ 47244640245 }
     requires blocks { Blocks (min buckets (limit / width + 1)) sums.now blocks.now }
@@ -423,7 +423,7 @@ pub fn quantile_upto(buckets: usize, width: u32, q: f64, limit: u32, sums: &[u64
         return Quantile::None;
     }
     let target = doubles::inner::quantile_place(total, q);
-    let Found::At(b) = reached(buckets, width, limit, target, sums, &blocks) else {
+    let Some(b) = reached(buckets, width, limit, target, sums, &blocks) else {
         return Quantile::None;
     };
     Quantile::End(edge(b + 1, width))

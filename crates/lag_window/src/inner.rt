@@ -11,7 +11,7 @@ ghost use Rattle.lag_window.specs.Lent.{lent};
 
 use super::LagWindow;
 use base::inner::{spaced, span, up_to_u64};
-use base::{NANOS, TIME_LIMIT, age, blank_u64, shift_u32, shift_u64, zero_u32, zero_u64};
+use base::{NANOS, TIME_LIMIT, blank_u64, shift_u32, shift_u64, zero_u32, zero_u64};
 use lag_rows::inner::{right, row_places, take_rows};
 
 // ---- a push
@@ -22,7 +22,7 @@ fn stale(n: usize, time: u64, starts: &[u64]) -> usize
 {
     let mut k = 0;
     while k < n {
-        if age(time, starts[k]) <= LagWindow::LAG_WINDOW {
+        if time.saturating_sub(starts[k]) <= LagWindow::LAG_WINDOW {
             return k;
         }
         k += 1;
@@ -69,7 +69,7 @@ fn opens(n: usize, time: u64, starts: &[u64]) -> bool
     if n == 0 {
         return true;
     }
-    age(time, starts[n - 1]) >= LagWindow::SECOND
+    time.saturating_sub(starts[n - 1]) >= LagWindow::SECOND
 }
 
 // A second opens where it is time.

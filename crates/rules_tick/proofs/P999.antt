@@ -1,4 +1,5 @@
 -- The 0.999 quantile of an input, case by case, and that it is never more than a bucket above offset + maximum. Assumes nothing.
+use Rattle.std.specs.Prelude.{None, Option}
 use Prim.Native.Nat.{ℕ, ◌<◌, ◌≤◌}
 use mathlib.Core.Bool.{true}
 use mathlib.Core.Path.{◌≡◌, refl, sym, ap, ◌∙◌}
@@ -17,8 +18,6 @@ use Rattle.rules_window.specs.Quantile.{quantile_upto, thousandths}
 use Rattle.rules_window.specs.ColumnSums.{column_sums, as_one_second}
 use Rattle.rules_window.proofs.Laws.{quantile_bucket}
 use Rattle.rules_window.proofs.OneSecond.{same_quantile}
-use Rattle.delay_hold.specs.declared.Lag.{Lag}
-use Rattle.delay_hold.specs.declared.Lag.TheVariants.{None}
 use Rattle.delay_hold.specs.Whole.{peak_most}
 use Rattle.delay_hold.specs.Checks.{lag_up_to}
 use Rattle.rules_tick.specs.AutoDelay.{reach_of, quantile_lag, p999_of}
@@ -53,4 +52,4 @@ module _ (policy : DelayPolicy) (w : Window) where
 
   pub p999_most : lag_up_to (p999_of policy w) (peak_most policy w.width) ≡ true
   unfolding p999_of
-  p999_most = pick_rule (λ (x : Lag). lag_up_to x (peak_most policy w.width) ≡ true) (leb nanos (span_of w.seconds w.starts)) _ _ (λ e. quantile_most _ refl) (λ e. refl)
+  p999_most = pick_rule (λ (x : Option ℕ). lag_up_to x (peak_most policy w.width) ≡ true) (leb nanos (span_of w.seconds w.starts)) _ _ (λ e. quantile_most _ refl) (λ e. refl)

@@ -1,4 +1,5 @@
 -- A whole tick, as the code goes: all inputs, then the instances and the unsaved mark. Assumes nothing.
+use Rattle.std.specs.Prelude.{None}
 use Prim.Native.Nat.{ℕ, ◌*◌, ◌≤◌}
 use mathlib.Core.Path.{◌≡◌, ap, ◌∙◌}
 use mathlib.Core.List.{List}
@@ -9,7 +10,6 @@ use Rattle.base.specs.Lists.{padded}
 use Rattle.base.proofs.Words.{laid}
 use Rattle.rules_record.specs.declared.Inputs.{Inputs}
 use Rattle.rules_record.specs.declared.Sent.{Sent}
-use Rattle.rules_record.specs.declared.Extra.TheVariants.{Nothing}
 use Rattle.rules_record.specs.Prune.{pruned}
 use Rattle.rules_record.specs.Lent.{Lists}
 use Rattle.rules_record.specs.Effects.{Effect, Effected}
@@ -20,7 +20,7 @@ use Rattle.rules_tick.specs.TickAnswer.{told, carried}
 module _ (looks : List Look) (lags : List ℕ) (time : ℕ) (s : Inputs) (l : Lists) (commands : List ℕ) (room : s.count * 9 ≤ length commands) {sent : Sent} {kept done : Inputs} {m : Lists} {zeros after : List ℕ}
     (is-zeros : zeros ≡ replicate (length commands) 0)
     (is-sent : Effected (s.count * 9) (ticked_below s.count looks lags time s l) sent m zeros after 0)
-    (is-kept : kept ≡ pruned sent.inputs Nothing)
+    (is-kept : kept ≡ pruned sent.inputs None)
     (is-done : done ≡ saved kept) where
   abbrev below : Effect
   below = ticked_below s.count looks lags time s l

@@ -2,14 +2,14 @@
 // No code: the code that is proved equal to them stands in inputs_auto_delay, inputs_tick_input and inputs_tick.
 #![tactic(auto)]
 
-use rules_record::{Inode, Inputs};
+use rules_record::Inputs;
 use rules_routing::World;
 
 // What a tick brings for one input.
 #[derive(Clone, Copy)]
 pub struct Look {
     // The inode that `watch` sees.
-    pub seen: Inode,
+    pub seen: Option<u64>,
     // What `try_open` sees.
     pub world: World,
     // The delay that the mixer applies.

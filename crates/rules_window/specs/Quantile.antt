@@ -1,14 +1,12 @@
 -- Document 01, "LagWindow": the quantile of the counted lags up to a limit. Assumes nothing.
-use Rattle.std.specs.Prelude.{ℕ, zero, suc, ◌+◌, ◌*◌, List, false, leb, eqb, get_or, Float}
+use Rattle.std.specs.Prelude.{ℕ, zero, suc, ◌+◌, ◌*◌, List, false, leb, eqb, get_or, Float, None, Option, Some}
 use Rattle.std.specs.Float.{binary64}
 use Rattle.std.specs.Float.Ieee.{round}
 use Rattle.base.specs.Choice.{pick}
 use Rattle.base.specs.Lists.{sum}
 use Rattle.doubles.specs.Quantile as places
 use Rattle.rules_window.specs.declared.Quantile.{Quantile}
-use Rattle.rules_window.specs.declared.Quantile.TheVariants.{End, None}
-use Rattle.rules_window.specs.declared.Found.{Found}
-use Rattle.rules_window.specs.declared.Found.TheVariants.{At, Nowhere}
+use Rattle.rules_window.specs.declared.Quantile.TheVariants.{End, None as no_quantile}
 use Rattle.rules_window.specs.Window.{Window}
 
 -- the lags of bucket b in the n seconds
@@ -24,21 +22,21 @@ unfoldable pub running : (limit width buckets n : ℕ) (counts : List ℕ) (m : 
 running limit width buckets n counts m = sum (within limit width buckets n counts) m
 
 -- "the first bucket where the running count reaches it", of m buckets from b on
-unfoldable pub reach : (target limit width buckets n : ℕ) (counts : List ℕ) → ℕ → (b : ℕ) → Found
-reach target limit width buckets n counts zero b = Nowhere
+unfoldable pub reach : (target limit width buckets n : ℕ) (counts : List ℕ) → ℕ → (b : ℕ) → Option ℕ
+reach target limit width buckets n counts zero b = None
 reach target limit width buckets n counts (suc m) b =
-    pick (leb target (running limit width buckets n counts (b + 1))) (At b) (reach target limit width buckets n counts m (b + 1))
+    pick (leb target (running limit width buckets n counts (b + 1))) (Some b) (reach target limit width buckets n counts m (b + 1))
 
 -- "the answer is the end (b + 1) times W"
-abbrev pub end_of : (width : ℕ) → Found → Quantile
-end_of width (At b) = End ((b + 1) * width)
-end_of width Nowhere = None
+abbrev pub end_of : (width : ℕ) → Option ℕ → Quantile
+end_of width (Some b) = End ((b + 1) * width)
+end_of width None = no_quantile
 
 -- "Total 0: none. Else target = total times q as a double, raised to the next whole number, at least 1"
 unfoldable pub quantile_in : (q : Float) (limit width buckets n : ℕ) (counts : List ℕ) → Quantile
 quantile_in q limit width buckets n counts =
     let total = running limit width buckets n counts buckets in
-    pick (eqb total 0) None (end_of width (reach (places.target_of total q) limit width buckets n counts buckets 0))
+    pick (eqb total 0) no_quantile (end_of width (reach (places.target_of total q) limit width buckets n counts buckets 0))
 
 -- k thousandths as a double: "0.5, 0.99 and 0.999"
 unfoldable pub thousandths : ℕ → Float

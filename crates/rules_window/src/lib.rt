@@ -15,10 +15,3 @@ pub struct SpanAnswer {
     pub number: u32,
     pub span: u64,
 }
-
-// A bucket that was searched for.
-#[derive(Clone, Copy)]
-pub enum Found {
-    At(usize),
-    Nowhere,
-}

@@ -12,15 +12,15 @@ pub const BACKOFF_MIN: u64 = 5 * NANOS;
 pub const BACKOFF_MAX: u64 = 60 * NANOS;
 
 // The Query API is left alone until then; the wait that set it.
-#[derive(Clone, Copy)]
-pub enum QueryDown {
-    Never,
-    Until { until: u64, wait: u64 },
+#[derive(Clone, Copy, Debug, PartialEq, Eq)]
+pub struct Down {
+    pub until: u64,
+    pub wait: u64,
 }
 
 #[derive(Clone, Copy)]
 pub struct Schedule {
-    pub query_down: QueryDown,
+    pub query_down: Option<Down>,
 }
 
 // Yes or no. In every answer an accepted call has number 0; a refused one has the number of its check, a zero value,
@@ -44,9 +44,7 @@ impl Schedule {
     pub fn new() -> Self
         ensures { result ≡ fresh_schedule }
     {
-        Schedule {
-            query_down: QueryDown::Never,
-        }
+        Schedule { query_down: None }
     }
 
     // Is the record whole (check 6)?
@@ -54,7 +52,7 @@ impl Schedule {
         ensures { result ≡ whole_schedule self }
     {
         let down = self.query_down;
-        let QueryDown::Until { until, wait } = down else {
+        let Some(Down { until, wait }) = down else {
             return true;
         };
         if until > RECORD_LIMIT {
@@ -68,7 +66,7 @@ impl Schedule {
         ensures { result ≡ next_wait self.query_down }
     {
         let down = self.query_down;
-        let QueryDown::Until { until: _, wait } = down else {
+        let Some(Down { until: _, wait }) = down else {
             return BACKOFF_MIN;
         };
         if wait > BACKOFF_MAX / 2 {
@@ -95,11 +93,11 @@ impl Schedule {
         }
         let down = self.query_down;
         match down {
-            QueryDown::Never => Answer {
+            None => Answer {
                 number: 0,
                 value: true,
             },
-            QueryDown::Until { until, wait: _ } => Answer {
+            Some(Down { until, wait: _ }) => Answer {
                 number: 0,
                 value: until <= time,
             },
@@ -129,10 +127,10 @@ impl Schedule {
             number: 0,
             value: wait,
             schedule: Schedule {
-                query_down: QueryDown::Until {
+                query_down: Some(Down {
                     until: time + wait,
                     wait,
-                },
+                }),
             },
         }
     }

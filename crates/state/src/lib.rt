@@ -6,16 +6,9 @@ ghost use Rattle.state.specs.Coalesce.{fresh_coalesce, whole_coalesce, changed_o
 
 use base::{RECORD_LIMIT, SPAN_LIMIT, TIME_LIMIT};
 
-// When a write is due, if one waits.
-#[derive(Clone, Copy)]
-pub enum Due {
-    Unset,
-    At(u64),
-}
-
 #[derive(Clone, Copy)]
 pub struct Coalesce {
-    pub due: Due,
+    pub due: Option<u64>,
 }
 
 // What `changed` leaves. In every answer an accepted call has number 0; a refused one has the number of its check,
@@ -46,7 +39,7 @@ impl Coalesce {
     pub fn new() -> Self
         ensures { result ≡ fresh_coalesce }
     {
-        Coalesce { due: Due::Unset }
+        Coalesce { due: None }
     }
 
     // Is the record whole (check 6)?
@@ -55,8 +48,8 @@ impl Coalesce {
     {
         let due = self.due;
         match due {
-            Due::Unset => true,
-            Due::At(at) => at <= RECORD_LIMIT,
+            None => true,
+            Some(at) => at <= RECORD_LIMIT,
         }
     }
 
@@ -84,13 +77,13 @@ impl Coalesce {
         }
         let due = self.due;
         match due {
-            Due::Unset => Change {
+            None => Change {
                 number: 0,
                 coalesce: Coalesce {
-                    due: Due::At(time + delay),
+                    due: Some(time + delay),
                 },
             },
-            Due::At(_) => Change {
+            Some(_) => Change {
                 number: 0,
                 coalesce: self,
             },
@@ -109,11 +102,11 @@ impl Coalesce {
         }
         let due = self.due;
         match due {
-            Due::Unset => Answer {
+            None => Answer {
                 number: 0,
                 value: false,
             },
-            Due::At(_) => Answer {
+            Some(_) => Answer {
                 number: 0,
                 value: true,
             },
@@ -139,7 +132,7 @@ impl Coalesce {
             };
         }
         let due = self.due;
-        let Due::At(at) = due else {
+        let Some(at) = due else {
             return Taken {
                 number: 0,
                 value: false,
@@ -150,7 +143,7 @@ impl Coalesce {
             return Taken {
                 number: 0,
                 value: true,
-                coalesce: Coalesce { due: Due::Unset },
+                coalesce: Coalesce { due: None },
             };
         }
         Taken {
@@ -173,15 +166,15 @@ impl Coalesce {
         }
         let due = self.due;
         match due {
-            Due::Unset => Taken {
+            None => Taken {
                 number: 0,
                 value: false,
                 coalesce: self,
             },
-            Due::At(_) => Taken {
+            Some(_) => Taken {
                 number: 0,
                 value: true,
-                coalesce: Coalesce { due: Due::Unset },
+                coalesce: Coalesce { due: None },
             },
         }
     }

@@ -2,8 +2,7 @@
 // A line becomes a request (text_read), a request an answer (text_alone, text_called, text_crafted), an answer a line (text_shown).
 #![tactic(auto)]
 
-use base::product_usize;
-use rules_record::{ExtraDelay, Inputs};
+use rules_record::{ExtraDelay, Inputs, Route};
 use rules_tick::Look;
 use std::io::{Read, Write};
 use text_alone::Alone;
@@ -304,7 +303,7 @@ fn called<W: Write>(
                 short,
                 kinds_for(call, s),
                 looks_for(call, s, inputs.count),
-                part(out, 0, product_usize(n, FLOW_BYTES)),
+                part(out, 0, n.saturating_mul(FLOW_BYTES)),
                 first_u32(heard, n),
                 starts,
                 totals,

@@ -1,6 +1,6 @@
 // A hold alone, over two lists.
 use crate::numbers::share;
-use delay_hold::{DelayHold, Lag};
+use delay_hold::DelayHold;
 use policy::DelayPolicy;
 use text_answers::{Answer, unless};
 use text_requests::{Lone, NextAsked};
@@ -30,9 +30,9 @@ fn new(times: &mut [u64], peaks: &mut [u32], kept: DelayHold) -> HoldAnswered {
 // What `next` answers, as the delay that it changes to.
 fn told(answer: delay_hold::Answer) -> Answer {
     match answer {
-        delay_hold::Answer::Changed(delay) => Answer::Next(Lag::Of(delay)),
-        delay_hold::Answer::Refused(number) => unless(number, Answer::Next(Lag::None)),
-        _ => Answer::Next(Lag::None),
+        delay_hold::Answer::Changed(delay) => Answer::Next(Some(delay)),
+        delay_hold::Answer::Refused(number) => unless(number, Answer::Next(None)),
+        _ => Answer::Next(None),
     }
 }
 

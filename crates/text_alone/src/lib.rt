@@ -2,7 +2,6 @@
 // last places. A refused call leaves what is kept.
 #![tactic(auto)]
 
-use base::{least_usize, product_usize};
 use delay_hold::DelayHold;
 use lag_window::LagWindow;
 use sources::Schedule;
@@ -109,7 +108,7 @@ fn on_window(
 ) -> Answered {
     let kept = alone.window;
     let buckets = buckets_for(request, kept);
-    let n = cut(product_usize(LagWindow::SECONDS, buckets), short);
+    let n = cut(LagWindow::SECONDS.saturating_mul(buckets), short);
     let c = places(LONE_COUNTS, n, counts.len());
     let d = places(LONE_SUMS, cut(buckets, short), sums.len());
     let c0 = c.from;
@@ -194,8 +193,8 @@ fn listless(request: Lone, alone: Alone) -> Answered {
 // A delay file that is read, on lists of the lengths that the reader asks for.
 pub fn read_delays(file: &[u8], short: bool, flows: &mut [u8], delays: &mut [u32]) -> Answer {
     let z = file_sizes(short);
-    let a = least_usize(z.flows, flows.len());
-    let b = least_usize(z.delays, delays.len());
+    let a = z.flows.min(flows.len());
+    let b = z.delays.min(delays.len());
     let r = delay_files::read_delays(file, &mut flows[..a], &mut delays[..b]);
     unless(r.number, Answer::Delays(r.count))
 }

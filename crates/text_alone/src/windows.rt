@@ -1,5 +1,4 @@
 // A window alone, over four lists.
-use delay_hold::Lag;
 use lag_window::LagWindow;
 use rules_window::Quantile;
 use text_answers::{Answer, unless};
@@ -45,8 +44,8 @@ fn new(
 
 fn quantile(q: Quantile) -> Answer {
     match q {
-        Quantile::End(lag) => Answer::Maybe(Lag::Of(lag)),
-        Quantile::None => Answer::Maybe(Lag::None),
+        Quantile::End(lag) => Answer::Maybe(Some(lag)),
+        Quantile::None => Answer::Maybe(None),
         Quantile::Refused(number) => Answer::Refused(number),
     }
 }

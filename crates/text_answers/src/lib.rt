@@ -5,10 +5,8 @@
 ghost use Rattle.std.specs.Prelude.{◌≡◌};
 ghost use Rattle.text_answers.specs.Answers.{unless_refused};
 
-use delay_hold::Lag;
 use rules_calls::InputStatus;
-use sources::QueryDown;
-use state::Due;
+use sources::Down;
 
 #[derive(Clone, Copy)]
 pub enum Answer {
@@ -19,13 +17,13 @@ pub enum Answer {
     Done,
     Number(u64),
     // A number, or none.
-    Maybe(Lag),
+    Maybe(Option<u32>),
     // A double.
     Double(f64),
     Bit(bool),
-    Due(Due),
-    Taken(bool, Due),
-    Failed(u64, QueryDown),
+    Due(Option<u64>),
+    Taken(bool, Option<u64>),
+    Failed(u64, Option<Down>),
     Status(InputStatus),
     // How many flows a delay file has, and each of them with its delay.
     Delays(usize),
@@ -34,7 +32,7 @@ pub enum Answer {
     // The window alone, whole.
     Window,
     // The delay that `next` changes to, or none, and the hold alone, whole.
-    Next(Lag),
+    Next(Option<u32>),
     // The record of this input.
     Input(usize),
     // The record of all inputs.

@@ -2,9 +2,8 @@
 // call leaves the record that was there.
 #![tactic(auto)]
 
-use base::least_usize;
 use policy::DelayPolicy;
-use rules_record::{ExtraDelay, Flow, FlowEntry, Inputs, InputsAnswer, Instance, Remembered};
+use rules_record::{ExtraDelay, Flow, FlowEntry, Inputs, InputsAnswer, Instance, Route};
 use rules_tick::Look;
 use text_answers::{Answer, unless};
 use text_lending::{file_sizes, sizes_for};
@@ -22,7 +21,7 @@ pub fn begin() -> Inputs {
     let slot = inputs_slots::empty_slot();
     let slots = [slot; 16];
     let flow = Flow { high: 0, low: 0 };
-    let remembered = Remembered::Never;
+    let remembered = None;
     let entry = FlowEntry { flow, remembered };
     let flows = [entry; 64];
     let key = Instance { flow: 0, inode: 0 };
@@ -260,13 +259,13 @@ pub fn change(
     commands: &mut [u32],
 ) -> Called {
     let z = sizes_for(call, kept, short);
-    let a = least_usize(z.seconds, starts.len());
-    let b = least_usize(z.seconds, totals.len());
-    let c = least_usize(z.counts, counts.len());
-    let d = least_usize(z.sums, sums.len());
-    let e = least_usize(z.peaks, times.len());
-    let f = least_usize(z.peaks, peaks.len());
-    let g = least_usize(z.words, commands.len());
+    let a = z.seconds.min(starts.len());
+    let b = z.seconds.min(totals.len());
+    let c = z.counts.min(counts.len());
+    let d = z.sums.min(sums.len());
+    let e = z.peaks.min(times.len());
+    let f = z.peaks.min(peaks.len());
+    let g = z.words.min(commands.len());
     changing(
         call,
         kept,
@@ -299,13 +298,13 @@ pub fn ask(
 ) -> Answer {
     let z = sizes_for(call, kept, short);
     let y = file_sizes(short);
-    let a = least_usize(z.seconds, starts.len());
-    let b = least_usize(z.seconds, totals.len());
-    let c = least_usize(z.counts, counts.len());
-    let d = least_usize(z.sums, sums.len());
-    let e = least_usize(z.peaks, times.len());
-    let f = least_usize(z.peaks, peaks.len());
-    let g = least_usize(y.file, file.len());
+    let a = z.seconds.min(starts.len());
+    let b = z.seconds.min(totals.len());
+    let c = z.counts.min(counts.len());
+    let d = z.sums.min(sums.len());
+    let e = z.peaks.min(times.len());
+    let f = z.peaks.min(peaks.len());
+    let g = y.file.min(file.len());
     asking(
         call,
         kept,

@@ -4,7 +4,7 @@
 
 ghost use Rattle.std.specs.Prelude.{◌≡◌};
 
-use base::{least_usize, place_u32, product_usize, sum_usize};
+use base::place_u32;
 use delay_hold::DelayHold;
 use lag_window::LagWindow;
 use rules_record::{Inputs, Slot};
@@ -30,7 +30,7 @@ fn put_u32(s: &mut [u32], i: usize, value: u32) {
 fn zero_u64(s: &mut [u64], first: usize, n: usize) {
     let mut i: usize = 0;
     while i < n {
-        put_u64(s, sum_usize(first, i), 0);
+        put_u64(s, first.saturating_add(i), 0);
         i += 1;
     }
 }
@@ -38,7 +38,7 @@ fn zero_u64(s: &mut [u64], first: usize, n: usize) {
 fn zero_u32(s: &mut [u32], first: usize, n: usize) {
     let mut i: usize = 0;
     while i < n {
-        put_u32(s, sum_usize(first, i), 0);
+        put_u32(s, first.saturating_add(i), 0);
         i += 1;
     }
 }
@@ -53,7 +53,7 @@ fn store_cells(s: &[u8], at: usize, counts: &mut [u32], first: usize) -> usize {
             return next;
         }
         let c = cell_at(s, next);
-        put_u32(counts, sum_usize(first, c.bucket), c.count);
+        put_u32(counts, first.saturating_add(c.bucket), c.count);
         next = c.next;
         i += 1;
     }
@@ -73,7 +73,7 @@ fn store_rows(
 ) {
     zero_u64(starts, second, LagWindow::SECONDS);
     zero_u64(totals, second, LagWindow::SECONDS);
-    zero_u32(counts, count, product_usize(LagWindow::SECONDS, buckets));
+    zero_u32(counts, count, LagWindow::SECONDS.saturating_mul(buckets));
     let mut next = at;
     let mut first = count;
     let mut i: usize = 0;
@@ -82,10 +82,10 @@ fn store_rows(
             return;
         }
         let r = row_at(s, next);
-        put_u64(starts, sum_usize(second, i), r.start);
-        put_u64(totals, sum_usize(second, i), r.total);
+        put_u64(starts, second.saturating_add(i), r.start);
+        put_u64(totals, second.saturating_add(i), r.total);
         next = store_cells(s, r.next, counts, first);
-        first = sum_usize(first, buckets);
+        first = first.saturating_add(buckets);
         i += 1;
     }
 }
@@ -103,7 +103,7 @@ fn column(counts: &[u32], first: usize, buckets: usize) -> u64 {
     let mut i: usize = 0;
     while i < LagWindow::SECONDS {
         sum += wide(place_u32(counts, at));
-        at = sum_usize(at, buckets);
+        at = at.saturating_add(buckets);
         i += 1;
     }
     sum
@@ -115,8 +115,8 @@ fn sum_rows(buckets: usize, count: usize, first: usize, counts: &[u32], sums: &m
     while b < buckets {
         put_u64(
             sums,
-            sum_usize(first, b),
-            column(counts, sum_usize(count, b), buckets),
+            first.saturating_add(b),
+            column(counts, count.saturating_add(b), buckets),
         );
         b += 1;
     }
@@ -141,7 +141,7 @@ pub fn rows(
 
 // One sum, right or not, of a window whose sums begin at `first`.
 pub fn sum(asked: SumAsked, first: usize, sums: &mut Sums) {
-    put_u64(sums, sum_usize(first, asked.bucket), asked.sum);
+    put_u64(sums, first.saturating_add(asked.bucket), asked.sum);
 }
 
 // ---- a hold
@@ -149,13 +149,13 @@ pub fn sum(asked: SumAsked, first: usize, sums: &mut Sums) {
 pub fn peaks(s: &[u8], at: usize, n: usize, first: usize, times: &mut Times, lags: &mut Peaks) {
     zero_u64(times, first, DelayHold::PLACES);
     zero_u32(lags, first, DelayHold::PLACES);
-    let most = least_usize(n, DelayHold::PLACES);
+    let most = n.min(DelayHold::PLACES);
     let mut next = at;
     let mut i: usize = 0;
     while i < most {
         let p = peak_at(s, next);
-        put_u64(times, sum_usize(first, i), p.time);
-        put_u32(lags, sum_usize(first, i), p.lag);
+        put_u64(times, first.saturating_add(i), p.time);
+        put_u32(lags, first.saturating_add(i), p.lag);
         next = p.next;
         i += 1;
     }
@@ -206,17 +206,17 @@ fn store(
 ) {
     match part {
         Part::Window(w) => {
-            let second = product_usize(i, LagWindow::SECONDS);
-            let count = product_usize(second, buckets);
-            let first = product_usize(i, buckets);
+            let second = i.saturating_mul(LagWindow::SECONDS);
+            let count = second.saturating_mul(buckets);
+            let first = i.saturating_mul(buckets);
             rows(
                 s, w.at, buckets, second, count, first, starts, totals, counts, sums,
             );
         }
-        Part::Sum(asked) => sum(asked, product_usize(i, buckets), sums),
+        Part::Sum(asked) => sum(asked, i.saturating_mul(buckets), sums),
         Part::Hold(h) => {
             let hold = h.hold;
-            let first = product_usize(i, DelayHold::PLACES);
+            let first = i.saturating_mul(DelayHold::PLACES);
             peaks(s, h.at, hold.peaks, first, times, lags);
         }
         _ => {}

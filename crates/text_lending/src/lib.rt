@@ -6,7 +6,6 @@ ghost use Rattle.std.specs.Prelude.{◌≡◌, ◌≤◌, take};
 ghost use Rattle.text_lending.specs.LentTo.{buckets_held, lent_to};
 ghost use Rattle.text_lending.specs.Lengths.{buckets_lent, cut_to, lengths_for, files_lent, places_from};
 
-use base::{least_usize, less_usize, product_usize, sum_usize};
 use rules_record::Inputs;
 use text_requests::Call;
 
@@ -84,7 +83,7 @@ pub fn cut(length: usize, short: bool) -> usize
     ensures { result ≡ cut_to length short }
 {
     if short {
-        return less_usize(length, 1);
+        return length.saturating_sub(1);
     }
     length
 }
@@ -93,13 +92,13 @@ pub fn cut(length: usize, short: bool) -> usize
 pub fn lengths(n: usize, buckets: usize, short: bool) -> Sizes
     ensures { result ≡ lengths_for n buckets short }
 {
-    let seconds = product_usize(n, 11);
+    let seconds = n.saturating_mul(11);
     Sizes {
         seconds: cut(seconds, short),
-        counts: cut(product_usize(seconds, buckets), short),
-        sums: cut(product_usize(n, buckets), short),
-        peaks: cut(product_usize(n, 600), short),
-        words: cut(product_usize(n, 12), short),
+        counts: cut(seconds.saturating_mul(buckets), short),
+        sums: cut(n.saturating_mul(buckets), short),
+        peaks: cut(n.saturating_mul(600), short),
+        words: cut(n.saturating_mul(12), short),
     }
 }
 
@@ -138,7 +137,7 @@ pub fn file_sizes(short: bool) -> FileSizes
 pub fn first_u32(s: &[u32], n: usize) -> &[u32]
     ensures { result.now ≡ take n s.now }
 {
-    let end = least_usize(n, s.len());
+    let end = n.min(s.len());
     &s[..end]
 }
 
@@ -147,7 +146,7 @@ pub fn places(first: usize, count: usize, most: usize) -> Span
     ensures value { result ≡ places_from first count most }
     ensures from_le_to { (result.from ≤ result.to) × (result.to ≤ most) }
 {
-    let to = least_usize(sum_usize(first, count), most);
-    let from = least_usize(first, most);
+    let to = first.saturating_add(count).min(most);
+    let from = first.min(most);
     Span { from, to }
 }

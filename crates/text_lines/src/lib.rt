@@ -4,7 +4,6 @@
 ghost use Rattle.std.specs.Prelude.{◌-◌, ◌≤◌, ◌≡◌, length, take};
 ghost use Rattle.text_lines.specs.Lines.{at_begin, found_at, last_of, unfinished_of, look_of, text_end, line_of, passed_by, moved_cursor, moved_bytes, ReadAfter, room_at};
 
-use base::{less_usize, sum_usize};
 use std::io::{Read, Write};
 use text_print::Out;
 use text_scan::bytes::{part, shift_u8};
@@ -76,7 +75,7 @@ fn last(c: Cursor) -> Cursor
 fn unfinished(c: Cursor) -> Cursor
     ensures { result ≡ unfinished_of c }
 {
-    if LONGEST < less_usize(c.to, c.from) {
+    if LONGEST < c.to.saturating_sub(c.from) {
         return Cursor {
             from: c.to,
             seen: c.to,
@@ -93,7 +92,7 @@ pub fn look(input: &[u8], c: Cursor) -> Cursor
 {
     let newline = first(input, c.seen, c.to, b'\n');
     if let Step::At(end) = newline {
-        return found(c, end, sum_usize(end, 1));
+        return found(c, end, end.saturating_add(1));
     }
     if c.ended {
         return last(c);
@@ -128,7 +127,7 @@ pub fn line(input: &[u8], c: Cursor) -> &[u8]
     if c.dropped {
         return part(input, 0, 0);
     }
-    if LONGEST < less_usize(c.end, c.from) {
+    if LONGEST < c.end.saturating_sub(c.from) {
         return part(input, 0, 0);
     }
     part(input, c.from, text_end(input, c))
@@ -171,8 +170,8 @@ fn moved(input: &mut [u8], c: Cursor) -> Cursor
     shift_u8(input, c.from);
     Cursor {
         from: 0,
-        seen: less_usize(c.seen, c.from),
-        to: less_usize(c.to, c.from),
+        seen: c.seen.saturating_sub(c.from),
+        to: c.to.saturating_sub(c.from),
         ..c
     }
 }
@@ -184,7 +183,7 @@ pub fn more<R: Read>(reader: &mut R, input: &mut [u8], c: Cursor) -> Cursor
     let m = moved(input, c);
     let got = read_after(reader, input, m.to);
     Cursor {
-        to: sum_usize(m.to, got),
+        to: m.to.saturating_add(got),
         ended: got == 0,
         ..m
     }
@@ -199,7 +198,7 @@ pub fn write<W: Write>(writer: &mut W, out: &Out, place: usize) -> bool {
 pub fn room<W: Write>(writer: &mut W, out: &Out, place: usize) -> usize
     ensures { result ≡ room_at 262_144 place }
 {
-    if SPARE <= less_usize(out.len(), place) {
+    if SPARE <= out.len().saturating_sub(place) {
         return place;
     }
     write(writer, out, place);

@@ -1,11 +1,10 @@
 -- The lines of the calls on a supervisor, row by row as compare/README.md's table has them: the name, then the words, each after a space.
 -- Where the name is another, or a word is missing or of another form, the place after the words is lost. Assumes nothing.
-use Rattle.std.specs.Prelude.{ℕ, true, false, List, eqb, take}
+use Rattle.std.specs.Prelude.{ℕ, true, false, List, eqb, take, None, Some}
 use Rattle.std.specs.Float.{binary64}
 use Rattle.std.specs.Float.Ieee.{of_bits}
 use Rattle.base.specs.Choice.{pick}
 use Rattle.rules_calls.specs.declared.DelaySetting.TheVariants.{Desk}
-use Rattle.rules_calls.specs.declared.Wanted.TheVariants.{From, Nothing}
 use Rattle.text_words.specs.Words.{lost, below}
 use Rattle.text_requests.specs.declared.Call.{Call}
 use Rattle.text_requests.specs.declared.Call.TheVariants.{New, Route, Update, Confirm, Tick, Status, Has, Settled, WriteDelays, Dump, Put}
@@ -74,8 +73,8 @@ wanted_at s at =
     let flow = flow_at s at space in
     let domain = u64_at s flow.next slash in
     pick (eqb none lost)
-    (record { wanted = From (record { domain = domain.value; flow = record { high = flow.high; low = flow.low } }); next = domain.next })
-    (record { wanted = Nothing; next = none })
+    (record { wanted = Some (record { domain = domain.value; flow = record { high = flow.high; low = flow.low } }); next = domain.next })
+    (record { wanted = None; next = none })
 
 unfoldable pub route_line : (s : List ℕ) (at : ℕ) → CallLine
 route_line s at =

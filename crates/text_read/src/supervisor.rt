@@ -3,8 +3,8 @@
 ghost use Rattle.std.specs.Prelude.{◌≡◌, length};
 ghost use Rattle.text_read.specs.Supervisor.{or_else, part_or, settings_at, new_line, wanted_at, route_line, setting_at, update_line, confirm_line, settled_line, tick_name, tick_said, tick_line, status_line, has_line, dump_line, dwrite1_line, window_part, hold_part, counters_part, delays_part, sum_part, put_line, change_lines, ask_lines, call_line};
 
-use rules_calls::{DelaySetting, Settings, Source, Wanted};
-use rules_record::Flow;
+use rules_calls::{DelaySetting, Settings, Source};
+use rules_record::{Flow, Route};
 use rules_routing::World;
 use text_print::bits::double;
 use text_read_alone::{hold_at, sum_at};
@@ -103,7 +103,7 @@ fn new(s: &[u8], at: usize) -> CallLine
 // ---- route
 #[derive(Clone, Copy)]
 pub struct WantedWord {
-    pub wanted: Wanted,
+    pub wanted: Option<Source>,
     pub next: usize,
 }
 
@@ -114,7 +114,7 @@ fn wanted_at(s: &[u8], at: usize) -> WantedWord
     let none = text_end(s, at, b" -");
     if none != LOST {
         return WantedWord {
-            wanted: Wanted::Nothing,
+            wanted: None,
             next: none,
         };
     }
@@ -129,7 +129,7 @@ fn wanted_at(s: &[u8], at: usize) -> WantedWord
         flow: id,
     };
     WantedWord {
-        wanted: Wanted::From(source),
+        wanted: Some(source),
         next: domain.next,
     }
 }

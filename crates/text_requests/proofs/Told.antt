@@ -1,10 +1,10 @@
 -- What the calls take a word for, by the tests that tell it. Assumes nothing.
+use Rattle.std.specs.Prelude.{Some}
 use Prim.Native.Nat.{ℕ, ◌≤◌, ◌<◌}
 use mathlib.Core.Bool.{true}
 use mathlib.Core.Path.{◌≡◌}
 use lib.Ieee.{binary64, of_bits}
 use borrow.Author.Tests.{le-leb, lt-leb}
-use Rattle.delay_hold.specs.declared.Seed.TheVariants.{From}
 use Rattle.rules_calls.specs.declared.DelaySetting.TheVariants.{Ms as set-ms}
 use Rattle.rules_record.specs.declared.ExtraDelay.TheVariants.{Ms}
 use Rattle.text_words.specs.declared.KindWord.{KindWord}
@@ -27,6 +27,6 @@ pub setting_manual : (w : KindWord) → w.manual ≡ true → {d : _} → d ≡ 
 unfolding setting_of
 setting_manual w h e = rw (h, e)
 
-pub seed_from : (w : MaybePair) → w.some ≡ true → {n : ℕ} → n ≡ low_of w.second → From w.first n ≡ seed_of w
+pub seed_from : (w : MaybePair) → w.some ≡ true → {n : ℕ} → n ≡ low_of w.second → Some w.first n ≡ seed_of w
 unfolding seed_of
 seed_from w h e = rw (h, e)

@@ -1,5 +1,5 @@
 -- The lists of a line (compare/README.md, "The protocol"): kinds, looks, lags, loaded delays, rows and peaks. Assumes nothing.
-use Rattle.std.specs.Prelude.{ℕ, zero, suc, ◌+◌, ◌-◌, ◌<◌, min, false, ◌≡◌, List, [], ◌∷◌, ◌++◌, eqb, leb, length, get_or, take, replicate}
+use Rattle.std.specs.Prelude.{ℕ, zero, suc, ◌+◌, ◌-◌, ◌<◌, min, false, ◌≡◌, List, [], ◌∷◌, ◌++◌, eqb, leb, length, get_or, take, replicate, None}
 use Rattle.base.specs.Choice.{pick}
 use Rattle.byte_order.specs.Bytes.{bytes_at}
 use Rattle.rules_calls.specs.NewLoading.{loaded_flow}
@@ -7,8 +7,6 @@ use Rattle.rules_record.specs.declared.AutoTag.TheVariants.{Auto as auto-tag}
 use Rattle.rules_record.specs.declared.ExtraDelay.{ExtraDelay}
 use Rattle.rules_record.specs.declared.ExtraDelay.TheVariants.{Auto}
 use Rattle.rules_record.specs.declared.Flow.{Flow}
-use Rattle.rules_record.specs.declared.Inode.TheVariants.{Gone}
-use Rattle.rules_routing.specs.declared.Reader.TheVariants.{Shut}
 use Rattle.rules_tick.specs.declared.Look.{Look}
 use Rattle.text_scan.specs.Scan.{has_byte, ends_at}
 use Rattle.text_words.specs.Words.{lost}
@@ -103,7 +101,7 @@ kinds_at s at n = sixteen (λ (at : ℕ). kind_of (kind_at s at space)) (λ (at 
 
 -- `tick`: a look for each input; nothing is seen of an input that does not exist
 abbrev pub nothing_seen : Look
-nothing_seen = record { seen = Gone; world = record { inode = Gone; made = false; reader = Shut; head = 0 }; applied = 0; lags = 0 }
+nothing_seen = record { seen = None; world = record { inode = None; made = false; reader = None; head = 0 }; applied = 0; lags = 0 }
 
 unfoldable pub looks_at : (s : List ℕ) (at n : ℕ) → List Look
 looks_at s at n = sixteen (λ (at : ℕ). (look_at s at).look) (λ (at : ℕ). (look_at s at).next) nothing_seen n at

@@ -3,8 +3,8 @@ ghost use Rattle.std.specs.Prelude.{◌≡◌, ◌+◌, ◌*◌, ◌≤◌, leng
 ghost use Rattle.text_requests.specs.Lists.{look_at, load_at, row_at, cell_at, peak_at, kinds_end, kinds_at, looks_end, nothing_seen, looks_at, loads_end, loads_at, loaded_as, HalfPut, peaks_end, heard_as, lags_at, cells_end, rows_at};
 
 use crate::parts::{inode_of, kind_of, reader_of};
-use rules_record::{AutoTag, ExtraDelay, Inode};
-use rules_routing::{Reader, World};
+use rules_record::{AutoTag, ExtraDelay};
+use rules_routing::World;
 use rules_tick::Look;
 use text_scan::{ends, is_at};
 use text_words::{
@@ -111,13 +111,13 @@ fn nothing() -> Look
     ensures { result ≡ nothing_seen }
 {
     let world = World {
-        inode: Inode::Gone,
+        inode: None,
         made: false,
-        reader: Reader::Shut,
+        reader: None,
         head: 0,
     };
     Look {
-        seen: Inode::Gone,
+        seen: None,
         world,
         applied: 0,
         lags: 0,

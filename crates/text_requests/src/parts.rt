@@ -2,34 +2,32 @@
 ghost use Rattle.std.specs.Prelude.{◌≡◌};
 ghost use Rattle.text_requests.specs.Parts.{inode_of, due_of, moment_of, reader_of, proposal_of, lag_of, kind_of, setting_of, down_of, low_of, timer_of, seed_of};
 
-use delay_hold::{Lag, LowerTimer, Moment, Seed};
+use sources::Down;
+use delay_hold::{LowerTimer, Seed};
 use rules_calls::DelaySetting;
-use rules_record::{AutoTag, ExtraDelay, Inode, Proposal};
-use rules_routing::Reader;
-use sources::QueryDown;
-use state::Due;
+use rules_record::{AutoTag, ExtraDelay};
 use text_print::bits::double;
 use text_words::{KindWord, MaybePair, MaybeSmallWord, MaybeWord};
 
 // The largest lag that a word can say.
 pub const MOST_LAG: u64 = 4_294_967_295;
 
-pub fn inode_of(w: MaybeWord) -> Inode
+pub fn inode_of(w: MaybeWord) -> Option<u64>
     ensures { result ≡ inode_of w }
 {
     if w.some {
-        return Inode::Of(w.value);
+        return Some(w.value);
     }
-    Inode::Gone
+    None
 }
 
-pub fn reader_of(w: MaybeSmallWord) -> Reader
+pub fn reader_of(w: MaybeSmallWord) -> Option<u32>
     ensures { result ≡ reader_of w }
 {
     if w.some {
-        return Reader::Open(w.value);
+        return Some(w.value);
     }
-    Reader::Shut
+    None
 }
 
 pub fn kind_of(w: KindWord) -> ExtraDelay
@@ -51,52 +49,52 @@ pub fn setting_of(w: KindWord) -> DelaySetting
     DelaySetting::Auto(AutoTag::Auto)
 }
 
-pub fn proposal_of(w: MaybeSmallWord) -> Proposal
+pub fn proposal_of(w: MaybeSmallWord) -> Option<u32>
     ensures { result ≡ proposal_of w }
 {
     if w.some {
-        return Proposal::Pending(w.value);
+        return Some(w.value);
     }
-    Proposal::Nothing
+    None
 }
 
-pub fn lag_of(w: MaybeSmallWord) -> Lag
+pub fn lag_of(w: MaybeSmallWord) -> Option<u32>
     ensures { result ≡ lag_of w }
 {
     if w.some {
-        return Lag::Of(w.value);
+        return Some(w.value);
     }
-    Lag::None
+    None
 }
 
-pub fn due_of(w: MaybeWord) -> Due
+pub fn due_of(w: MaybeWord) -> Option<u64>
     ensures { result ≡ due_of w }
 {
     if w.some {
-        return Due::At(w.value);
+        return Some(w.value);
     }
-    Due::Unset
+    None
 }
 
-pub fn down_of(w: MaybePair) -> QueryDown
+pub fn down_of(w: MaybePair) -> Option<Down>
     ensures { result ≡ down_of w }
 {
     if w.some {
-        return QueryDown::Until {
+        return Some(Down {
             until: w.first,
             wait: w.second,
-        };
+        });
     }
-    QueryDown::Never
+    None
 }
 
-pub fn moment_of(w: MaybeWord) -> Moment
+pub fn moment_of(w: MaybeWord) -> Option<u64>
     ensures { result ≡ moment_of w }
 {
     if w.some {
-        return Moment::At(w.value);
+        return Some(w.value);
     }
-    Moment::Never
+    None
 }
 
 // Of a number that has 32 bits.
@@ -119,11 +117,14 @@ pub fn timer_of(w: MaybePair) -> LowerTimer
     }
 }
 
-pub fn seed_of(w: MaybePair) -> Seed
+pub fn seed_of(w: MaybePair) -> Option<Seed>
     ensures { result ≡ seed_of w }
 {
     if w.some {
-        return Seed::From(w.first, low(w.second));
+        return Some(Seed {
+            since: w.first,
+            delay: low(w.second),
+        });
     }
-    Seed::Nothing
+    None
 }

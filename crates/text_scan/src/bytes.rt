@@ -2,14 +2,12 @@
 ghost use Rattle.std.specs.Prelude.{◌≡◌, ◌-◌, take, drop};
 ghost use Rattle.base.specs.Lists.{shifted};
 
-use base::least_usize;
-
 // The bytes from `from` up to `to`, as far as there are any.
 pub fn part(s: &[u8], from: usize, to: usize) -> &[u8]
     ensures { result.now ≡ take (to - from) (drop from s.now) }
 {
-    let end = least_usize(to, s.len());
-    let start = least_usize(from, end);
+    let end = to.min(s.len());
+    let start = from.min(end);
     &s[start..end]
 }
 

@@ -1,6 +1,6 @@
 // A delay file: the flows and the delays that were read, or the bytes that were written.
 use crate::words::{Word, put_word};
-use base::{least_usize, less_usize, place_u32, product_usize};
+use base::place_u32;
 use inputs_flows::inner::flow_from;
 use std::io::Write;
 use text_lending::{Bytes, Heard};
@@ -12,8 +12,8 @@ const FLOW_BYTES: usize = 16;
 
 // Flow i and its delay; nothing past the flows that have room.
 fn entry(i: usize, flows: &[u8], delays: &[u32]) -> Word {
-    let at = product_usize(i, FLOW_BYTES);
-    if less_usize(flows.len(), at) < FLOW_BYTES {
+    let at = i.saturating_mul(FLOW_BYTES);
+    if flows.len().saturating_sub(at) < FLOW_BYTES {
         return Word::End;
     }
     let flow = flow_from(flows, at);
@@ -47,7 +47,7 @@ fn show_bytes<W: Write>(
     file: &[u8],
 ) -> usize {
     let at = room(writer, out, place);
-    let end = least_usize(n, file.len());
+    let end = n.min(file.len());
     let mut next = put_byte(out, at, b' ');
     let mut i: usize = 0;
     while i < end {

@@ -1,7 +1,7 @@
 // A hold: its peaks, which begin at place `from` of the lists, and its fields from the last change on.
 use crate::words;
 use crate::words::{Line, Word, put_word, put_words};
-use base::{least_usize, place_u32, place_u64, sum_usize};
+use base::{place_u32, place_u64};
 use delay_hold::DelayHold;
 use std::io::Write;
 use text_lending::{Peaks, Times};
@@ -12,7 +12,7 @@ fn peak(i: usize, from: usize, times: &Times, lags: &Peaks) -> Word {
     if DelayHold::PLACES <= i {
         return Word::Two(b' ', 0, b':', 0);
     }
-    let at = sum_usize(from, i);
+    let at = from.saturating_add(i);
     Word::Two(b' ', place_u64(times, at), b':', place_u32(lags, at) as u64)
 }
 
@@ -39,7 +39,7 @@ fn greatest(from: usize, to: usize, lags: &Peaks) -> u32 {
     let mut most: u32 = 0;
     let mut i = from;
     while i < to {
-        most = base::most(most, place_u32(lags, i));
+        most = most.max(place_u32(lags, i));
         i += 1;
     }
     most
@@ -54,7 +54,7 @@ fn ends(n: usize, from: usize, times: &Times, lags: &Peaks) -> Line {
             none, none, none, end, end, end, end, end, end, end, end, end, end, end, end, end,
         ];
     }
-    let to = sum_usize(from, least_usize(n, DelayHold::PLACES));
+    let to = from.saturating_add(n.min(DelayHold::PLACES));
     [
         peak(0, from, times, lags),
         peak(n - 1, from, times, lags),

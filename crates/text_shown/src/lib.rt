@@ -2,7 +2,6 @@
 // the record that it shows. An answer more is an arm of `first_of` and `second_of`, and where it shows a list an arm of `show`.
 #![tactic(auto)]
 
-use base::{product_usize, sum_usize};
 use delay_hold::DelayHold;
 use lag_window::LagWindow;
 use rules_record::Inputs;
@@ -73,9 +72,9 @@ fn part_of(answer: Answer, full: bool, count: usize) -> Part {
     match answer {
         Answer::Input(i) => Part {
             full,
-            commands: product_usize(count, 4),
+            commands: count.saturating_mul(4),
             from: i,
-            to: sum_usize(i, 1),
+            to: i.saturating_add(1),
         },
         Answer::Dump => Part {
             full: true,
@@ -91,7 +90,7 @@ fn part_of(answer: Answer, full: bool, count: usize) -> Part {
         },
         _ => Part {
             full,
-            commands: product_usize(count, 4),
+            commands: count.saturating_mul(4),
             from: 0,
             to: count,
         },

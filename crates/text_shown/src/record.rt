@@ -1,11 +1,11 @@
 // The record of a supervisor: the commands, the tables and the inputs.
 use crate::words::{Line, Word, put_word, put_words};
 use crate::{Part, holds, tables, windows, words};
-use base::{place_u32, product_usize, sum_usize};
+use base::place_u32;
 use delay_hold::DelayHold;
 use inputs_flows::flow_at;
 use lag_window::LagWindow;
-use rules_record::{Inputs, Routed, Slot};
+use rules_record::{Inputs, Slot, Route};
 use std::io::Write;
 use text_lending::{Counts, Peaks, Seconds, Times, Words};
 use text_print::Out;
@@ -13,13 +13,13 @@ use text_print::Out;
 // ---- the commands
 // Command i, where one was sent.
 fn command(i: usize, commands: &Words) -> Word {
-    let at = product_usize(i, 3);
+    let at = i.saturating_mul(3);
     let kind = place_u32(commands, at);
     if kind == 0 {
         return Word::End;
     }
-    let input = place_u32(commands, sum_usize(at, 1));
-    let word = place_u32(commands, sum_usize(at, 2));
+    let input = place_u32(commands, at.saturating_add(1));
+    let word = place_u32(commands, at.saturating_add(2));
     Word::Command(kind as u64, input as u64, word as u64)
 }
 
@@ -41,8 +41,8 @@ fn show_commands<W: Write>(
 }
 
 // ---- one input
-fn route(inputs: Inputs, to: Routed) -> Word {
-    let Routed::To(route) = to else {
+fn route(inputs: Inputs, to: Option<Route>) -> Word {
+    let Some(route) = to else {
         return Word::None;
     };
     let flow = flow_at(inputs, route.flow);
@@ -102,7 +102,7 @@ fn show_input<W: Write>(
         a,
         full,
         hold,
-        product_usize(i, DelayHold::PLACES),
+        i.saturating_mul(DelayHold::PLACES),
         times,
         peaks,
     );
@@ -111,7 +111,7 @@ fn show_input<W: Write>(
         buckets,
         width: inputs.width,
     };
-    let from = product_usize(i, LagWindow::SECONDS);
+    let from = i.saturating_mul(LagWindow::SECONDS);
     windows::show(
         writer,
         out,
@@ -119,7 +119,7 @@ fn show_input<W: Write>(
         full,
         window,
         from,
-        product_usize(from, buckets),
+        from.saturating_mul(buckets),
         starts,
         totals,
         counts,

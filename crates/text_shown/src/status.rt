@@ -1,7 +1,7 @@
 // The status of one input.
 use crate::words;
 use crate::words::{Line, Word};
-use rules_calls::{Arrival, InputStatus};
+use rules_calls::{InputStatus, ArrivalLag};
 
 // The three quantiles: all of them, or none.
 #[derive(Clone, Copy)]
@@ -11,8 +11,8 @@ struct Quantiles {
     p999: Word,
 }
 
-fn three_of(arrival: Arrival) -> Quantiles {
-    let Arrival::Of(lag) = arrival else {
+fn three_of(arrival: Option<ArrivalLag>) -> Quantiles {
+    let Some(lag) = arrival else {
         return Quantiles {
             p50: Word::None,
             p99: Word::None,

@@ -1,6 +1,6 @@
 // A window: its seconds, which begin at place `from` of the starts and the totals, each with its row, the first at place `first` of the counts.
 use crate::words::{Line, Word, put_word, put_words};
-use base::{least_usize, place_u32, place_u64, sum_usize};
+use base::{place_u32, place_u64};
 use lag_window::LagWindow;
 use std::io::Write;
 use text_lending::{Counts, Seconds};
@@ -11,7 +11,7 @@ fn second(i: usize, from: usize, starts: &Seconds, totals: &Seconds) -> Word {
     if LagWindow::SECONDS <= i {
         return Word::Two(b' ', 0, b':', 0);
     }
-    let at = sum_usize(from, i);
+    let at = from.saturating_add(i);
     Word::Two(b' ', place_u64(starts, at), b':', place_u64(totals, at))
 }
 
@@ -31,7 +31,7 @@ fn show_row<W: Write>(
     let mut next = place;
     let mut bucket: usize = 0;
     while bucket < buckets {
-        let count = place_u32(counts, sum_usize(first, bucket));
+        let count = place_u32(counts, first.saturating_add(bucket));
         if count != 0 {
             next = put_word(
                 writer,
@@ -64,7 +64,7 @@ fn show_rows<W: Write>(
     while i < n {
         next = put_word(writer, out, next, second(i, from, starts, totals));
         next = show_row(writer, out, next, i, buckets, counts, cell);
-        cell = sum_usize(cell, buckets);
+        cell = cell.saturating_add(buckets);
         i += 1;
     }
     next
@@ -75,7 +75,7 @@ fn total(from: usize, to: usize, totals: &Seconds) -> u64 {
     let mut all: usize = 0;
     let mut i = from;
     while i < to {
-        all = sum_usize(all, place_u64(totals, i) as usize);
+        all = all.saturating_add(place_u64(totals, i) as usize);
         i += 1;
     }
     all as u64
@@ -105,7 +105,7 @@ fn ends(n: usize, from: usize, starts: &Seconds, totals: &Seconds) -> Line {
             end,
         ];
     }
-    let to = sum_usize(from, least_usize(n, LagWindow::SECONDS));
+    let to = from.saturating_add(n.min(LagWindow::SECONDS));
     [
         second(0, from, starts, totals),
         second(n - 1, from, starts, totals),

@@ -1,9 +1,8 @@
 // The words of an answer, and what is shown as which word. A word more is a variant and its arm of `put_word`.
-use delay_hold::{Lag, LowerTimer, Moment, Seed};
-use rules_calls::{Milliseconds, Sourced};
-use rules_record::{ExtraDelay, Inode, Proposal};
-use sources::QueryDown;
-use state::Due;
+use sources::Down;
+use rules_calls::Source;
+use delay_hold::{LowerTimer, Seed};
+use rules_record::ExtraDelay;
 use std::io::Write;
 use text_lines::room;
 use text_print::bits::bits_of;
@@ -100,29 +99,29 @@ pub(crate) fn double(x: f64) -> Word {
     Word::Bits(bits_of(x))
 }
 
-pub(crate) fn milliseconds(ms: Milliseconds) -> Word {
-    let Milliseconds::Of(x) = ms else {
+pub(crate) fn milliseconds(ms: Option<f64>) -> Word {
+    let Some(x) = ms else {
         return Word::None;
     };
     double(x)
 }
 
-pub(crate) fn lag(lag: Lag) -> Word {
-    let Lag::Of(samples) = lag else {
+pub(crate) fn lag(lag: Option<u32>) -> Word {
+    let Some(samples) = lag else {
         return Word::None;
     };
     Word::Number(samples as u64)
 }
 
-pub(crate) fn due(due: Due) -> Word {
-    let Due::At(time) = due else {
+pub(crate) fn due(due: Option<u64>) -> Word {
+    let Some(time) = due else {
         return Word::None;
     };
     Word::Number(time)
 }
 
-pub(crate) fn down(down: QueryDown) -> Word {
-    let QueryDown::Until { until, wait } = down else {
+pub(crate) fn down(down: Option<Down>) -> Word {
+    let Some(Down { until, wait }) = down else {
         return Word::None;
     };
     Word::Two(b' ', until, b':', wait)
@@ -135,30 +134,30 @@ pub(crate) fn kind(kind: ExtraDelay) -> Word {
     Word::Manual(bits_of(delay))
 }
 
-pub(crate) fn source(source: Sourced) -> Word {
-    let Sourced::From(place) = source else {
+pub(crate) fn source(source: Option<Source>) -> Word {
+    let Some(place) = source else {
         return Word::None;
     };
     let flow = place.flow;
     Word::Flow(flow.high, flow.low, b'/', place.domain)
 }
 
-pub(crate) fn inode(inode: Inode) -> Word {
-    let Inode::Of(number) = inode else {
+pub(crate) fn inode(inode: Option<u64>) -> Word {
+    let Some(number) = inode else {
         return Word::None;
     };
     Word::Number(number)
 }
 
-pub(crate) fn proposal(proposed: Proposal) -> Word {
-    let Proposal::Pending(delay) = proposed else {
+pub(crate) fn proposal(proposed: Option<u32>) -> Word {
+    let Some(delay) = proposed else {
         return Word::None;
     };
     Word::Number(delay as u64)
 }
 
-pub(crate) fn moment(moment: Moment) -> Word {
-    let Moment::At(time) = moment else {
+pub(crate) fn moment(moment: Option<u64>) -> Word {
+    let Some(time) = moment else {
         return Word::None;
     };
     Word::Number(time)
@@ -171,9 +170,9 @@ pub(crate) fn timer(timer: LowerTimer) -> Word {
     Word::None
 }
 
-pub(crate) fn seed(seed: Seed) -> Word {
-    let Seed::From(time, delay) = seed else {
+pub(crate) fn seed(seed: Option<Seed>) -> Word {
+    let Some(last) = seed else {
         return Word::None;
     };
-    Word::Two(b' ', time, b':', delay as u64)
+    Word::Two(b' ', last.since, b':', last.delay as u64)
 }

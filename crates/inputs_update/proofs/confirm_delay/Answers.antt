@@ -18,4 +18,4 @@ pub delay_set-all-requires : goal.delay_set-all-requires
 delay_set-all-requires c = confirm_asked _ _ c.args.commands.now _ _ c.input_checks-number.ensures c.if-number-ne0.false c.slot_at-slot.ensures
 
 pub returns : goal.returns
-returns c = confirm_pending _ _ _ _ _ c.input_checks-number.ensures c.if-number-ne0.false c.slot_at-slot.ensures c.in-Pending.is c.taken.ensures c.delay_set-all.ensures
+returns c = confirm_pending _ _ _ _ _ c.input_checks-number.ensures c.if-number-ne0.false c.slot_at-slot.ensures c.in-Some.is c.taken.ensures c.delay_set-all.ensures

@@ -19,11 +19,11 @@ pub returns : goal.returns
 unfolding lengths_for
 returns c =
     each
-    (counted (c.args.n * 11) c.args.short c.product_usize-seconds.ensures c.cut.ensures)
+    (counted (c.args.n * 11) c.args.short c.saturating_mul-seconds.ensures c.cut.ensures)
     (counted (countable (c.args.n * 11) * c.args.buckets) c.args.short
-    (c.product_usize.ensures
-    ∙ ap (λ n. countable (n * c.args.buckets)) c.product_usize-seconds.ensures)
+    (c.saturating_mul.ensures
+    ∙ ap (λ n. countable (n * c.args.buckets)) c.saturating_mul-seconds.ensures)
     c.cut-2.ensures)
-    (counted (c.args.n * c.args.buckets) c.args.short c.product_usize-2.ensures c.cut-3.ensures)
-    (counted (c.args.n * 600) c.args.short c.product_usize-3.ensures c.cut-4.ensures)
-    (counted (c.args.n * 12) c.args.short c.product_usize-4.ensures c.cut-5.ensures)
+    (counted (c.args.n * c.args.buckets) c.args.short c.saturating_mul-2.ensures c.cut-3.ensures)
+    (counted (c.args.n * 600) c.args.short c.saturating_mul-3.ensures c.cut-4.ensures)
+    (counted (c.args.n * 12) c.args.short c.saturating_mul-4.ensures c.cut-5.ensures)

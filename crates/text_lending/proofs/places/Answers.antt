@@ -14,6 +14,6 @@ part-is first count most p q r = cc (p, q, r)
 pub returns : goal.returns
 returns c = record {
   value = part-is c.args.first c.args.count c.args.most
-      c.sum_usize.ensures c.least_usize-to.ensures c.least_usize-from.ensures;
-  from_le_to = (omega (arith, c.least_usize-from.ensures, c.least_usize-to.ensures, c.sum_usize.ensures, c.ranges), omega (arith, c.least_usize-to.ensures));
+      c.saturating_add.ensures c.min-to.ensures c.min-from.ensures;
+  from_le_to = (omega (arith, c.min-from.ensures, c.min-to.ensures, c.saturating_add.ensures, c.ranges), omega (arith, c.min-to.ensures));
 }

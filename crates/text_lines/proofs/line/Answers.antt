@@ -5,8 +5,8 @@ use Rattle.text_lines.proofs.line.Goals as goal
 pub returns-then-c : goal.returns-then-c
 returns-then-c c = search line_dropped
 
-pub returns-then-less_usize-gt-LONGEST : goal.returns-then-less_usize-gt-LONGEST
-returns-then-less_usize-gt-LONGEST c = search line_long
+pub returns-then-saturating_sub-gt-LONGEST : goal.returns-then-saturating_sub-gt-LONGEST
+returns-then-saturating_sub-gt-LONGEST c = search line_long
 
 pub returns : goal.returns
 returns c = search line_whole

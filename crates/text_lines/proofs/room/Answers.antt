@@ -2,8 +2,8 @@
 use Rattle.text_lines.proofs.Looking.{room_left, room_none}
 use Rattle.text_lines.proofs.room.Goals as goal
 
-pub returns-then-less_usize-ge-SPARE : goal.returns-then-less_usize-ge-SPARE
-returns-then-less_usize-ge-SPARE g c = search room_left
+pub returns-then-saturating_sub-ge-SPARE : goal.returns-then-saturating_sub-ge-SPARE
+returns-then-saturating_sub-ge-SPARE g c = search room_left
 
 pub returns : goal.returns
 returns g c = search room_none

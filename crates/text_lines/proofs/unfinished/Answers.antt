@@ -2,8 +2,8 @@
 use Rattle.text_lines.proofs.Looking.{unfinished_long, unfinished_short}
 use Rattle.text_lines.proofs.unfinished.Goals as goal
 
-pub returns-then-less_usize-gt-LONGEST : goal.returns-then-less_usize-gt-LONGEST
-returns-then-less_usize-gt-LONGEST c = search unfinished_long
+pub returns-then-saturating_sub-gt-LONGEST : goal.returns-then-saturating_sub-gt-LONGEST
+returns-then-saturating_sub-gt-LONGEST c = search unfinished_long
 
 pub returns : goal.returns
 returns c = search unfinished_short

@@ -17,4 +17,4 @@ returns-in_default c =
 
 pub returns : goal.returns
 returns c =
-    next_changed c.args.policy c.args.width _ c.args.p999 c.args.current c.args.time c.args.max_lag _ c.next_number-number.ensures c.if-number-ne0.false c.next-next.result _ _ c.next-next.ensures _ c.in-To.is
+    next_changed c.args.policy c.args.width _ c.args.p999 c.args.current c.args.time c.args.max_lag _ c.next_number-number.ensures c.if-number-ne0.false c.next-next.result _ _ c.next-next.ensures _ c.in-Some.is

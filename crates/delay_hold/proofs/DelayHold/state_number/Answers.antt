@@ -30,12 +30,12 @@ unfolding held_number
 returns-then-policy-current c =
     sym (yes_ask 5 _ (told_yes _ _ (c.lists_fit.ensures c.args.self) c.if-not-lists_fit.false) ∙ yes_ask 6 _ (told_yes _ _ c.whole.ensures c.if-not-whole.false) ∙ yes_ask 8 _ (le-leb _ _ c.if-time-gt-TIME_LIMIT.false) ∙ no_ask 15 _ (lt-leb _ _ c.if-policy-current.true))
 
-pub returns-then-not-up_to : goal.returns-then-not-up_to
+pub returns-then-not-lag_up_to : goal.returns-then-not-lag_up_to
 unfolding held_number
-returns-then-not-up_to c =
-    sym (yes_ask 5 _ (told_yes _ _ (c.lists_fit.ensures c.args.self) c.if-not-lists_fit.false) ∙ yes_ask 6 _ (told_yes _ _ c.whole.ensures c.if-not-whole.false) ∙ yes_ask 8 _ (le-leb _ _ c.if-time-gt-TIME_LIMIT.false) ∙ yes_ask 15 _ (le-leb _ _ c.if-policy-current.false) ∙ no_ask 15 _ (told_no _ _ c.up_to.ensures c.if-not-up_to.true))
+returns-then-not-lag_up_to c =
+    sym (yes_ask 5 _ (told_yes _ _ (c.lists_fit.ensures c.args.self) c.if-not-lists_fit.false) ∙ yes_ask 6 _ (told_yes _ _ c.whole.ensures c.if-not-whole.false) ∙ yes_ask 8 _ (le-leb _ _ c.if-time-gt-TIME_LIMIT.false) ∙ yes_ask 15 _ (le-leb _ _ c.if-policy-current.false) ∙ no_ask 15 _ (told_no _ _ c.lag_up_to.ensures c.if-not-lag_up_to.true))
 
 pub returns : goal.returns
 unfolding held_number
 returns c =
-    sym (yes_ask 5 _ (told_yes _ _ (c.lists_fit.ensures c.args.self) c.if-not-lists_fit.false) ∙ yes_ask 6 _ (told_yes _ _ c.whole.ensures c.if-not-whole.false) ∙ yes_ask 8 _ (le-leb _ _ c.if-time-gt-TIME_LIMIT.false) ∙ yes_ask 15 _ (le-leb _ _ c.if-policy-current.false) ∙ yes_ask 15 _ (told_yes _ _ c.up_to.ensures c.if-not-up_to.false))
+    sym (yes_ask 5 _ (told_yes _ _ (c.lists_fit.ensures c.args.self) c.if-not-lists_fit.false) ∙ yes_ask 6 _ (told_yes _ _ c.whole.ensures c.if-not-whole.false) ∙ yes_ask 8 _ (le-leb _ _ c.if-time-gt-TIME_LIMIT.false) ∙ yes_ask 15 _ (le-leb _ _ c.if-policy-current.false) ∙ yes_ask 15 _ (told_yes _ _ c.lag_up_to.ensures c.if-not-lag_up_to.false))

@@ -13,11 +13,8 @@ offset_bounds-starts-k c = search stales
 pub bounds-starts-k : goal.bounds-starts-k
 bounds-starts-k c = search stales
 
-pub age-requires : goal.age-requires
-age-requires c = search stales
-
-pub returns-then-age-le-LAG_WINDOW : goal.returns-then-age-le-LAG_WINDOW
-returns-then-age-le-LAG_WINDOW c = search stales
+pub returns-then-saturating_sub-le-LAG_WINDOW : goal.returns-then-saturating_sub-le-LAG_WINDOW
+returns-then-saturating_sub-le-LAG_WINDOW c = search stales
 
 pub overflow_add-k : goal.overflow_add-k
 overflow_add-k c = search stales

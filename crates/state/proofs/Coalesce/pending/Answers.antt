@@ -6,8 +6,8 @@ use Rattle.state.proofs.Coalesce.pending.Goals as goal
 pub returns-then-not-whole : goal.returns-then-not-whole
 returns-then-not-whole c = pending_broken _ (told_no _ _ c.whole.ensures c.if-not-whole.true)
 
-pub returns-in-Unset : goal.returns-in-Unset
-returns-in-Unset c = pending_unset _ (told_yes _ _ c.whole.ensures c.if-not-whole.false) c.in-Unset.is
+pub returns-in-None : goal.returns-in-None
+returns-in-None c = pending_unset _ (told_yes _ _ c.whole.ensures c.if-not-whole.false) c.in-None.is
 
-pub returns-in-At : goal.returns-in-At
-returns-in-At c = pending_set _ (told_yes _ _ c.whole.ensures c.if-not-whole.false) _ c.in-At.is
+pub returns-in-Some : goal.returns-in-Some
+returns-in-Some c = pending_set _ (told_yes _ _ c.whole.ensures c.if-not-whole.false) _ c.in-Some.is
