@@ -10,7 +10,7 @@ use Rattle.buckets.specs.Ranges.{reaches_allowed, width_allowed, buckets_of, buc
 use Rattle.doubles.specs.Doubles.{half_away}
 use Rattle.policy.specs.Settings.{times_allowed, margins_allowed}
 use Rattle.policy.specs.Need.{need_of}
-use Rattle.delay_hold.specs.declared.Answer.TheVariants.{Kept, Changed}
+use Rattle.delay_hold.specs.Checks.{Kept, Changed}
 use Rattle.delay_hold.specs.Steps1To3.{noted}
 use Rattle.delay_hold.specs.Step4Peaks.{join_times, join_lags, old_count, times_after, lags_after}
 use Rattle.delay_hold.specs.Steps5To8.{lowering, weighed, decide_at, decide}

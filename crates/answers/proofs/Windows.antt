@@ -9,7 +9,7 @@ use Rattle.base.specs.Rows.{apart, up_to}
 use Rattle.buckets.specs.Ranges.{reaches_allowed, width_allowed, buckets_of, buckets_few, buckets_allowed, ranges_number}
 use Rattle.doubles.specs.Doubles.{ceil_of}
 use Rattle.doubles.specs.Quantile.{target_of}
-use Rattle.rules_window.specs.declared.Quantile.TheVariants.{End}
+use Rattle.rules_window.specs.Quantile.{End}
 use Rattle.rules_window.specs.Window.{Window, fresh, in_use, laid, opened, dropped, counted, pushed, pushed_all}
 use Rattle.rules_window.specs.WholeWindow.{summed, whole_window, Sound}
 use Rattle.rules_window.specs.Quantile.{column, within, running, reach, quantile_in, thousandths}

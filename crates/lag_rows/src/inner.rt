@@ -6,13 +6,12 @@ ghost use Rattle.base.specs.Lists.{sum_from};
 ghost use Rattle.rules_window.specs.Window.{windowed};
 ghost use Rattle.rules_window.specs.WholeWindow.{summed, tallies_right};
 ghost use Rattle.rules_window.specs.InPlace.{less_row, less_rows};
-ghost use Rattle.rules_window.specs.Quantile.{column, running, reach, quantile_upto, Placeable};
+ghost use Rattle.rules_window.specs.Quantile.{column, running, reach, found, quantile_upto, Placeable};
 ghost use Rattle.rules_window.specs.ColumnSums.{right_sums, as_one_second};
 ghost use Rattle.lag_rows.specs.Tallies.{row_places, rows_to, Covered, Columns, alike, totals_are};
 ghost use Rattle.lag_rows.specs.Blocks.{Blocks};
 
 use base::{blank_u32, blank_u64};
-use rules_window::Quantile;
 
 // The seconds that a window has room for, and the most lags that one of them counts.
 pub const SECONDS: usize = 11;
@@ -411,20 +410,20 @@ fn reached(
 }
 
 // The quantile q of the lags up to limit: one pass sums the row, and the sums of its blocks lead to the bucket.
-pub fn quantile_upto(buckets: usize, width: u32, q: f64, limit: u32, sums: &[u64]) -> Quantile
+pub fn quantile_upto(buckets: usize, width: u32, q: f64, limit: u32, sums: &[u64]) -> Option<u32>
     requires buckets_le_buckets_limit { (buckets ≤ buckets_limit) × (1 ≤ width) × (width ≤ width_limit) }
     requires sums_len { length sums.now ≡ buckets }
     requires placeable { Placeable q limit (as_one_second buckets width sums.now) }
-    ensures { result ≡ quantile_upto q limit (as_one_second buckets width sums.now) }
+    ensures { found result ≡ quantile_upto q limit (as_one_second buckets width sums.now) }
 {
     let mut blocks = [0u64; 64];
     let total = total_upto(buckets, width, limit, sums, &mut blocks);
     if total == 0 {
-        return Quantile::None;
+        return None;
     }
     let target = doubles::inner::quantile_place(total, q);
     let Some(b) = reached(buckets, width, limit, target, sums, &blocks) else {
-        return Quantile::None;
+        return None;
     };
-    Quantile::End(edge(b + 1, width))
+    Some(edge(b + 1, width))
 }

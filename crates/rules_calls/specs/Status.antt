@@ -4,7 +4,7 @@ use Rattle.std.specs.Float.{fin}
 use Rattle.base.specs.Choice.{pick, accepted}
 use Rattle.base.specs.Lists.{part}
 use Rattle.doubles.specs.Doubles.{ms_of}
-use Rattle.rules_window.specs.declared.Quantile.{Quantile}
+use Rattle.rules_window.specs.Quantile.{Quantile}
 use Rattle.rules_window.specs.Window.{Window}
 use Rattle.rules_window.specs.Quantile.{quantile_of, thousandths}
 use Rattle.delay_hold.specs.Step4Peaks.{worst_of}
@@ -41,17 +41,17 @@ proposed_ms (Some delay) = Some (ms_of delay)
 -- "of the quantiles 0.5, 0.99 and 0.999 .. (all three or none)"
 abbrev pub arrival_by : (p50 p99 : ℕ) → Quantile → Option ArrivalLag
 arrival_by p50 p99 (Quantile.End p999) = Some (record { p50 = ms_of p50; p99 = ms_of p99; p999 = ms_of p999 })
-arrival_by p50 p99 Quantile.None = None
+arrival_by p50 p99 Quantile.NoLags = None
 arrival_by p50 p99 (Quantile.Refused number) = None
 
 abbrev pub arrival_with : (p50 : ℕ) → Quantile → (highest : Quantile) → Option ArrivalLag
 arrival_with p50 (Quantile.End p99) highest = arrival_by p50 p99 highest
-arrival_with p50 Quantile.None highest = None
+arrival_with p50 Quantile.NoLags highest = None
 arrival_with p50 (Quantile.Refused number) highest = None
 
 abbrev pub arrival_of : Quantile → (high highest : Quantile) → Option ArrivalLag
 arrival_of (Quantile.End p50) high highest = arrival_with p50 high highest
-arrival_of Quantile.None high highest = None
+arrival_of Quantile.NoLags high highest = None
 arrival_of (Quantile.Refused number) high highest = None
 
 -- "without limit"

@@ -13,7 +13,7 @@ use Rattle.base.specs.Rows.{apart, up_to}
 use Rattle.buckets.specs.Ranges.{reaches_allowed, width_allowed, buckets_of, buckets_few, buckets_allowed, ranges_number}
 use Rattle.doubles.specs.Doubles.{ceil_of}
 use Rattle.doubles.specs.Quantile.{target_of}
-use Rattle.rules_window.specs.declared.Quantile.TheVariants.{End, None, Refused}
+use Rattle.rules_window.specs.Quantile.{End, NoLags, Refused}
 use Rattle.rules_window.specs.Window.{Window, windowed, fresh, cleared, in_use, laid, opened, dropped, bucket_of, counted, pushed, pushed_all}
 use Rattle.rules_window.specs.WholeWindow.{summed, whole_window}
 use Rattle.rules_window.specs.Quantile.{column, within, running, reach, quantile_in, quantile_upto, quantile_of}
@@ -84,7 +84,7 @@ unfolding quantile_reply
 quantile_call_without_limit q w sums e = ap (λ (n : ℕ). answered n (quantile_of q w)) e
 
 -- "Total 0: none": no lag at all, or none up to the limit
-pub quantile_of_none : quantile_of one (after []) ∷ quantile_upto one 9599 (after (9600 ∷ [])) ∷ [] ≡ None ∷ None ∷ []
+pub quantile_of_none : quantile_of one (after []) ∷ quantile_upto one 9599 (after (9600 ∷ [])) ∷ [] ≡ NoLags ∷ NoLags ∷ []
 unfolding padded sum buckets_of fresh in_use laid opened dropped counted pushed pushed_all column within running reach quantile_in target_of ceil_of round mul of_int
 quantile_of_none = refl
 
@@ -144,7 +144,7 @@ refused_new_is_zero = refl
 
 -- document 01's number and value of each answer of a quantile
 pub answers_have_numbers_and_values :
-    (number_of (End 48) ∷ number_of None ∷ number_of (Refused 14) ∷ [] ≡ 0 ∷ 0 ∷ 14 ∷ []) × (value_of (End 48) ∷ value_of None ∷ value_of (Refused 14) ∷ [] ≡ 48 ∷ 0 ∷ 0 ∷ [])
+    (number_of (End 48) ∷ number_of NoLags ∷ number_of (Refused 14) ∷ [] ≡ 0 ∷ 0 ∷ 14 ∷ []) × (value_of (End 48) ∷ value_of NoLags ∷ value_of (Refused 14) ∷ [] ≡ 48 ∷ 0 ∷ 0 ∷ [])
 answers_have_numbers_and_values = (refl, refl)
 
 -- the window of one input stands in its 11 places of each list: of three inputs the middle one is written

@@ -1,11 +1,11 @@
--- `delay_hold::DelayHold::state_number` meets its contract. Assumes nothing.
+-- `delay_hold::DelayHold::check_state` meets its contract. Assumes nothing.
 use Rattle.delay_hold.proofs.Gate.{lists_long}
 use Rattle.delay_hold.specs.Checks.{held_number}
 use Rattle.base.proofs.Choices.{yes_ask, no_ask}
 use mathlib.Core.Path.{sym, ◌∙◌}
 use Rattle.base.proofs.All.{told_yes, told_no}
 use borrow.Author.Tests.{le-leb, lt-leb}
-use Rattle.delay_hold.proofs.DelayHold.state_number.Goals as goal
+use Rattle.delay_hold.proofs.DelayHold.check_state.Goals as goal
 
 pub returns-then-not-lists_fit : goal.returns-then-not-lists_fit
 unfolding held_number

@@ -1,4 +1,4 @@
--- `lag_window::LagWindow::number` meets its contract. Assumes nothing.
+-- `lag_window::LagWindow::check` meets its contract. Assumes nothing.
 use mathlib.Core.Path.{sym, ◌∙◌}
 use native.Mathlib.Omega.{arith}
 use borrow.Author.Tests.{eq-eqb, ne_eqb}
@@ -6,7 +6,7 @@ use Rattle.base.proofs.All.{told_yes, told_no}
 use Rattle.base.proofs.Choices.{yes_ask, no_ask}
 use Rattle.buckets.proofs.Told.{width_told, buckets_told}
 use Rattle.rules_window.specs.Checks.{checked}
-use Rattle.lag_window.proofs.LagWindow.number.Goals as goal
+use Rattle.lag_window.proofs.LagWindow.check.Goals as goal
 
 pub returns-then-not-width_allowed : goal.returns-then-not-width_allowed
 unfolding checked

@@ -1,11 +1,11 @@
--- `buckets::ranges_number` meets its contract. Assumes nothing.
+-- `buckets::check_ranges` meets its contract. Assumes nothing.
 use mathlib.Core.Path.{sym, ◌∙◌}
 use borrow.Author.Tests.{le-leb, lt-leb}
 use Rattle.base.proofs.Choices.{yes_ask, no_ask}
 use Rattle.base.proofs.All.{told_yes, told_no}
 use Rattle.buckets.specs.Ranges.{buckets_few, ranges_number}
 use Rattle.buckets.proofs.Told.{reaches_told, width_told}
-use Rattle.buckets.proofs.ranges_number.Goals as goal
+use Rattle.buckets.proofs.check_ranges.Goals as goal
 
 pub returns-then-not-reaches_allowed : goal.returns-then-not-reaches_allowed
 unfolding ranges_number
