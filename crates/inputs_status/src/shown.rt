@@ -5,7 +5,7 @@ ghost use Rattle.rules_window.specs.ColumnSums.{as_one_second};
 ghost use Rattle.rules_record.specs.Inputs.{slot_at};
 ghost use Rattle.rules_record.specs.Lent.{lists};
 ghost use Rattle.rules_record.specs.Facts.{OwnSums};
-ghost use Rattle.rules_calls.specs.Status.{source_of, channels_shown, proposed_ms, lag_in_ms, worst_ms, arrival_of, arrival_in, status_of};
+ghost use Rattle.rules_calls.specs.Status.{source_of, channels_shown, proposed_ms, lag_in_ms, worst_ms, arrival_of, arrival_in, shown, status_of};
 ghost use Rattle.inputs_status.specs.StatusAsked.{Countable, Showable};
 
 use delay_hold::DelayHold;
@@ -114,7 +114,7 @@ pub(crate) fn status(
     peaks: &[u32],
 ) -> InputStatus
     requires { Showable inputs i applied sums.now peaks.now }
-    ensures { (starts totals counts times : List ℕ) → OwnSums inputs (lists starts totals counts sums.now times peaks.now) i (slot_at inputs i) → result ≡ status_of inputs (lists starts totals counts sums.now times peaks.now) i applied channels }
+    ensures { (starts totals counts times : List ℕ) → OwnSums inputs (lists starts totals counts sums.now times peaks.now) i (slot_at inputs i) → shown result ≡ status_of inputs (lists starts totals counts sums.now times peaks.now) i applied channels }
 {
     let slot = inputs_slots::slot_at(inputs, i);
     let policy = inputs.policy;
@@ -131,8 +131,7 @@ pub(crate) fn status(
     let worst_lag_ms = worst_ms(slot, &peaks[from..end]);
     let proposed_delay_ms = proposed_ms(proposed);
     InputStatus {
-        number: 0,
-        state: inputs_slots::code(state),
+        state,
         source,
         channels: channels_shown(state, channels),
         extra_delay,

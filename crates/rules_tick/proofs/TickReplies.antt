@@ -10,7 +10,6 @@ use Rattle.rules_record.specs.Lent.{Lists}
 use Rattle.rules_record.specs.Reply.{carried_out}
 use Rattle.rules_record.proofs.Replies.{reply_refused}
 use Rattle.rules_tick.specs.declared.Look.{Look}
-use Rattle.rules_tick.specs.declared.TickAnswer.{TickAnswer}
 use Rattle.rules_tick.specs.TickChecks.{tick_number}
 use Rattle.rules_tick.specs.Tick.{ticked, unsaved_at}
 use Rattle.rules_tick.specs.TickReply.{tick_reply, tick_unsaved}
@@ -32,8 +31,7 @@ module _ (s : Inputs) (l : Lists) (commands : List ℕ) (looks : List Look) (lag
     pub passes : number ≡ 0
     passes = sym is_number ∙ passed
 
-    pub leaves_accepted : {answer : TickAnswer} {m : Lists} {after : List ℕ} → told answer m after ≡ carried commands (ticked looks lags time s l) (unsaved_at looks lags time s l)
-        → told answer m after ≡ tick_leaves s l commands looks lags time
+    pub leaves_accepted : {left : TickReply} → left ≡ carried commands (ticked looks lags time s l) (unsaved_at looks lags time s l) → left ≡ tick_leaves s l commands looks lags time
     unfolding tick_leaves tick_reply tick_unsaved
     leaves_accepted e =
         e
