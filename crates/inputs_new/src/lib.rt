@@ -11,9 +11,9 @@ ghost use Rattle.rules_calls.specs.NewChecks.{margin_fits, settings_number};
 ghost use Rattle.rules_calls.specs.NewReply.{new_reply};
 
 use policy::DelayPolicy;
+use refusals::Refusal;
 use rules_calls::Settings;
 use rules_record::{ExtraDelay, Flow, FlowEntry, Inputs, Instance, Output};
-use refusals::Refusal;
 
 mod loading;
 mod start;

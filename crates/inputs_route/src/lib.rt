@@ -8,10 +8,10 @@ ghost use Rattle.rules_record.specs.Reply.{left_inputs};
 ghost use Rattle.rules_calls.specs.RouteChecks.{wanted_fits, route_number};
 ghost use Rattle.rules_calls.specs.RouteReply.{route_reply};
 
-use rules_calls::Source;
-use rules_record::{Inputs};
-use rules_routing::World;
 use refusals::Refusal;
+use rules_calls::Source;
+use rules_record::Inputs;
+use rules_routing::World;
 
 mod steps;
 

@@ -12,9 +12,9 @@ ghost use Rattle.rules_calls.specs.Status.{told, status_reply};
 ghost use Rattle.rules_calls.specs.HasChannels.{told as answer_told, has_channels_reply};
 ghost use Rattle.rules_calls.specs.Settled.{settled_slot, settled_reply};
 
+use refusals::Refusal;
 use rules_calls::InputStatus;
 use rules_record::{Inputs, Output, Slot};
-use refusals::Refusal;
 
 mod shown;
 

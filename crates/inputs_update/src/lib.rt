@@ -9,9 +9,9 @@ ghost use Rattle.rules_calls.specs.UpdateChecks.{manual_fits, kind_fits, desk_li
 ghost use Rattle.rules_record.specs.Reply.{left_inputs};
 ghost use Rattle.rules_calls.specs.UpdateReply.{update_reply, confirm_reply};
 
+use refusals::Refusal;
 use rules_calls::DelaySetting;
 use rules_record::{ExtraDelay, Inputs};
-use refusals::Refusal;
 
 mod steps;
 

@@ -9,7 +9,7 @@ use Rattle.inputs_status.proofs.status.Goals as goal
 
 pub returns-in_err-check_status : goal.returns-in_err-check_status
 unfolding status_reply
-returns-in_err-check_status c = let e : c.from_residual.result ≡ Err c.in_err-check_status.field-0.0 = search rules in rw e (status_refused _ c.in_err-check_status.ensures.value (never_zero _) _ c.no_status.ensures)
+returns-in_err-check_status c = let e : c.from_residual.result ≡ Err c.in_err-check_status.field-0.0 = search rules in rw e (status_refused _ c.in_err-check_status.ensures.value (never_zero _) _ refl)
 
 pub status-requires : goal.status-requires
 status-requires c = status_showable _ _ _ _ _ c.in_ok-check_status.ensures.sized c.in_ok-check_status.ensures.value refl

@@ -17,8 +17,8 @@ returns-in_default c = confirm_nothing _ _ _ _ _ c.in_ok-check_input.ensures ref
 pub taken-requires : goal.taken-requires
 taken-requires c = taken_asked _ _ c.args.commands.now _ _ c.in_ok-check_input.ensures refl c.slot_at-slot.ensures
 
-pub delay_set-all-requires : goal.delay_set-all-requires
-delay_set-all-requires c = confirm_asked _ _ c.args.commands.now _ _ c.in_ok-check_input.ensures refl c.slot_at-slot.ensures
+pub delay_set-requires : goal.delay_set-requires
+delay_set-requires c = confirm_asked _ _ c.args.commands.now _ _ c.in_ok-check_input.ensures refl c.slot_at-slot.ensures
 
 pub returns : goal.returns
-returns c = confirm_pending _ _ _ _ _ c.in_ok-check_input.ensures refl c.slot_at-slot.ensures c.in-Some.is c.taken.ensures c.delay_set-all.ensures
+returns c = confirm_pending _ _ _ _ _ c.in_ok-check_input.ensures refl c.slot_at-slot.ensures c.in-Some.is c.taken.ensures c.delay_set.ensures
