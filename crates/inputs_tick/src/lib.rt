@@ -9,9 +9,9 @@ ghost use Rattle.rules_tick.specs.TickChecks.{tick_number};
 ghost use Rattle.rules_tick.specs.TickAnswer.{told};
 ghost use Rattle.rules_tick.specs.TickLeaves.{tick_leaves};
 
+use refusals::Refusal;
 use rules_record::{Inputs, Output};
 pub use rules_tick::{Look, Ticked};
-use refusals::Refusal;
 
 mod each;
 mod fits;

@@ -6,8 +6,7 @@ use rules_record::{ExtraDelay, Inputs, Route};
 use rules_tick::Look;
 use std::io::{Read, Write};
 use text_alone::Alone;
-use text_answers::Answer;
-use text_called::Called;
+use text_answers::{Answer, Left};
 use text_files::file_at;
 use text_lending::{
     Bytes, Counts, Heard, LONE_COUNTS, LONE_PEAKS, LONE_SECONDS, LONE_SUMS, Peaks, Seconds, Sums,
@@ -36,13 +35,6 @@ pub struct State {
     // Whole records are shown.
     pub full: bool,
     pub alone: Alone,
-}
-
-// What a line leaves that is no call on a supervisor, and its answer.
-#[derive(Clone, Copy)]
-pub struct Told {
-    pub state: State,
-    pub answer: Answer,
 }
 
 // What a line leaves of all that is kept.
@@ -118,10 +110,10 @@ fn lone(
     peaks: &mut Peaks,
     bytes: &mut Bytes,
     heard: &mut Heard,
-) -> text_alone::Answered {
+) -> Left<Alone> {
     match request {
-        Lone::ReadDelays(_) => text_alone::Answered {
-            alone: kept,
+        Lone::ReadDelays(_) => Left {
+            left: kept,
             answer: text_alone::read_delays(file, short, bytes, heard),
         },
         Lone::WindowSet(asked) => {
@@ -139,23 +131,23 @@ fn lone(
                 sums,
             );
             window.seconds = asked.seconds;
-            text_alone::Answered {
-                alone: Alone { window, ..kept },
+            Left {
+                left: Alone { window, ..kept },
                 answer: Answer::Done,
             }
         }
         Lone::WindowSum(asked) => {
             text_crafted::sum(asked, LONE_SUMS, sums);
-            text_alone::Answered {
-                alone: kept,
+            Left {
+                left: kept,
                 answer: Answer::Done,
             }
         }
         Lone::HoldSet(asked) => {
             let hold = asked.hold;
             text_crafted::peaks(s, asked.at, hold.peaks, LONE_PEAKS, times, peaks);
-            text_alone::Answered {
-                alone: Alone { hold, ..kept },
+            Left {
+                left: Alone { hold, ..kept },
                 answer: Answer::Done,
             }
         }
@@ -180,10 +172,10 @@ fn alone_by(
     peaks: &mut Peaks,
     bytes: &mut Bytes,
     heard: &mut Heard,
-) -> Told {
+) -> Left<State> {
     match request {
-        Request::Full(full) => Told {
-            state: State { full, ..state },
+        Request::Full(full) => Left {
+            left: State { full, ..state },
             answer: Answer::Done,
         },
         Request::Alone(call) => {
@@ -192,15 +184,15 @@ fn alone_by(
                 call, kept, short, s, file, starts, totals, counts, sums, times, peaks, bytes,
                 heard,
             );
-            let alone = done.alone;
+            let alone = done.left;
             let answer = done.answer;
-            Told {
-                state: State { alone, ..state },
+            Left {
+                left: State { alone, ..state },
                 answer,
             }
         }
-        _ => Told {
-            state,
+        _ => Left {
+            left: state,
             answer: Answer::BadLine,
         },
     }
@@ -291,7 +283,7 @@ fn called<W: Write>(
     commands: &mut Words,
     bytes: &mut Bytes,
     heard: &mut Heard,
-) -> Called {
+) -> Left<Inputs> {
     load(writer, call, s, out, place, heard);
     let what = deed_of(call);
     match what {
@@ -314,8 +306,8 @@ fn called<W: Write>(
                 commands,
             )
         }
-        Deed::Craft(asked) => Called {
-            inputs: text_crafted::put(
+        Deed::Craft(asked) => Left {
+            left: text_crafted::put(
                 inputs,
                 asked,
                 buckets_in(inputs),
@@ -329,14 +321,14 @@ fn called<W: Write>(
             ),
             answer: Answer::Done,
         },
-        Deed::Ask => Called {
-            inputs,
+        Deed::Ask => Left {
+            left: inputs,
             answer: text_called::ask(
                 call, inputs, short, starts, totals, counts, sums, times, peaks, bytes,
             ),
         },
-        Deed::Nothing => Called {
-            inputs,
+        Deed::Nothing => Left {
+            left: inputs,
             answer: Answer::Dry,
         },
     }
@@ -453,7 +445,7 @@ fn answered<W: Write>(
                 bytes,
                 heard,
             );
-            let left = done.inputs;
+            let left = done.left;
             let answer = done.answer;
             shown(
                 writer,
@@ -489,7 +481,7 @@ fn answered<W: Write>(
                 bytes,
                 heard,
             );
-            let left = done.state;
+            let left = done.left;
             let answer = done.answer;
             shown(
                 writer, left, inputs, answer, out, file.place, starts, totals, counts, times,

@@ -25,7 +25,7 @@ mod words;
 // ---- the words of an answer
 fn first_of(answer: Answer) -> Word {
     match answer {
-        Answer::Refused(number) => Word::Number(number as u64),
+        Answer::Refused(refusal) => Word::Number(u64::from(refusal.number())),
         Answer::Number(value) | Answer::Failed(value, _) => Word::Number(value),
         Answer::Delays(n) | Answer::File(n) => Word::Number(n as u64),
         Answer::Maybe(lag) | Answer::Next(lag) => words::lag(lag),

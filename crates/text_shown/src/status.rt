@@ -37,7 +37,7 @@ pub(crate) fn words_of(status: InputStatus) -> Line {
     let p99 = three.p99;
     let p999 = three.p999;
     [
-        Word::Number(status.state as u64),
+        Word::Number(u64::from(inputs_slots::code(status.state))),
         words::source(source),
         Word::Number(status.channels as u64),
         words::kind(kind),
