@@ -95,7 +95,7 @@ pub fn tick(
             unsaved: false,
         };
     }
-    base::zero_u32(commands);
+    commands.fill(0);
     let sent = each::tick_inputs(
         inputs, looks, lags, time, starts, totals, counts, sums, times, peaks, commands,
     );

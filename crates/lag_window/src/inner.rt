@@ -11,7 +11,7 @@ ghost use Rattle.lag_window.specs.Lent.{lent};
 
 use super::LagWindow;
 use base::inner::{spaced, span, up_to_u64};
-use base::{NANOS, TIME_LIMIT, blank_u64, shift_u32, shift_u64, zero_u32, zero_u64};
+use base::{NANOS, TIME_LIMIT, blank_u64, shift_u32, shift_u64};
 use lag_rows::inner::{right, row_places, take_rows};
 
 // ---- a push
@@ -255,10 +255,10 @@ pub fn emptied(
     ensures counts_after { lent result starts.new totals.new counts.new ≡ cleared (lent window starts.old totals.old counts.old) }
     ensures sums_after { sums.new ≡ column_sums (cleared (lent window starts.old totals.old counts.old)) }
 {
-    zero_u64(starts);
-    zero_u64(totals);
-    zero_u32(counts);
-    zero_u64(sums);
+    starts.fill(0);
+    totals.fill(0);
+    counts.fill(0);
+    sums.fill(0);
     LagWindow {
         seconds: 0,
         buckets: window.buckets,
