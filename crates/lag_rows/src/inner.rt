@@ -11,7 +11,7 @@ ghost use Rattle.rules_window.specs.ColumnSums.{right_sums, as_one_second};
 ghost use Rattle.lag_rows.specs.Tallies.{row_places, rows_to, Covered, Columns, alike, totals_are};
 ghost use Rattle.lag_rows.specs.Blocks.{Blocks};
 
-use base::{blank_u32, blank_u64};
+use base::blank;
 use rules_window::Quantile;
 
 // The seconds that a window has room for, and the most lags that one of them counts.
@@ -251,11 +251,11 @@ pub fn right(buckets: usize, places: &[usize], totals: &[u64], counts: &[u32], s
     requires places_len { (length places.now ≡ 11) × (places.now ≡ row_places buckets) }
     ensures { result ≡ tallies_right buckets totals.now counts.now sums.now }
 {
-    if blank_u64(totals, 0) {
-        if !blank_u32(counts, 0) {
+    if blank(totals, 0) {
+        if !blank(counts, 0) {
             return false;
         }
-        return blank_u64(sums, 0);
+        return blank(sums, 0);
     }
     sums_right(buckets, places, totals, counts, sums)
 }
