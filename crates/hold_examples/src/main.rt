@@ -55,7 +55,12 @@ fn hold_after(rt: &impl Print, hold: DelayHold, times: &[u64], lags: &[u32]) -> 
     number_after(rt, " H ", n as u64)?;
     let mut i = 0;
     while i < n {
-        pair_after(rt, " ", base::place_u64(times, i), base::place_u32(lags, i))?;
+        pair_after(
+            rt,
+            " ",
+            times.get(i).copied().unwrap_or(0),
+            lags.get(i).copied().unwrap_or(0),
+        )?;
         i += 1;
     }
     let last = hold.last_change;

@@ -159,12 +159,12 @@ fn zero_lists(
 )
     ensures { lists starts.new totals.new counts.new sums.new times.new peaks.new ≡ zeroed_lists (lists starts.old totals.old counts.old sums.old times.old peaks.old) }
 {
-    base::zero_u64(starts);
-    base::zero_u64(totals);
-    base::zero_u32(counts);
-    base::zero_u64(sums);
-    base::zero_u64(times);
-    base::zero_u32(peaks);
+    starts.fill(0);
+    totals.fill(0);
+    counts.fill(0);
+    sums.fill(0);
+    times.fill(0);
+    peaks.fill(0);
 }
 
 // A supervisor with these settings, a delay kind for each input, and the remembered delays that the host loaded: 16 flow bytes to each.
@@ -203,7 +203,7 @@ pub fn new(
         return Err(Refusal::FlowTable);
     };
     zero_lists(starts, totals, counts, sums, times, peaks);
-    base::zero_u32(commands);
+    commands.fill(0);
     let sent = start::started(all, settings.count, kinds, time, commands);
     Ok(sent.inputs)
 }

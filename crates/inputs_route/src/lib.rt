@@ -91,7 +91,7 @@ pub fn route(
     let known = steps::enrolled_for(inputs, wanted);
     let new = steps::route_for(known, wanted);
     let slot = inputs_slots::slot_at(known, input);
-    base::zero_u32(commands);
+    commands.fill(0);
     let old = slot.route;
     if steps::equal_route(new, old) {
         return Ok(known);

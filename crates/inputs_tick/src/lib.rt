@@ -87,7 +87,7 @@ pub fn tick(
         peaks,
         commands.len(),
     )?;
-    base::zero_u32(commands);
+    commands.fill(0);
     let sent = each::tick_inputs(
         inputs, looks, lags, time, starts, totals, counts, sums, times, peaks, commands,
     );

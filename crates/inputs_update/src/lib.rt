@@ -134,7 +134,7 @@ pub fn update(
     let kind = kind_of(setting);
     let slot = steps::with_kind(inputs_slots::slot_at(inputs, input), kind);
     let ExtraDelay::Ms(delay) = kind else {
-        base::zero_u32(commands);
+        commands.fill(0);
         return Ok(inputs_clear::inner::clear(
             inputs, input, slot, starts, totals, counts, sums, times, peaks,
         ));

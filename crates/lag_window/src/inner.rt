@@ -10,8 +10,8 @@ ghost use Rattle.rules_window.specs.InPlace.{dropped_in_place, opened_in_place};
 ghost use Rattle.lag_window.specs.Lent.{lent};
 
 use super::LagWindow;
-use base::inner::{spaced, span, up_to_u64};
-use base::{NANOS, TIME_LIMIT, blank_u64, shift_u32, shift_u64, zero_u32, zero_u64};
+use base::inner::{spaced, span};
+use base::{NANOS, TIME_LIMIT, blank, shift};
 use lag_rows::inner::{right, row_places, take_rows};
 
 // ---- a push
@@ -51,9 +51,9 @@ fn drop_old(
         return window;
     }
     take_rows(buckets, k, counts, sums);
-    shift_u64(starts, k);
-    shift_u64(totals, k);
-    shift_u32(counts, k * buckets);
+    shift(starts, k, 0);
+    shift(totals, k, 0);
+    shift(counts, k * buckets, 0);
     LagWindow {
         seconds: n - k,
         buckets,
@@ -227,13 +227,13 @@ pub fn whole(
     if LagWindow::LAG_WINDOW < span(n, starts) {
         return false;
     }
-    if !up_to_u64(TIME_LIMIT, n, starts) {
+    if !starts[..n].iter().all(|at| *at <= TIME_LIMIT) {
         return false;
     }
-    if !blank_u64(starts, n) {
+    if !blank(starts, n) {
         return false;
     }
-    if !blank_u64(totals, n) {
+    if !blank(totals, n) {
         return false;
     }
     let mut places = [0usize; LagWindow::SECONDS];
@@ -255,10 +255,10 @@ pub fn emptied(
     ensures counts_after { lent result starts.new totals.new counts.new ≡ cleared (lent window starts.old totals.old counts.old) }
     ensures sums_after { sums.new ≡ column_sums (cleared (lent window starts.old totals.old counts.old)) }
 {
-    zero_u64(starts);
-    zero_u64(totals);
-    zero_u32(counts);
-    zero_u64(sums);
+    starts.fill(0);
+    totals.fill(0);
+    counts.fill(0);
+    sums.fill(0);
     LagWindow {
         seconds: 0,
         buckets: window.buckets,

@@ -151,23 +151,23 @@ fn listless(request: Lone, alone: Alone) -> Left<Alone> {
             let kept = alone.coalesce;
             let done = clocks::coalesce(request, kept);
             Left {
-        left: Alone {
-            coalesce: done.left,
-            ..alone
-        },
-        answer: done.answer,
-    }
+                left: Alone {
+                    coalesce: done.left,
+                    ..alone
+                },
+                answer: done.answer,
+            }
         }
         Lone::QuerySet(_) | Lone::QueryUp(_) | Lone::QueryFailed(_) => {
             let kept = alone.schedule;
             let done = clocks::schedule(request, kept);
             Left {
-        left: Alone {
-            schedule: done.left,
-            ..alone
-        },
-        answer: done.answer,
-    }
+                left: Alone {
+                    schedule: done.left,
+                    ..alone
+                },
+                answer: done.answer,
+            }
         }
         _ => Left {
             left: alone,
@@ -181,7 +181,10 @@ pub fn read_delays(file: &[u8], short: bool, flows: &mut [u8], delays: &mut [u32
     let z = file_sizes(short);
     let a = z.flows.min(flows.len());
     let b = z.delays.min(delays.len());
-    answer_of(delay_files::read_delays(file, &mut flows[..a], &mut delays[..b]), |count| Answer::Delays(count))
+    answer_of(
+        delay_files::read_delays(file, &mut flows[..a], &mut delays[..b]),
+        |count| Answer::Delays(count),
+    )
 }
 
 // The answer of a call, but for what is crafted and for a file.

@@ -47,11 +47,7 @@ pub(crate) fn answer(
             kept.push(asked.lag, asked.time, starts, totals, counts, sums),
             Answer::Window,
         ),
-        Lone::Clear => left_by(
-            kept,
-            kept.clear(starts, totals, counts, sums),
-            Answer::Done,
-        ),
+        Lone::Clear => left_by(kept, kept.clear(starts, totals, counts, sums), Answer::Done),
         Lone::Span => Left {
             left: kept,
             answer: answer_of(kept.span(starts, totals, counts, sums), |span| {

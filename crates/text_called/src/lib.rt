@@ -3,9 +3,9 @@
 #![tactic(auto)]
 
 use policy::DelayPolicy;
+use refusals::Refusal;
 use rules_record::{ExtraDelay, Flow, FlowEntry, Inputs, Instance};
 use rules_tick::{Look, Ticked};
-use refusals::Refusal;
 use text_answers::{Answer, Left, answer_of, left_by};
 use text_lending::{file_sizes, sizes_for};
 use text_requests::Call;
@@ -82,15 +82,15 @@ fn changing(
                     settings, kinds, flows, heard, asked.time, starts, totals, counts, sums, times,
                     peaks, commands,
                 ),
-Answer::All,
+                Answer::All,
             )
         }
         Call::Route(asked) => {
             let wanted = asked.wanted;
             let world = asked.world;
             left_by(
-kept,
-inputs_route::route(
+                kept,
+                inputs_route::route(
                     kept,
                     asked.input,
                     wanted,
@@ -104,14 +104,14 @@ inputs_route::route(
                     peaks,
                     commands,
                 ),
-Answer::Input(asked.input),
-)
+                Answer::Input(asked.input),
+            )
         }
         Call::Update(asked) => {
             let setting = asked.setting;
             left_by(
-kept,
-inputs_update::update(
+                kept,
+                inputs_update::update(
                     kept,
                     asked.input,
                     setting,
@@ -124,12 +124,12 @@ inputs_update::update(
                     peaks,
                     commands,
                 ),
-Answer::Input(asked.input),
-)
+                Answer::Input(asked.input),
+            )
         }
         Call::Confirm(asked) => left_by(
-kept,
-inputs_update::confirm_delay(
+            kept,
+            inputs_update::confirm_delay(
                 kept,
                 asked.input,
                 asked.time,
@@ -141,13 +141,16 @@ inputs_update::confirm_delay(
                 peaks,
                 commands,
             ),
-Answer::Input(asked.input),
-),
+            Answer::Input(asked.input),
+        ),
         Call::Tick(asked) => {
-            ticked(kept, inputs_tick::tick(
-                kept, looks, heard, asked.time, starts, totals, counts, sums, times, peaks,
-                commands,
-            ))
+            ticked(
+                kept,
+                inputs_tick::tick(
+                    kept, looks, heard, asked.time, starts, totals, counts, sums, times, peaks,
+                    commands,
+                ),
+            )
         }
         _ => Left {
             left: kept,
@@ -170,50 +173,60 @@ fn asking(
 ) -> Answer {
     match call {
         Call::Status(asked) => {
-            answer_of(inputs_status::status(
-                kept,
-                asked.input,
-                asked.first,
-                asked.second,
-                starts,
-                totals,
-                counts,
-                sums,
-                times,
-                peaks,
-            ), |status| Answer::Status(status))
+            answer_of(
+                inputs_status::status(
+                    kept,
+                    asked.input,
+                    asked.first,
+                    asked.second,
+                    starts,
+                    totals,
+                    counts,
+                    sums,
+                    times,
+                    peaks,
+                ),
+                |status| Answer::Status(status),
+            )
         }
         Call::Has(asked) => {
-            answer_of(inputs_status::has_channels(
-                kept,
-                asked.input,
-                asked.first,
-                asked.second as usize,
-                starts,
-                totals,
-                counts,
-                sums,
-                times,
-                peaks,
-            ), |bit| Answer::Bit(bit))
+            answer_of(
+                inputs_status::has_channels(
+                    kept,
+                    asked.input,
+                    asked.first,
+                    asked.second as usize,
+                    starts,
+                    totals,
+                    counts,
+                    sums,
+                    times,
+                    peaks,
+                ),
+                |bit| Answer::Bit(bit),
+            )
         }
         Call::Settled(asked) => {
-            answer_of(inputs_status::settled(
-                kept,
-                asked.input,
-                asked.time,
-                starts,
-                totals,
-                counts,
-                sums,
-                times,
-                peaks,
-            ), |bit| Answer::Bit(bit))
+            answer_of(
+                inputs_status::settled(
+                    kept,
+                    asked.input,
+                    asked.time,
+                    starts,
+                    totals,
+                    counts,
+                    sums,
+                    times,
+                    peaks,
+                ),
+                |bit| Answer::Bit(bit),
+            )
         }
         Call::WriteDelays => {
-            answer_of(delay_files::write_delays(
-                kept, starts, totals, counts, sums, times, peaks, file,
-            ), |length| Answer::File(length))
+            answer_of(
+                delay_files::write_delays(kept, starts, totals, counts, sums, times, peaks, file),
+                |length| Answer::File(length),
+            )
         }
         Call::Dump => Answer::Dump,
         _ => Answer::BadLine,

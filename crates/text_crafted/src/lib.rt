@@ -4,7 +4,6 @@
 
 ghost use Rattle.std.specs.Prelude.{◌≡◌};
 
-use base::place_u32;
 use delay_hold::DelayHold;
 use lag_window::LagWindow;
 use rules_record::{Inputs, Slot};
@@ -102,7 +101,7 @@ fn column(counts: &[u32], first: usize, buckets: usize) -> u64 {
     let mut at = first;
     let mut i: usize = 0;
     while i < LagWindow::SECONDS {
-        sum += wide(place_u32(counts, at));
+        sum += wide(counts.get(at).copied().unwrap_or(0));
         at = at.saturating_add(buckets);
         i += 1;
     }

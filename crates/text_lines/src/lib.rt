@@ -6,7 +6,7 @@ ghost use Rattle.text_lines.specs.Lines.{at_begin, found_at, last_of, unfinished
 
 use std::io::{Read, Write};
 use text_print::Out;
-use text_scan::bytes::{part, shift_u8};
+use text_scan::bytes::part;
 use text_scan::{Step, first};
 
 // The longest line, without its newline. The input buffer is longer.
@@ -167,7 +167,7 @@ fn moved(input: &mut [u8], c: Cursor) -> Cursor
     if c.to < input.len() {
         return c;
     }
-    shift_u8(input, c.from);
+    base::shift(input, c.from, 0);
     Cursor {
         from: 0,
         seen: c.seen.saturating_sub(c.from),

@@ -1,6 +1,5 @@
 // A delay file: the flows and the delays that were read, or the bytes that were written.
 use crate::words::{Word, put_word};
-use base::place_u32;
 use inputs_flows::inner::flow_from;
 use std::io::Write;
 use text_lending::{Bytes, Heard};
@@ -17,7 +16,7 @@ fn entry(i: usize, flows: &[u8], delays: &[u32]) -> Word {
         return Word::End;
     }
     let flow = flow_from(flows, at);
-    Word::Flow(flow.high, flow.low, b'=', place_u32(delays, i) as u64)
+    Word::Flow(flow.high, flow.low, b'=', delays.get(i).copied().unwrap_or(0) as u64)
 }
 
 // The first n flows, each with its delay.

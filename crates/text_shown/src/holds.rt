@@ -1,7 +1,6 @@
 // A hold: its peaks, which begin at place `from` of the lists, and its fields from the last change on.
 use crate::words;
 use crate::words::{Line, Word, put_word, put_words};
-use base::{place_u32, place_u64};
 use delay_hold::DelayHold;
 use std::io::Write;
 use text_lending::{Peaks, Times};
@@ -13,7 +12,7 @@ fn peak(i: usize, from: usize, times: &Times, lags: &Peaks) -> Word {
         return Word::Two(b' ', 0, b':', 0);
     }
     let at = from.saturating_add(i);
-    Word::Two(b' ', place_u64(times, at), b':', place_u32(lags, at) as u64)
+    Word::Two(b' ', times.get(at).copied().unwrap_or(0), b':', lags.get(at).copied().unwrap_or(0) as u64)
 }
 
 fn show_peaks<W: Write>(
@@ -39,7 +38,7 @@ fn greatest(from: usize, to: usize, lags: &Peaks) -> u32 {
     let mut most: u32 = 0;
     let mut i = from;
     while i < to {
-        most = most.max(place_u32(lags, i));
+        most = most.max(lags.get(i).copied().unwrap_or(0));
         i += 1;
     }
     most

@@ -1,7 +1,6 @@
 // The record of a supervisor: the commands, the tables and the inputs.
 use crate::words::{Line, Word, put_word, put_words};
 use crate::{Part, holds, tables, windows, words};
-use base::place_u32;
 use delay_hold::DelayHold;
 use inputs_flows::flow_at;
 use lag_window::LagWindow;
@@ -14,12 +13,12 @@ use text_print::Out;
 // Command i, where one was sent.
 fn command(i: usize, commands: &Words) -> Word {
     let at = i.saturating_mul(3);
-    let kind = place_u32(commands, at);
+    let kind = commands.get(at).copied().unwrap_or(0);
     if kind == 0 {
         return Word::End;
     }
-    let input = place_u32(commands, at.saturating_add(1));
-    let word = place_u32(commands, at.saturating_add(2));
+    let input = commands.get(at.saturating_add(1)).copied().unwrap_or(0);
+    let word = commands.get(at.saturating_add(2)).copied().unwrap_or(0);
     Word::Command(kind as u64, input as u64, word as u64)
 }
 

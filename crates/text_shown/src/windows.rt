@@ -1,6 +1,5 @@
 // A window: its seconds, which begin at place `from` of the starts and the totals, each with its row, the first at place `first` of the counts.
 use crate::words::{Line, Word, put_word, put_words};
-use base::{place_u32, place_u64};
 use lag_window::LagWindow;
 use std::io::Write;
 use text_lending::{Counts, Seconds};
@@ -12,7 +11,7 @@ fn second(i: usize, from: usize, starts: &Seconds, totals: &Seconds) -> Word {
         return Word::Two(b' ', 0, b':', 0);
     }
     let at = from.saturating_add(i);
-    Word::Two(b' ', place_u64(starts, at), b':', place_u64(totals, at))
+    Word::Two(b' ', starts.get(at).copied().unwrap_or(0), b':', totals.get(at).copied().unwrap_or(0))
 }
 
 // Row i: past the rows that a window has there is nothing.
@@ -31,7 +30,7 @@ fn show_row<W: Write>(
     let mut next = place;
     let mut bucket: usize = 0;
     while bucket < buckets {
-        let count = place_u32(counts, first.saturating_add(bucket));
+        let count = counts.get(first.saturating_add(bucket)).copied().unwrap_or(0);
         if count != 0 {
             next = put_word(
                 writer,
@@ -75,7 +74,7 @@ fn total(from: usize, to: usize, totals: &Seconds) -> u64 {
     let mut all: usize = 0;
     let mut i = from;
     while i < to {
-        all = all.saturating_add(place_u64(totals, i) as usize);
+        all = all.saturating_add(totals.get(i).copied().unwrap_or(0) as usize);
         i += 1;
     }
     all as u64

@@ -26,11 +26,11 @@ returns-in_default c = new_full _ _ _ _ _ _ _ c.in_ok-check_settings.ensures ref
 pub zero_lists-requires : goal.zero_lists-requires
 zero_lists-requires c = tt
 
-pub zero_u32-requires : goal.zero_u32-requires
-zero_u32-requires c = tt
+pub fill-requires : goal.fill-requires
+fill-requires c = tt
 
 pub started-sent-requires : goal.started-sent-requires
-started-sent-requires c = start_asked c.args.settings c.args.kinds c.args.flows.now c.args.delays.now c.args.time (lists c.args.starts.now c.args.totals.now c.args.counts.now c.args.sums.now c.args.times.now c.args.peaks.now) c.args.commands.now c.in_ok-check_settings.ensures refl c.zero_u32.ensures
+started-sent-requires c = start_asked c.args.settings c.args.kinds c.args.flows.now c.args.delays.now c.args.time (lists c.args.starts.now c.args.totals.now c.args.counts.now c.args.sums.now c.args.times.now c.args.peaks.now) c.args.commands.now c.in_ok-check_settings.ensures refl (c.fill.ensures.after (λ y e. e))
 
 pub returns : goal.returns
-returns c = new_done _ _ _ _ _ _ _ c.in_ok-check_settings.ensures refl c.if-time-gt-TIME_LIMIT.false c.blank_for.ensures c.load.ensures.fits_value (ap is_some c.in-Some.is) (λ h. c.load.ensures.inputs_value _ c.in-Some.is) c.zero_lists.ensures c.zero_u32.ensures c.started-sent.ensures
+returns c = new_done _ _ _ _ _ _ _ c.in_ok-check_settings.ensures refl c.if-time-gt-TIME_LIMIT.false c.blank_for.ensures c.load.ensures.fits_value (ap is_some c.in-Some.is) (λ h. c.load.ensures.inputs_value _ c.in-Some.is) c.zero_lists.ensures (c.fill.ensures.after (λ y e. e)) c.started-sent.ensures

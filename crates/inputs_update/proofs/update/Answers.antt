@@ -12,7 +12,7 @@ pub clear-requires : goal.clear-requires
 clear-requires c = let h = clear_asked _ _ c.args.commands.now _ _ _ c.in_ok-check_update.ensures refl in record { fitting = h.0; i_lt_count = h.1 }
 
 pub returns-in_default : goal.returns-in_default
-returns-in_default c = update_auto _ _ _ _ _ _ c.in_ok-check_update.ensures refl c.kind_of-kind.ensures c.slot_at.ensures c.with_kind-slot.ensures c.in_default.is c.clear.ensures c.zero_u32.ensures
+returns-in_default c = update_auto _ _ _ _ _ _ c.in_ok-check_update.ensures refl c.kind_of-kind.ensures c.slot_at.ensures c.with_kind-slot.ensures c.in_default.is c.clear.ensures (c.fill.ensures.after (λ y e. e))
 
 pub delay_set-requires : goal.delay_set-requires
 delay_set-requires c = manual_asked _ _ c.args.commands.now _ _ _ c.in_ok-check_update.ensures refl
