@@ -1,8 +1,7 @@
 -- `lag_window::inner::push_all` meets its contract. Assumes nothing.
-use native.Mathlib.Omega.{arith}
 use Rattle.rules_window.proofs.Ticks.{going_start, going_asks, going_more, going_end}
 use Rattle.rules_window.specs.ColumnSums.{column_sums}
-use mathlib.Core.Path.{refl, sym, ap, ◌∙◌}
+use mathlib.Core.Path.{sym, ap, ◌∙◌}
 use Rattle.lag_window.proofs.inner.push_all.Goals as goal
 
 pub loop-lag-init : goal.loop-lag-init

@@ -1,5 +1,5 @@
 -- `lag_window::inner::push_all` meets its contract. Assumes nothing.
-use Rattle.std.specs.Prelude.{◌≡◌, ◌-◌, ◌≤◌, length}
+use Rattle.std.specs.Prelude.{◌≡◌}
 use Rattle.rules_window.proofs.Ticks.{Going}
 use Rattle.rules_window.specs.Window.{pushed_all}
 use Rattle.lag_window.specs.Lent.{lent}

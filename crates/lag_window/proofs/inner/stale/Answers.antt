@@ -1,5 +1,5 @@
 -- `lag_window::inner::stale` meets its contract. Assumes nothing.
-use Rattle.std.proofs.Common.{◌-◌, ◌<◌, ◌≤◌, length, take, rules}
+use Rattle.std.proofs.Common.{◌-◌, ◌<◌, ◌≤◌, take, rules}
 use borrow.Author.Tests.{tests}
 use Rattle.std.proofs.lemmas.Iterator.{IsFirst-from_position, YieldsList-from_slice}
 use Rattle.base.specs.Limits.{window_reach}
