@@ -20,14 +20,10 @@ fn stale(n: usize, time: u64, starts: &[u64]) -> usize
     requires { n ≤ length starts.now }
     ensures { result ≡ stale time n starts.now }
 {
-    let mut k = 0;
-    while k < n {
-        if time.saturating_sub(starts[k]) <= LagWindow::LAG_WINDOW {
-            return k;
-        }
-        k += 1;
-    }
-    k
+    starts[..n]
+        .iter()
+        .position(|start| time.saturating_sub(*start) <= LagWindow::LAG_WINDOW)
+        .unwrap_or(n)
 }
 
 // Seconds more than 10 s old go, and their lags come off the sums. Most often there is none, and nothing is moved.
@@ -66,10 +62,7 @@ fn opens(n: usize, time: u64, starts: &[u64]) -> bool
     requires { n ≤ length starts.now }
     ensures { result ≡ opens time n starts.now }
 {
-    if n == 0 {
-        return true;
-    }
-    time.saturating_sub(starts[n - 1]) >= LagWindow::SECOND
+    n == 0 || time.saturating_sub(starts[n - 1]) >= LagWindow::SECOND
 }
 
 // A second opens where it is time.
@@ -95,9 +88,7 @@ fn bucket(lag: u32, width: u32, buckets: usize) -> usize
     requires { (0 < width) × (0 < buckets) }
     ensures { (result ≡ bucket_of lag width buckets) × (result < buckets) }
 {
-    let b = (lag / width) as usize;
-    let last = buckets - 1;
-    if b < last { b } else { last }
+    ((lag / width) as usize).min(buckets - 1)
 }
 
 // Where bucket b of row r stands.
@@ -125,9 +116,9 @@ fn count(window: LagWindow, lag: u32, totals: &mut [u64], counts: &mut [u32], su
     let width = window.width;
     let b = bucket(lag, width, buckets);
     let at = place(r, b, buckets);
-    totals[r] = totals[r] + 1;
-    counts[at] = counts[at] + 1;
-    sums[b] = sums[b] + 1;
+    totals[r] += 1;
+    counts[at] += 1;
+    sums[b] += 1;
 }
 
 // A push: with 11 places, seconds more than 10 s old go before a second opens; then the lag counts.
@@ -170,12 +161,9 @@ pub fn push_all(
     ensures counts_after { lent result starts.new totals.new counts.new ≡ pushed_all time lags.now (lent window starts.old totals.old counts.old) }
     ensures sums_after { sums.new ≡ column_sums (pushed_all time lags.now (lent window starts.old totals.old counts.old)) }
 {
-    let n = lags.len();
     let mut w = window;
-    let mut i = 0;
-    while i < n {
-        w = push(w, lags[i], time, starts, totals, counts, sums);
-        i += 1;
+    for lag in lags {
+        w = push(w, *lag, time, starts, totals, counts, sums);
     }
     w
 }
@@ -197,10 +185,7 @@ pub fn room(n: usize, time: u64, lags: usize, starts: &[u64], totals: &[u64]) ->
     ensures { result ≡ room_of time lags n starts.now totals.now }
 {
     let total = newest(n, time, starts, totals);
-    if LagWindow::MOST < total {
-        return false;
-    }
-    lags as u64 <= LagWindow::MOST - total
+    total <= LagWindow::MOST && lags as u64 <= LagWindow::MOST - total
 }
 
 // ---- whether a window is whole and its sums are right (check 6)
