@@ -17,6 +17,8 @@ mod steps_1_to_3;
 mod steps_5_to_8;
 mod whole;
 
+pub use steps_5_to_8::held_since;
+
 // The delay of the last run: since when, and how many samples.
 #[derive(Clone, Copy)]
 pub struct Seed {

@@ -222,11 +222,11 @@ fn settled_slot(slot: Slot, hold: u64, time: u64) -> bool
         return false;
     }
     let last_set = slot.last_set;
-    if !delay_hold::inner::held_since(last_set, hold, time) {
+    if !delay_hold::held_since(last_set, hold, time) {
         return false;
     }
     let last_input = slot.last_input;
-    delay_hold::inner::held_since(last_input, hold, time)
+    delay_hold::held_since(last_input, hold, time)
 }
 
 // Is the input running, with neither a SetDelay nor a SetInput sent to it within the last hold?

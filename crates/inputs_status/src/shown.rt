@@ -12,7 +12,7 @@ use delay_hold::DelayHold;
 use doubles::ms;
 use lag_window::LagWindow;
 use rules_calls::{ArrivalLag, InputStatus, Source};
-use rules_record::{Inputs, Slot, State, Route};
+use rules_record::{Inputs, Route, Slot, State};
 use rules_window::Quantile;
 
 // No lag is above this: a quantile without a limit.

@@ -27,6 +27,6 @@ pub setting_manual : (w : KindWord) → w.manual ≡ true → {d : _} → d ≡ 
 unfolding setting_of
 setting_manual w h e = rw (h, e)
 
-pub seed_from : (w : MaybePair) → w.some ≡ true → {n : ℕ} → n ≡ low_of w.second → Some w.first n ≡ seed_of w
+pub seed_from : (w : MaybePair) → w.some ≡ true → {n : ℕ} → n ≡ low_of w.second → Some (record { since = w.first; delay = n }) ≡ seed_of w
 unfolding seed_of
 seed_from w h e = rw (h, e)

@@ -45,7 +45,7 @@ setting_of w = pick w.manual (set-ms (of_bits binary64 w.bits)) (set-auto auto-t
 
 -- ---- two numbers, or none; the second of 32 bits where it is a lag
 unfoldable pub down_of : MaybePair → Option Down
-down_of w = pick w.some (Some w.first w.second) None
+down_of w = pick w.some (Some (record { until = w.first; wait = w.second })) None
 
 unfoldable pub low_of : ℕ → ℕ
 low_of n = pick (leb n 4294967295) n 0
@@ -54,4 +54,4 @@ unfoldable pub timer_of : MaybePair → LowerTimer
 timer_of w = record { on = w.some; since = w.first; highest = low_of w.second }
 
 unfoldable pub seed_of : MaybePair → Option Seed
-seed_of w = pick w.some (Some w.first (low_of w.second)) None
+seed_of w = pick w.some (Some (record { since = w.first; delay = low_of w.second })) None
