@@ -40,6 +40,7 @@ pub type Heard = [u32; 524_288];
 pub type Bytes = [u8; 1_287];
 
 // The lists, lent together.
+#[derive(Drop)]
 pub struct Lists<'a> {
     pub starts: &'a mut Seconds,
     pub totals: &'a mut Seconds,

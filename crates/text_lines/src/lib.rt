@@ -166,6 +166,7 @@ fn read_after<R: Read>(reader: &mut R, input: &mut [u8], to: usize) -> usize
 }
 
 // Where answers go: a printer, and the writer to which its buffer is written out.
+#[derive(Drop)]
 pub struct Output<'a, W> {
     pub writer: &'a mut W,
     pub printer: Printer<'a>,

@@ -12,6 +12,7 @@ ghost use Rattle.text_print.specs.Printers.{on};
 pub type Out = [u8; 262_144];
 
 // A lent buffer, and the place where the next text goes.
+#[derive(Drop)]
 pub struct Printer<'a> {
     pub out: &'a mut Out,
     pub place: usize,
@@ -66,7 +67,8 @@ impl Printer<'_> {
         self.put_text(&[b]);
     }
 
-    // A number in this base, at least so many digits of it.
+    // A number in this base, at least so many digits of it. Its digits are counted here: after std's `write!` nothing is known of a writer at an
+    // `Err`, and `fmt::InlineText`, which cannot fail, takes eight times as many instructions.
     fn put_digits(&mut self, n: u64, base: u64, least: usize)
         requires lt_base { 1 < base }
         requires base_bound { base ≤ 16 }

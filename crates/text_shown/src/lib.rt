@@ -6,6 +6,7 @@ use delay_hold::DelayHold;
 use lag_window::LagWindow;
 use rules_record::Inputs;
 use std::io::Write;
+use std::ops::Range;
 use text_answers::Answer;
 use text_lending::{LONE_COUNTS, LONE_PEAKS, LONE_SECONDS, Lists};
 use text_lines::Output;
@@ -60,12 +61,11 @@ fn show_words<W: Write>(output: &mut Output<'_, W>, answer: Answer) {
 
 // ---- the record that an answer shows
 // Whether all of it, how many commands at most, and which inputs.
-#[derive(Clone, Copy)]
+#[derive(Drop)]
 struct Part {
     full: bool,
     commands: usize,
-    from: usize,
-    to: usize,
+    inputs: Range<usize>,
 }
 
 // A call sends at most four commands an input; `dump` and a dry tick send none.
@@ -73,13 +73,11 @@ fn part_of(answer: Answer, full: bool, count: usize) -> Part {
     let all = Part {
         full,
         commands: count.saturating_mul(4),
-        from: 0,
-        to: count,
+        inputs: 0..count,
     };
     match answer {
         Answer::Input(i) => Part {
-            from: i,
-            to: i.saturating_add(1),
+            inputs: i..i.saturating_add(1),
             ..all
         },
         Answer::Dump => Part {

@@ -93,9 +93,10 @@ pub(crate) fn show<W: Write>(
     buckets: usize,
     lists: &Lists<'_>,
 ) {
+    let full = part.full;
     show_commands(output, part.commands, lists.commands);
-    tables::show(output, part.full, inputs);
-    for i in part.from..part.to {
-        show_input(output, part.full, inputs, i, buckets, lists);
+    tables::show(output, full, inputs);
+    for i in part.inputs {
+        show_input(output, full, inputs, i, buckets, lists);
     }
 }
