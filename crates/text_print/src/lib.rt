@@ -39,13 +39,20 @@ fn ended(rest: u64, count: usize, least: usize) -> bool
 }
 
 impl Printer<'_> {
+    // The buffer's first n bytes, as far as it goes.
+    pub fn first(&self, n: usize) -> &[u8]
+        ensures { result.now ≡ take n self.now.out.now }
+    {
+        let end = n.min(self.out.len());
+        let out = &self.out[..];
+        &out[..end]
+    }
+
     // What was printed.
     pub fn text(&self) -> &[u8]
         ensures { result.now ≡ take self.now.place self.now.out.now }
     {
-        let end = self.place.min(self.out.len());
-        let out = &self.out[..];
-        &out[..end]
+        self.first(self.place)
     }
 
     pub fn put_text(&mut self, text: &[u8])
