@@ -338,13 +338,13 @@ fn answered<W: Write>(
         },
         Request::On(call) => {
             let done = called(output, call, inputs, read.short, s, lists);
-            shown(output, state, done.inputs, done.answer, lists)
+            shown(output, state, done.left, done.answer, lists)
         }
         request => {
             let length = bring(output, request, s);
             let file = output.printer.first(length);
             let done = alone_by(request, state, read.short, s, file, lists);
-            shown(output, done.state, inputs, done.answer, lists)
+            shown(output, done.left, inputs, done.answer, lists)
         }
     }
 }
