@@ -2,10 +2,10 @@
 ghost use Rattle.std.specs.Prelude.{◌≡◌};
 ghost use Rattle.text_requests.specs.Parts.{inode_of, due_of, moment_of, reader_of, proposal_of, lag_of, kind_of, setting_of, down_of, low_of, timer_of, seed_of};
 
-use sources::Down;
 use delay_hold::{LowerTimer, Seed};
 use rules_calls::DelaySetting;
 use rules_record::{AutoTag, ExtraDelay};
+use sources::Down;
 use text_print::bits::double;
 use text_words::{KindWord, MaybePair, MaybeSmallWord, MaybeWord};
 
