@@ -15,15 +15,11 @@ pub fn part(s: &[u8], from: usize, to: usize) -> &[u8]
 pub fn shift_u8(s: &mut [u8], k: usize)
     ensures { s.new ≡ shifted k s.old }
 {
-    let n = s.len();
-    let mut i = 0;
-    while i < n {
-        if k < n - i {
-            s[i] = s[i + k];
-            i += 1;
-        } else {
-            s[i] = 0;
-            i += 1;
-        }
+    let kept = s.len().saturating_sub(k);
+    for i in 0..kept {
+        s[i] = s[i + k];
+    }
+    for i in kept..s.len() {
+        s[i] = 0;
     }
 }

@@ -1,282 +1,167 @@
-// The words of a line, read one after the other. Each function reads what stands after a separating byte and answers its value with the
-// place after it. Where nothing of that form stands, the value is zero and the place is LOST, at which nothing stands either: so the words of
-// a call are read without a test between them, and one test at the end tells whether all were there.
+// The words of a line (compare/README.md), read one after the other. Each function reads what stands after a separating byte: its value with the
+// place after it, or none where nothing of that form stands there. The caller asks for the next separator, or that the line ends, so that
+// nothing but the protocol's own text is taken.
 #![tactic(auto)]
 
-ghost use Rattle.std.specs.Prelude.{◌≡◌};
-ghost use Rattle.text_scan.specs.Scan.{after_text, after_word};
-ghost use Rattle.text_fields.specs.Fields.{number_after, small_after, flag_after, maybe_after, maybe_small_after, flow_after, kind_after};
-ghost use Rattle.text_words.specs.Words.{word_of, small_word_of, byte_word_of, bit_word_of, maybe_word_of, maybe_small_word_of, pair_of, flow_word_of, kind_word_of, place_of, below};
+ghost use Rattle.std.specs.Prelude.{◌≡◌, ◌≤◌, ◌-◌, ◌^◌, IfSome};
+ghost use Rattle.text_words.specs.Words.{number_after, mark_after, or_none, u64_in, u64_at, hex_at, u32_at, u8_at, bit_at, maybe_u64_at, maybe_u32_at, pair_at, maybe_pair_at, flow_at, manual_at, kind_at};
 
-use text_fields::{
-    Flag, FlowText, KindText, Maybe, MaybeSmall, Small, bit_after, flow_after, hex_after,
-    kind_after, maybe_u32_after, maybe_u64_after, number_after, u32_after, u64_after,
-};
-use text_scan::{Number, Step, after_text, after_word};
+use text_scan::inner::number;
+use text_scan::{Word, after};
 
-// A place that no line has.
-pub const LOST: usize = 18_446_744_073_709_551_615;
+// ---- numbers
 
-#[derive(Clone, Copy)]
-pub struct Word {
-    pub value: u64,
-    pub next: usize,
-}
-
-#[derive(Clone, Copy)]
-pub struct SmallWord {
-    pub value: u32,
-    pub next: usize,
-}
-
-#[derive(Clone, Copy)]
-pub struct ByteWord {
-    pub value: u8,
-    pub next: usize,
-}
-
-#[derive(Clone, Copy)]
-pub struct BitWord {
-    pub value: bool,
-    pub next: usize,
-}
-
-// A number, or none.
-#[derive(Clone, Copy)]
-pub struct MaybeWord {
-    pub some: bool,
-    pub value: u64,
-    pub next: usize,
-}
-
-#[derive(Clone, Copy)]
-pub struct MaybeSmallWord {
-    pub some: bool,
-    pub value: u32,
-    pub next: usize,
-}
-
-// Two numbers, or none.
-#[derive(Clone, Copy)]
-pub struct MaybePair {
-    pub some: bool,
-    pub first: u64,
-    pub second: u64,
-    pub next: usize,
-}
-
-#[derive(Clone, Copy)]
-pub struct FlowWord {
-    pub high: u64,
-    pub low: u64,
-    pub next: usize,
-}
-
-// A delay kind: a double's bits where it is manual.
-#[derive(Clone, Copy)]
-pub struct KindWord {
-    pub manual: bool,
-    pub bits: u64,
-    pub next: usize,
-}
-
-fn numeral(n: Number) -> Word
-    ensures { result ≡ word_of n }
+// A number of at most `most` after the byte sep, in base 10 or 16.
+#[tactic(auto, unfolding(crate::specs::Words::number_after))]
+pub fn number_after(s: &[u8], at: usize, sep: u8, base: u8, most: u128) -> Option<Word<u128>>
+    ensures value { result ≡ number_after s.now at sep base most }
+    ensures bound { IfSome result (λ w. w.value ≤ most) }
 {
-    let Number::Of(value, next) = n else {
-        return Word {
-            value: 0,
-            next: LOST,
-        };
-    };
-    Word { value, next }
+    let from = after(s, at, sep)?;
+    number(s, from, base, most)
 }
 
-pub fn u64_word(s: &[u8], at: usize, sep: u8) -> Word
-    ensures { result ≡ word_of (number_after s.now at sep 10 18446744073709551615) }
+#[tactic(auto, unfolding(crate::specs::Words::u64_in))]
+fn u64_in(s: &[u8], at: usize, sep: u8, base: u8) -> Option<Word<u64>>
+    ensures { result ≡ u64_in s.now at sep base }
 {
-    numeral(u64_after(s, at, sep))
+    let w = number_after(s, at, sep, base, u128::from(u64::MAX))?;
+    Some(Word {
+        value: w.value as u64,
+        next: w.next,
+    })
 }
 
-pub fn hex_word(s: &[u8], at: usize, sep: u8) -> Word
-    ensures { result ≡ word_of (number_after s.now at sep 16 18446744073709551615) }
+#[tactic(auto, unfolding(crate::specs::Words::u64_at))]
+pub fn u64_word(s: &[u8], at: usize, sep: u8) -> Option<Word<u64>>
+    ensures { result ≡ u64_at s.now at sep }
 {
-    numeral(hex_after(s, at, sep))
+    u64_in(s, at, sep, 10)
 }
 
-pub fn u32_word(s: &[u8], at: usize, sep: u8) -> SmallWord
-    ensures { result ≡ small_word_of (small_after s.now at sep) }
+// 64 bits in hex, as of a double.
+#[tactic(auto, unfolding(crate::specs::Words::hex_at))]
+pub fn hex_word(s: &[u8], at: usize, sep: u8) -> Option<Word<u64>>
+    ensures { result ≡ hex_at s.now at sep }
 {
-    let Small::Of(value, next) = u32_after(s, at, sep) else {
-        return SmallWord {
-            value: 0,
-            next: LOST,
-        };
-    };
-    SmallWord { value, next }
+    u64_in(s, at, sep, 16)
 }
 
-pub fn u8_word(s: &[u8], at: usize, sep: u8) -> ByteWord
-    ensures { result ≡ byte_word_of (number_after s.now at sep 10 255) }
+#[tactic(auto, unfolding(crate::specs::Words::u32_at))]
+pub fn u32_word(s: &[u8], at: usize, sep: u8) -> Option<Word<u32>>
+    ensures { result ≡ u32_at s.now at sep }
 {
-    let w = numeral(number_after(s, at, sep, 255));
-    if w.value <= 255 {
-        return ByteWord {
-            value: w.value as u8,
-            next: w.next,
-        };
+    let w = number_after(s, at, sep, 10, u128::from(u32::MAX))?;
+    Some(Word {
+        value: w.value as u32,
+        next: w.next,
+    })
+}
+
+#[tactic(auto, unfolding(crate::specs::Words::u8_at))]
+pub fn u8_word(s: &[u8], at: usize, sep: u8) -> Option<Word<u8>>
+    ensures { result ≡ u8_at s.now at sep }
+{
+    let w = number_after(s, at, sep, 10, u128::from(u8::MAX))?;
+    Some(Word {
+        value: w.value as u8,
+        next: w.next,
+    })
+}
+
+// `0` for no, `1` for yes.
+#[tactic(auto, unfolding(crate::specs::Words::bit_at))]
+pub fn bit_word(s: &[u8], at: usize, sep: u8) -> Option<Word<bool>>
+    ensures { result ≡ bit_at s.now at sep }
+{
+    let w = number_after(s, at, sep, 10, 1)?;
+    Some(Word {
+        value: w.value == 1,
+        next: w.next,
+    })
+}
+
+// A flow's 128 bits in hex.
+#[tactic(auto, unfolding(crate::specs::Words::flow_at))]
+pub fn flow_word(s: &[u8], at: usize, sep: u8) -> Option<Word<u128>>
+    ensures { result ≡ flow_at s.now at sep }
+{
+    number_after(s, at, sep, 16, u128::MAX)
+}
+
+// ---- a value, or a mark for none
+
+// The place after the byte b, which stands after the byte sep.
+#[tactic(auto, unfolding(crate::specs::Words::mark_after))]
+fn mark_after(s: &[u8], at: usize, sep: u8, b: u8) -> Option<usize>
+    ensures { result ≡ mark_after s.now at sep b }
+{
+    let from = after(s, at, sep)?;
+    after(s, from, b)
+}
+
+// None, up to the place after its mark, or else a value.
+#[tactic(auto, unfolding(crate::specs::Words::or_none))]
+fn or_none<T: Copy>(mark: Option<usize>, word: Option<Word<T>>) -> Option<Word<Option<T>>>
+    ensures { result ≡ or_none mark word }
+{
+    if let Some(next) = mark {
+        return Some(Word { value: None, next });
     }
-    ByteWord {
-        value: 0,
-        next: LOST,
-    }
+    let w = word?;
+    Some(Word {
+        value: Some(w.value),
+        next: w.next,
+    })
 }
 
-pub fn bit_word(s: &[u8], at: usize, sep: u8) -> BitWord
-    ensures { result ≡ bit_word_of (flag_after s.now at sep) }
+#[tactic(auto, unfolding(crate::specs::Words::maybe_u64_at))]
+pub fn maybe_u64_word(s: &[u8], at: usize, sep: u8) -> Option<Word<Option<u64>>>
+    ensures { result ≡ maybe_u64_at s.now at sep }
 {
-    let Flag::Of(value, next) = bit_after(s, at, sep) else {
-        return BitWord {
-            value: false,
-            next: LOST,
-        };
-    };
-    BitWord { value, next }
+    or_none(mark_after(s, at, sep, b'-'), u64_word(s, at, sep))
 }
 
-pub fn maybe_u64_word(s: &[u8], at: usize, sep: u8) -> MaybeWord
-    ensures { result ≡ maybe_word_of (maybe_after s.now at sep 18446744073709551615) }
+#[tactic(auto, unfolding(crate::specs::Words::maybe_u32_at))]
+pub fn maybe_u32_word(s: &[u8], at: usize, sep: u8) -> Option<Word<Option<u32>>>
+    ensures { result ≡ maybe_u32_at s.now at sep }
 {
-    let m = maybe_u64_after(s, at, sep);
-    match m {
-        Maybe::Of(value, next) => MaybeWord {
-            some: true,
-            value,
-            next,
-        },
-        Maybe::Nothing(next) => MaybeWord {
-            some: false,
-            value: 0,
-            next,
-        },
-        Maybe::Bad => MaybeWord {
-            some: false,
-            value: 0,
-            next: LOST,
-        },
-    }
+    or_none(mark_after(s, at, sep, b'-'), u32_word(s, at, sep))
 }
 
-pub fn maybe_u32_word(s: &[u8], at: usize, sep: u8) -> MaybeSmallWord
-    ensures { result ≡ maybe_small_word_of (maybe_small_after s.now at sep) }
+// Two numbers with a colon between them; the second is at most `most`.
+#[tactic(auto, unfolding(crate::specs::Words::pair_at))]
+fn pair_word(s: &[u8], at: usize, sep: u8, most: u64) -> Option<Word<(u64, u64)>>
+    ensures { result ≡ pair_at s.now at sep most }
 {
-    let m = maybe_u32_after(s, at, sep);
-    match m {
-        MaybeSmall::Of(value, next) => MaybeSmallWord {
-            some: true,
-            value,
-            next,
-        },
-        MaybeSmall::Nothing(next) => MaybeSmallWord {
-            some: false,
-            value: 0,
-            next,
-        },
-        MaybeSmall::Bad => MaybeSmallWord {
-            some: false,
-            value: 0,
-            next: LOST,
-        },
-    }
+    let first = u64_word(s, at, sep)?;
+    let second = number_after(s, first.next, b':', 10, u128::from(most))?;
+    Some(Word {
+        value: (first.value, second.value as u64),
+        next: second.next,
+    })
 }
 
-// Two numbers with a colon between them, or none; the second is at most `most`.
-pub fn maybe_pair_word(s: &[u8], at: usize, sep: u8, most: u64) -> MaybePair
-    ensures { result ≡ pair_of s.now most (maybe_after s.now at sep 18446744073709551615) }
+#[tactic(auto, unfolding(crate::specs::Words::maybe_pair_at))]
+pub fn maybe_pair_word(s: &[u8], at: usize, sep: u8, most: u64) -> Option<Word<Option<(u64, u64)>>>
+    ensures { result ≡ maybe_pair_at s.now at sep most }
 {
-    let first = maybe_u64_word(s, at, sep);
-    if first.some {
-        let second = numeral(number_after(s, first.next, b':', most));
-        return MaybePair {
-            some: true,
-            first: first.value,
-            second: second.value,
-            next: second.next,
-        };
-    }
-    MaybePair {
-        some: false,
-        first: 0,
-        second: 0,
-        next: first.next,
-    }
+    or_none(mark_after(s, at, sep, b'-'), pair_word(s, at, sep, most))
 }
 
-pub fn flow_word(s: &[u8], at: usize, sep: u8) -> FlowWord
-    ensures { result ≡ flow_word_of (flow_after s.now at sep) }
+// The bits of a manual delay: `M` and a double's in hex.
+#[tactic(auto, unfolding(crate::specs::Words::manual_at))]
+fn manual_word(s: &[u8], at: usize, sep: u8) -> Option<Word<u64>>
+    ensures { result ≡ manual_at s.now at sep }
 {
-    let FlowText::Of(high, low, next) = flow_after(s, at, sep) else {
-        return FlowWord {
-            high: 0,
-            low: 0,
-            next: LOST,
-        };
-    };
-    FlowWord { high, low, next }
+    let from = after(s, at, sep)?;
+    hex_word(s, from, b'M')
 }
 
-pub fn kind_word(s: &[u8], at: usize, sep: u8) -> KindWord
-    ensures { result ≡ kind_word_of (kind_after s.now at sep) }
+// A delay kind: the bits of a manual delay, or `A` for none.
+#[tactic(auto, unfolding(crate::specs::Words::kind_at))]
+pub fn kind_word(s: &[u8], at: usize, sep: u8) -> Option<Word<Option<u64>>>
+    ensures { result ≡ kind_at s.now at sep }
 {
-    let k = kind_after(s, at, sep);
-    match k {
-        KindText::Auto(next) => KindWord {
-            manual: false,
-            bits: 0,
-            next,
-        },
-        KindText::Ms(bits, next) => KindWord {
-            manual: true,
-            bits,
-            next,
-        },
-        KindText::Bad => KindWord {
-            manual: false,
-            bits: 0,
-            next: LOST,
-        },
-    }
-}
-
-fn place(step: Step) -> usize
-    ensures { result ≡ place_of step }
-{
-    let Step::At(next) = step else {
-        return LOST;
-    };
-    next
-}
-
-// The place after this text.
-pub fn text_end(s: &[u8], at: usize, text: &[u8]) -> usize
-    ensures { result ≡ place_of (after_text s.now at text.now) }
-{
-    place(after_text(s, at, text))
-}
-
-// The place after this text, which is a whole word.
-pub fn word_end(s: &[u8], at: usize, text: &[u8]) -> usize
-    ensures { result ≡ place_of (after_word s.now at text.now) }
-{
-    place(after_word(s, at, text))
-}
-
-// This place, if n is below the limit.
-pub fn present(limit: usize, n: usize, next: usize) -> usize
-    ensures { result ≡ below limit n next }
-{
-    if limit <= n {
-        return LOST;
-    }
-    next
+    or_none(mark_after(s, at, sep, b'A'), manual_word(s, at, sep))
 }
