@@ -5,6 +5,13 @@ use Rattle.std.specs.Option.{option_or}
 use Rattle.text_scan.specs.declared.Word.{Word}
 use Rattle.text_scan.specs.Scan.{word, ◌>>=◌, after_byte, number_from}
 
+-- ---- what a reader answered, with the place at which it then stands
+abbrev pub read_as : {A : Type 0} → (next : ℕ) → Option A → Option (Word A)
+read_as next found = option_map (λ value. word value next) found
+
+abbrev pub passed_as : {A : Type 0} → (next : ℕ) → Option A → Option ℕ
+passed_as next found = option_map (λ value. next) found
+
 -- ---- numbers: in base 10 or 16, of at most `most`
 unfoldable pub number_after : (s : List ℕ) (at sep base most : ℕ) → Option (Word ℕ)
 number_after s at sep base most = do
