@@ -12,7 +12,7 @@ use Rattle.text_scan.specs.declared.Word.{Word}
 use Rattle.text_scan.specs.Scan.{word, has_byte, ends_at}
 use Rattle.text_words.specs.Words.{u32_at}
 use Rattle.text_requests.specs.Forms.{space, comma}
-use Rattle.text_requests.specs.Lists.{times, listed, lags_after, cell_at, cells_after, cells_end, row_at, rows_after}
+use Rattle.text_requests.specs.Lists.{times, listed, Lags, lags_after, cell_at, cells_after, cells_end, row_at, rows_after}
 
 left_suc : (n i : ℕ) → i < n → n - i ≡ suc (n - (i + 1))
 left_suc n i h = omega arith
@@ -60,7 +60,7 @@ module _ (s : List ℕ) (n i at : ℕ) (read : List ℕ) where
   lags_end h = rw (left_none n i h)
 
   pub lags_step : i < n → lags_after s (n - i) at read ≡
-      pick (ends_at s at) (Some (word read at)) (option_and_then (λ lag. lags_after s (n - (i + 1)) lag.next (read ++ (lag.value ∷ []))) (u32_at s at space))
+      pick (ends_at s at) (Some (word (record { count = length read; list = read }) at)) (option_and_then (λ lag. lags_after s (n - (i + 1)) lag.next (read ++ (lag.value ∷ []))) (u32_at s at space))
   unfolding lags_after
   lags_step h = rw (left_suc n i h)
 

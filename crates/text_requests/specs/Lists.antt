@@ -140,18 +140,23 @@ pub record HalfPut (place value : ℕ) (before after : List ℕ) : Type 0 where
   pub below : (k : ℕ) → k < place → get_or after k 0 ≡ get_or before k 0
 
 -- ---- the lags: `L`, then each up to the end of the line, after those that were read; they are fewer than the list has room for
-unfoldable pub lags_after : (s : List ℕ) (more at : ℕ) (read : List ℕ) → Option (Word (List ℕ))
-lags_after s zero at read = None
-lags_after s (suc more) at read = pick (ends_at s at) (Some (word read at)) (u32_at s at space >>= λ lag. lags_after s more lag.next (read ++ lag.value ∷ []))
+pub record Lags : Type 0 where
+  pub count : ℕ
+  pub list : List ℕ
 
-unfoldable pub lags_at : (s : List ℕ) (at room : ℕ) → Option (Word (List ℕ))
+unfoldable pub lags_after : (s : List ℕ) (more at : ℕ) (read : List ℕ) → Option (Word Lags)
+lags_after s zero at read = None
+lags_after s (suc more) at read =
+    pick (ends_at s at) (Some (word (record { count = length read; list = read }) at)) (u32_at s at space >>= λ lag. lags_after s more lag.next (read ++ lag.value ∷ []))
+
+unfoldable pub lags_at : (s : List ℕ) (at room : ℕ) → Option (Word Lags)
 lags_at s at room = do
   next ← text_end s at " L"
   lags_after s room next []
 
 -- what was stored: the first so many places of the list
-abbrev pub heard_as : (next : ℕ) (count : Option ℕ) (heard : List ℕ) → Option (Word (List ℕ))
-heard_as next count heard = option_map (λ n. word (take n heard) next) count
+abbrev pub heard_as : (next : ℕ) (count : Option ℕ) (heard : List ℕ) → Option (Word Lags)
+heard_as next count heard = option_map (λ n. word (record { count = n; list = take n heard }) next) count
 
 -- ---- the rows up to the end of the line, with cells of buckets that exist; a line has fewer of either than bytes
 unfoldable pub cells_after : (s : List ℕ) (buckets more at : ℕ) → Option ℕ
