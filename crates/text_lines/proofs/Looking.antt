@@ -7,8 +7,7 @@ use native.Mathlib.Omega.{arith}
 use borrow.Author.Tests.{le-leb, lt-leb, lt-ltb, le-ltb, ne_eqb}
 use lib.ListN.{length, get_or, take, drop}
 use Rattle.base.proofs.Choices.{yes_pick, no_pick}
-use Rattle.text_scan.specs.declared.Step.{Step}
-use Rattle.text_scan.specs.declared.Step.TheVariants.{At, Bad}
+use Rattle.std.specs.Prelude.{Option, None, Some}
 use Rattle.text_scan.specs.Scan.{has_byte, first_from}
 use Rattle.text_scan.proofs.Parts.{first_within}
 use Rattle.text_lines.specs.declared.Cursor.{Cursor}
@@ -36,20 +35,20 @@ module _ (c : Cursor) where
   unfolding unfinished_of
   unfinished_short e h = rw (le-ltb longest (c.to - c.from) (rw e at h))
 
-module _ (s : List ℕ) (c : Cursor) {newline : Step} (e : newline ≡ first_from s c.seen c.to 10) {r : Cursor} where
+module _ (s : List ℕ) (c : Cursor) {newline : Option ℕ} (e : newline ≡ first_from s c.seen c.to 10) {r : Cursor} where
   -- the place after a newline is a place
-  pub look_found : (end : ℕ) {next : ℕ} → newline ≡ At end → c.to < 2 ^ 64 → next ≡ min (end + 1) (2 ^ 64 - 1) → r ≡ found_at c end next → r ≡ look_of s c
+  pub look_found : (end : ℕ) {next : ℕ} → newline ≡ Some end → c.to < 2 ^ 64 → next ≡ min (end + 1) (2 ^ 64 - 1) → r ≡ found_at c end next → r ≡ look_of s c
   unfolding look_of
   look_found end {next} h b n q =
       let within = first_within s c.seen c.to 10 end (sym e ∙ h) in
       let exact : next ≡ end + 1 = omega (arith, within.1) in
       rw (← e, h) (q ∙ ap (found_at c end) exact)
 
-  pub look_ended : newline ≡ Bad → c.ended ≡ true → r ≡ last_of c → r ≡ look_of s c
+  pub look_ended : newline ≡ None → c.ended ≡ true → r ≡ last_of c → r ≡ look_of s c
   unfolding look_of
   look_ended h d q = rw (← e, h) (q ∙ sym (yes_pick (last_of c) (unfinished_of c) d))
 
-  pub look_on : newline ≡ Bad → c.ended ≡ false → r ≡ unfinished_of c → r ≡ look_of s c
+  pub look_on : newline ≡ None → c.ended ≡ false → r ≡ unfinished_of c → r ≡ look_of s c
   unfolding look_of
   look_on h d q = rw (← e, h) (q ∙ sym (no_pick (last_of c) (unfinished_of c) d))
 

@@ -8,8 +8,7 @@ use lib.Dec.{ltb}
 use lib.ListN.{length, get_or, take, drop, length-take, length-drop}
 use lib.Seq.{get_or-take, get_or-drop}
 use Rattle.base.proofs.Choices.{pick_all, by_le}
-use Rattle.text_scan.specs.declared.Step.{Step}
-use Rattle.text_scan.specs.declared.Step.TheVariants.{At, Bad}
+use Rattle.std.specs.Prelude.{Option, None, Some}
 use Rattle.text_scan.specs.Scan.{first_from}
 use Rattle.text_scan.proofs.Parts.{looked_to, first_over}
 use Rattle.text_lines.specs.declared.Cursor.{Cursor}
@@ -60,9 +59,9 @@ look_told s c f = at_step (first_from s c.seen c.to 10)
     goes_on : Told c c.to (unfinished_of c)
     goes_on = pick_all (Told c c.to) (ltb longest (c.to - c.from)) (λ h. absurd (never h)) (λ h. absurd (never h))
 
-    at_step : (step : Step) → Told c (looked_to c.to step) (looked_at c step)
-    at_step (At i) = λ h. (refl, refl)
-    at_step Bad = pick_all (Told c c.to) c.ended left goes_on
+    at_step : (step : Option ℕ) → Told c (looked_to c.to step) (looked_at c step)
+    at_step (Some i) = λ h. (refl, refl)
+    at_step None = pick_all (Told c c.to) c.ended left goes_on
 
 pub no_newline : (s : List ℕ) (c : Cursor) → Clear s c → c.found ≡ false → (look_of s c).found ≡ true → (i : ℕ) → i < length (line_of s (look_of s c)) →
     get_or (line_of s (look_of s c)) i 0 ≡ 10 → ⊥

@@ -1,9 +1,7 @@
 -- Where reading stands in the input buffer, the next line of it, and the line's bytes, the buffer as the list of its bytes. Assumes nothing.
-use Rattle.std.specs.Prelude.{ℕ, ◌+◌, ◌-◌, ◌≤◌, max, Bool, true, false, ◌≡◌, List, [], eqb, leb, ltb, length, take, drop}
+use Rattle.std.specs.Prelude.{ℕ, ◌+◌, ◌-◌, ◌≤◌, max, Bool, true, false, ◌≡◌, List, [], eqb, leb, ltb, length, take, drop, Option, None, Some}
 use Rattle.base.specs.Choice.{pick}
 use Rattle.base.specs.Lists.{shifted}
-use Rattle.text_scan.specs.declared.Step.{Step}
-use Rattle.text_scan.specs.declared.Step.TheVariants.{At, Bad}
 use Rattle.text_scan.specs.Scan.{has_byte, first_from}
 use Rattle.text_lines.specs.declared.Cursor.{Cursor}
 
@@ -42,9 +40,9 @@ unfoldable pub unfinished_of : Cursor → Cursor
 unfinished_of c = pick (ltb longest (c.to - c.from)) (dropped_all c) (seen_all c)
 
 -- the line ends before its newline, where there is one
-abbrev pub looked_at : (c : Cursor) → Step → Cursor
-looked_at c (At end) = found_at c end (end + 1)
-looked_at c Bad = pick c.ended (last_of c) (unfinished_of c)
+abbrev pub looked_at : (c : Cursor) → Option ℕ → Cursor
+looked_at c (Some end) = found_at c end (end + 1)
+looked_at c None = pick c.ended (last_of c) (unfinished_of c)
 
 -- the first newline (10) of what was read and not yet looked at ends the line
 unfoldable pub look_of : (s : List ℕ) (c : Cursor) → Cursor

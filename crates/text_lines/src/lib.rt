@@ -7,7 +7,7 @@ ghost use Rattle.text_lines.specs.Lines.{at_begin, found_at, last_of, unfinished
 use std::io::{Read, Write};
 use text_print::Out;
 use text_scan::bytes::{part, shift_u8};
-use text_scan::{Step, first};
+use text_scan::first;
 
 // The longest line, without its newline. The input buffer is longer.
 pub const LONGEST: usize = 1_048_576;
@@ -90,8 +90,7 @@ fn unfinished(c: Cursor) -> Cursor
 pub fn look(input: &[u8], c: Cursor) -> Cursor
     ensures { result ≡ look_of input.now c }
 {
-    let newline = first(input, c.seen, c.to, b'\n');
-    if let Step::At(end) = newline {
+    if let Some(end) = first(input, c.seen, c.to, b'\n') {
         return found(c, end, end.saturating_add(1));
     }
     if c.ended {

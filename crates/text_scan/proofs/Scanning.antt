@@ -1,12 +1,12 @@
 -- Where a loop over a line ends, and the bound of a number. Assumes nothing.
-use Rattle.std.specs.Prelude.{◌≡◌, ℕ, ◌≤◌, ◌<◌, List, [], ◌∷◌, min, max, length, drop, None, Some, Option, IfSome}
+use Rattle.std.specs.Prelude.{◌≡◌, ℕ, ◌≤◌, ◌<◌, ◌-◌, List, [], ◌∷◌, min, max, length, drop, None, Some, Option, IfSome}
 use mathlib.Core.Path.{refl, sym, ◌∙◌}
 use native.Mathlib.Omega.{arith}
 use borrow.Author.Tests.{le-ltb, lt-ltb, le-leb}
 use lib.ListN.{drop_of_length-le, length-drop}
 use Rattle.base.proofs.Choices.{lt_rule}
 use Rattle.text_scan.specs.declared.Word.{Word}
-use Rattle.text_scan.specs.Scan.{word, first_of, closed, digits_of}
+use Rattle.text_scan.specs.Scan.{word, first_of, digit_of, closed, digits_of}
 
 -- no byte from `to` on is looked at, and there is none from the line's end on
 pub first_end : (s : List ℕ) (to b i : ℕ) {x : Option ℕ} → x ≡ first_of to b i (drop i s) → min to (length s) ≤ i → None ≡ x
@@ -31,3 +31,18 @@ module _ (s : List ℕ) (base most from value i : ℕ) (h : length s ≤ i) (k :
 pub closed_at_most : (from value to most : ℕ) {w : Option (Word ℕ)} → w ≡ closed from value to → value ≤ most → IfSome w (λ w. w.value ≤ most)
 unfolding closed
 closed_at_most from value to most e h = rw e (lt_rule from to (Some (word value to)) None (λ w. IfSome w (λ w. w.value ≤ most)) (λ l. h) (λ l. tt))
+
+-- a number ends after its digits
+pub closed_some : (from value to : ℕ) → from < to → Some (word value to) ≡ closed from value to
+unfolding closed
+closed_some from value to h = rw (lt-ltb from to h)
+
+-- ---- a digit of the base
+module _ (b base : ℕ) where
+  pub digit_decimal : 48 ≤ b → b < 58 → b - 48 < base → Some (b - 48) ≡ digit_of b base
+  unfolding digit_of
+  digit_decimal h k l = rw (le-ltb b 48 h, lt-ltb b 58 k, lt-ltb (b - 48) base l)
+
+  pub digit_letter : 97 ≤ b → b < 103 → b - 87 < base → Some (b - 87) ≡ digit_of b base
+  unfolding digit_of
+  digit_letter h k l = rw (le-ltb b 48 (omega arith), le-ltb b 58 (omega arith), le-ltb b 97 h, lt-ltb b 103 k, lt-ltb (b - 87) base l)
