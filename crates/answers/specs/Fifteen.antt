@@ -6,14 +6,14 @@ use Rattle.std.specs.Float.Ieee.{round}
 use Rattle.buckets.specs.Ranges.{buckets_of}
 use Rattle.doubles.specs.Doubles.{ms_of, samples_of}
 use Rattle.policy.specs.declared.DelayPolicy.{DelayPolicy}
-use Rattle.policy.specs.declared.Need.TheVariants as Need
+use Rattle.policy.specs.Need as Need
 use Rattle.policy.specs.Need.{need_reply}
-use Rattle.rules_window.specs.declared.Quantile.{Quantile}
-use Rattle.rules_window.specs.declared.Quantile.TheVariants.{End}
+use Rattle.rules_window.specs.Quantile.{Quantile}
+use Rattle.rules_window.specs.Quantile.{End}
 use Rattle.rules_window.specs.Quantile.{thousandths}
 use Rattle.rules_window.specs.Checks as window
-use Rattle.delay_hold.specs.declared.Answer.{Answer}
-use Rattle.delay_hold.specs.declared.Answer.TheVariants.{Kept, Changed}
+use Rattle.delay_hold.specs.Checks.{Answer}
+use Rattle.delay_hold.specs.Checks.{Kept, Changed}
 use Rattle.delay_hold.specs.Next.{Held}
 use Rattle.delay_hold.specs.Checks as hold
 

@@ -11,13 +11,13 @@ use Rattle.buckets.proofs.Told.{reaches_yes, ranges_told}
 use Rattle.policy.specs.declared.DelayPolicy.{DelayPolicy}
 use Rattle.policy.specs.Settings.{Sound}
 use Rattle.policy.proofs.Checks.{allowed_sound, allowed_times}
-use Rattle.delay_hold.specs.declared.Answer.TheVariants.{Kept, Changed, Refused}
+use Rattle.delay_hold.specs.Checks.{Kept, Changed, Refused}
 use Rattle.delay_hold.specs.declared.DelayHold.{DelayHold}
 use Rattle.delay_hold.specs.declared.Next.{Next}
 use Rattle.delay_hold.specs.Step4Peaks.{most_peaks}
 use Rattle.delay_hold.specs.Next.{Held, held, Decided, decided, next_of, one_millisecond, always_lower, fresh_hold, cleared_hold}
 use Rattle.delay_hold.specs.Whole.{peak_most}
-use Rattle.delay_hold.specs.Checks.{lists_fit, new_number, NewReply, new_reply, settings_number, held_number, next_number, next_answer, number_of, value_of, left_hold, reply_of, next_reply, AskedFor, Asked}
+use Rattle.delay_hold.specs.Checks.{Answer, changed_to, lists_fit, new_number, NewReply, new_reply, settings_number, held_number, next_number, next_answer, number_of, value_of, left_hold, reply_of, next_reply, AskedFor, Asked}
 
 pub lists_long : (s : Held) → lists_fit s ≡ true → (length s.times ≡ most_peaks) × (length s.lags ≡ most_peaks)
 unfolding lists_fit
@@ -132,11 +132,12 @@ module _ (policy : DelayPolicy) (width : ℕ) (s : Held) (p999 : Option ℕ) (cu
       next_done : reply_of 0 s (decided r ts ls) ≡ next_reply policy width s p999 largest current time
       next_done = ap (reply_of 0 s) done ∙ next_by {n = 0} (sym zero_is ∙ n-is)
 
-      pub next_kept : r.change ≡ None → left_hold Kept r.hold ts ls ≡ next_reply policy width s p999 largest current time
-      next_kept e = ap (λ (c : Option ℕ). left_hold (next_answer 0 c) r.hold ts ls) (sym e) ∙ next_done
-
-      pub next_changed : (d : ℕ) → r.change ≡ Some d → left_hold (Changed d) r.hold ts ls ≡ next_reply policy width s p999 largest current time
-      next_changed d e = ap (λ (c : Option ℕ). left_hold (next_answer 0 c) r.hold ts ls) (sym e) ∙ next_done
+      pub next_told : left_hold (changed_to r.change) r.hold ts ls ≡ next_reply policy width s p999 largest current time
+      next_told = ap (λ (a : Answer). left_hold a r.hold ts ls) (answer_of r.change) ∙ next_done
+        where
+          answer_of : (c : Option ℕ) → changed_to c ≡ next_answer 0 c
+          answer_of None = refl
+          answer_of (Some d) = refl
 
     -- the answer has document 01's number, and changes nothing where that is not 0
     pub reply_number : number_of (next_reply policy width s p999 largest current time).answer ≡ next_number policy width s p999 current time

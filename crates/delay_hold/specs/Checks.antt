@@ -1,14 +1,14 @@
 -- The checks of `new` and of `next` alone (document 01's, with document 02's 17 and 18), the answers, and what each call leaves. Assumes nothing.
-use Rattle.std.specs.Prelude.{◌≡◌, ℕ, zero, suc, ◌≤◌, Bool, true, List, length, ◌==◌, nat_le, None, Option, Some}
+use Rattle.std.specs.Prelude.{Result, Ok, Err, ◌≡◌, ℕ, zero, suc, ◌≤◌, Bool, true, List, length, ◌==◌, nat_le, None, Option, Some}
 use Rattle.base.specs.Choice.{ask, both, accepted}
 use Rattle.base.specs.Limits.{nanos, span_limit, timely, width_limit}
 use Rattle.buckets.specs.Ranges.{ranges_number}
 use Rattle.policy.specs.declared.DelayPolicy.{DelayPolicy}
 use Rattle.policy.specs.Settings.{times_allowed, margins_allowed, Sound}
-use Rattle.delay_hold.specs.declared.Answer.{Answer}
-use Rattle.delay_hold.specs.declared.Answer.TheVariants.{Kept, Changed, Refused}
+use Rattle.refusals.specs.declared.Refusal.{Refusal}
+use Rattle.refusals.specs.Numbers as refusals
+use Rattle.delay_hold.specs.declared.Next.{Next}
 use Rattle.delay_hold.specs.declared.DelayHold.{DelayHold}
-use Rattle.delay_hold.specs.declared.NewHold.{NewHold}
 use Rattle.delay_hold.specs.Step4Peaks.{most_peaks}
 use Rattle.delay_hold.specs.Next.{Held, held, Decided, next_of, fresh_hold, cleared_hold, one_millisecond, always_lower}
 use Rattle.delay_hold.specs.Whole.{peak_most, whole_hold}
@@ -26,8 +26,8 @@ pub record NewReply : Type 0 where
   pub number : ℕ
   pub held : Held
 
-abbrev pub new_left : (r : NewHold) (times lags : List ℕ) → NewReply
-new_left r times lags = record { number = r.number; held = held r.hold times lags }
+abbrev pub new_left : Result DelayHold Refusal → (times lags : List ℕ) → NewReply
+new_left result times lags = record { number = refusals.number_in result; held = held (refusals.value_in fresh_hold result) times lags }
 
 unfoldable pub new_reply : (times lags : List ℕ) → NewReply
 new_reply times lags =
@@ -61,6 +61,12 @@ unfoldable pub next_number : (policy : DelayPolicy) (width : ℕ) (s : Held) (p9
 next_number policy width s p999 current time =
     accepted (settings_number policy width) (settings_number policy width) (held_number policy width s p999 current time)
 
+-- the answer of `next`: the delay is kept, or changed to so many samples, or the number of the check that refuses
+pub data Answer : Type 0 where
+  Kept : Answer
+  Changed : ℕ → Answer
+  Refused : ℕ → Answer
+
 -- the answer for a number and a change
 abbrev pub next_answer : ℕ → (change : Option ℕ) → Answer
 next_answer zero None = Kept
@@ -83,8 +89,22 @@ pub record Reply : Type 0 where
   pub answer : Answer
   pub held : Held
 
+-- .. of a change, and of each case of what `next` gives
+abbrev pub changed_to : Option ℕ → Answer
+changed_to None = Kept
+changed_to (Some delay) = Changed delay
+
+abbrev pub told : Result (Option ℕ) Refusal → Answer
+told (Ok change) = changed_to change
+told (Err refusal) = Refused (refusals.number_of refusal)
+
 abbrev pub left_hold : (r : Answer) (h : DelayHold) (times lags : List ℕ) → Reply
 left_hold r h times lags = record { answer = r; held = held h times lags }
+
+-- .. of each case of what `decide_next` gives, and of the hold as it came
+abbrev pub left_next : (came : DelayHold) → Result Next Refusal → (times lags : List ℕ) → Reply
+left_next came (Ok next) times lags = left_hold (changed_to next.change) next.hold times lags
+left_next came (Err refusal) times lags = left_hold (Refused (refusals.number_of refusal)) came times lags
 
 -- the reply for a number and what was decided
 abbrev pub reply_of : (number : ℕ) (s : Held) (d : Decided) → Reply

@@ -41,8 +41,8 @@ pub fn fresh() -> DelayHold
 pub fn cleared(times: &mut [u64], lags: &mut [u32]) -> DelayHold
     ensures { held result times.new lags.new ≡ cleared_hold (held fresh_hold times.old lags.old) }
 {
-    base::zero_u64(times);
-    base::zero_u32(lags);
+    times.fill(0);
+    lags.fill(0);
     fresh()
 }
 

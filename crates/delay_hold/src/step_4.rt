@@ -66,7 +66,7 @@ pub(crate) fn peaks_next(
         × (lags.new ≡ padded most_peaks (lags_after (take n times.old) (take n lags.old) lag window time)) }
 {
     let k = count_old(times, n, window, time);
-    base::shift_u64(times, k);
-    base::shift_u32(lags, k);
+    base::shift(times, k, 0);
+    base::shift(lags, k, 0);
     join(times, lags, n - k, lag, time)
 }

@@ -62,16 +62,17 @@ impl DelayHold {
         if policy.window <= base::inner::span(n, times) {
             return false;
         }
-        if !base::blank_u64(times, n) {
+        if !base::blank(times, n) {
             return false;
         }
-        if !base::blank_u32(lags, n) {
+        if !base::blank(lags, n) {
             return false;
         }
-        if !base::inner::up_to_u32(policy.read_offset + policy.delay_max + width, n, lags) {
+        let most = policy.read_offset + policy.delay_max + width;
+        if !lags[..n].iter().all(|lag| *lag <= most) {
             return false;
         }
-        base::inner::up_to_u64(base::TIME_LIMIT, n, times)
+        times[..n].iter().all(|at| *at <= base::TIME_LIMIT)
     }
 
     // The seed, the timer and the other times.

@@ -6,7 +6,7 @@ use Rattle.policy.specs.declared.DelayPolicy.{DelayPolicy}
 use Rattle.delay_hold.specs.declared.Seed.{Seed}
 use Rattle.delay_hold.specs.declared.LowerTimer.{LowerTimer}
 use Rattle.delay_hold.specs.declared.DelayHold.{DelayHold}
-use Rattle.delay_hold.specs.declared.Answer.TheVariants.{Refused}
+use Rattle.delay_hold.specs.Checks.{Refused}
 use Rattle.delay_hold.specs.Steps5To8.{timer_off}
 use Rattle.delay_hold.specs.Next.{Held, held, Decided, next_of, fresh_hold, one_millisecond, always_lower}
 use Rattle.delay_hold.specs.Checks.{new_reply, next_number, next_reply}

@@ -5,7 +5,7 @@ use lib.Ieee.{Float}
 use Rattle.base.specs.Limits.{nanos}
 use Rattle.base.specs.Lists.{part}
 use Rattle.lag_window.specs.declared.LagWindow.{LagWindow}
-use Rattle.rules_window.specs.declared.Quantile.{Quantile}
+use Rattle.rules_window.specs.Quantile.{Quantile}
 use Rattle.base.specs.Rows.{span_of}
 use Rattle.rules_window.specs.ColumnSums.{as_one_second}
 use Rattle.rules_window.specs.Quantile.{quantile_upto, thousandths}

@@ -16,7 +16,6 @@ ghost use Rattle.rules_tick.specs.InputReady.{P999Asked, AutoAsked};
 use delay_hold::{DelayHold, Next};
 use policy::DelayPolicy;
 use rules_record::{Inputs, Sent, Slot};
-use rules_window::Quantile;
 
 // How long the seconds of lags must span before the first automatic setting.
 const MIN_LAG_SECONDS: u64 = 1;
@@ -87,7 +86,7 @@ fn p999(inputs: Inputs, slot: Slot, i: usize, starts: &[u64], sums: &[u64]) -> O
     }
     let limit = policy.read_offset + policy.delay_max;
     let quantile = inputs_window::inner::quantile_upto(window, i, 0.999, limit, sums);
-    let Quantile::End(end) = quantile else {
+    let Some(end) = quantile else {
         return None;
     };
     Some(end)

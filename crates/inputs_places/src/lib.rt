@@ -3,10 +3,9 @@
 
 ghost use Rattle.std.specs.Prelude.{◌≡◌, true, ltb};
 ghost use Rattle.base.specs.Choice.{pick};
-ghost use Rattle.delay_hold.specs.Whole.{moment_timely};
 ghost use Rattle.rules_record.specs.WholePlaces.{proposal_fits, route_fits, whole_slot, never_yet, no_seed, no_route, no_inode, no_proposal, no_delay, unused_timer, unused_hold, unused_parts, unused_numbers, unused_slot, unused_entry, entries_fit, whole_flows, unused_key, keys_fit, whole_instances};
 
-use delay_hold::{DelayHold, LowerTimer, Seed};
+use delay_hold::{DelayHold, LowerTimer, Seed, moment_timely};
 use rules_record::{FlowEntry, Inputs, Instance, Route, Slot, State};
 
 // Counters stay below this: 2^63.
@@ -32,16 +31,6 @@ fn route_fits(to: Option<Route>, state: State, n: usize) -> bool
         return false;
     }
     1 <= inputs_slots::code(state)
-}
-
-// No time, or one within check 8.
-fn moment_fits(moment: Option<u64>) -> bool
-    ensures { result ≡ moment_timely moment }
-{
-    let Some(time) = moment else {
-        return true;
-    };
-    time <= base::TIME_LIMIT
 }
 
 pub fn whole_slot(maximum: u32, n: usize, slot: Slot) -> bool
@@ -71,12 +60,10 @@ pub fn whole_slot(maximum: u32, n: usize, slot: Slot) -> bool
     if base::TIME_LIMIT < slot.head_changed {
         return false;
     }
-    let last_set = slot.last_set;
-    if !moment_fits(last_set) {
+    if !moment_timely(slot.last_set) {
         return false;
     }
-    let last_input = slot.last_input;
-    moment_fits(last_input)
+    moment_timely(slot.last_input)
 }
 
 fn never_yet(moment: Option<u64>) -> bool

@@ -23,7 +23,7 @@ use Rattle.base.proofs.Blocks.{block_within}
 use Rattle.base.specs.Limits.{width_limit, buckets_limit}
 use Rattle.rules_record.specs.Facts.{OwnSums, Checked}
 use Rattle.rules_record.proofs.Shapes.{window_sound, window_sums, sums_within, held_lags}
-use Rattle.rules_calls.specs.declared.InputStatus.{InputStatus}
+use Rattle.rules_calls.specs.Status.{StatusReply}
 use Rattle.rules_calls.specs.Status.{source_of, channels_shown, proposed_ms, arrival_in, worst_ms, status_for, status_of}
 use Rattle.rules_calls.proofs.StatusShows.{arrival_row}
 use Rattle.inputs_status.specs.StatusAsked.{Countable}
@@ -82,7 +82,7 @@ module _ (s : Inputs) (l : Lists) (i applied channels : ℕ) {slot : Slot} (is-s
       → extra ≡ ms_of applied
       → effective ≡ ms_of (s.policy.read_offset + applied)
       → last ≡ ms_of slot.last_lag
-      → ◌≡◌ {A = InputStatus}
+      → ◌≡◌ {A = StatusReply}
       (record {
         number = 0;
         state = code;

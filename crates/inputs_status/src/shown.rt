@@ -1,19 +1,19 @@
 // What a status shows of one input, for a record and lists that the checks let through.
 ghost use Rattle.std.specs.Prelude.{◌≡◌, ℕ, ◌*◌, ◌≤◌, List, length};
 ghost use Rattle.base.specs.Lists.{part};
+ghost use Rattle.rules_window.specs.Quantile.{found};
 ghost use Rattle.rules_window.specs.ColumnSums.{as_one_second};
 ghost use Rattle.rules_record.specs.Inputs.{slot_at};
 ghost use Rattle.rules_record.specs.Lent.{lists};
 ghost use Rattle.rules_record.specs.Facts.{OwnSums};
-ghost use Rattle.rules_calls.specs.Status.{source_of, channels_shown, proposed_ms, lag_in_ms, worst_ms, arrival_of, arrival_in, status_of};
+ghost use Rattle.rules_calls.specs.Status.{source_of, channels_shown, proposed_ms, lag_in_ms, worst_ms, arrival_of, arrival_in, shown, status_of};
 ghost use Rattle.inputs_status.specs.StatusAsked.{Countable, Showable};
 
 use delay_hold::DelayHold;
 use doubles::ms;
 use lag_window::LagWindow;
 use rules_calls::{ArrivalLag, InputStatus, Source};
-use rules_record::{Inputs, Slot, State, Route};
-use rules_window::Quantile;
+use rules_record::{Inputs, Route, Slot, State};
 
 // No lag is above this: a quantile without a limit.
 const NO_LIMIT: u32 = 4_294_967_295;
@@ -73,24 +73,14 @@ fn worst_ms(slot: Slot, peaks: &[u32]) -> Option<f64>
 }
 
 // The quantiles, where all three are there.
-fn arrival_of(half: Quantile, high: Quantile, highest: Quantile) -> Option<ArrivalLag>
-    ensures { result ≡ arrival_of half high highest }
+fn arrival_of(half: Option<u32>, high: Option<u32>, highest: Option<u32>) -> Option<ArrivalLag>
+    ensures { result ≡ arrival_of (found half) (found high) (found highest) }
 {
-    let Quantile::End(p50) = half else {
-        return None;
-    };
-    let Quantile::End(p99) = high else {
-        return None;
-    };
-    let Quantile::End(p999) = highest else {
-        return None;
-    };
-    let lag = ArrivalLag {
-        p50: ms(p50),
-        p99: ms(p99),
-        p999: ms(p999),
-    };
-    Some(lag)
+    Some(ArrivalLag {
+        p50: ms(half?),
+        p99: ms(high?),
+        p999: ms(highest?),
+    })
 }
 
 // The quantiles of the lags of input i, without a limit, by its row of sums alone.
@@ -114,7 +104,7 @@ pub(crate) fn status(
     peaks: &[u32],
 ) -> InputStatus
     requires { Showable inputs i applied sums.now peaks.now }
-    ensures { (starts totals counts times : List ℕ) → OwnSums inputs (lists starts totals counts sums.now times peaks.now) i (slot_at inputs i) → result ≡ status_of inputs (lists starts totals counts sums.now times peaks.now) i applied channels }
+    ensures { (starts totals counts times : List ℕ) → OwnSums inputs (lists starts totals counts sums.now times peaks.now) i (slot_at inputs i) → shown result ≡ status_of inputs (lists starts totals counts sums.now times peaks.now) i applied channels }
 {
     let slot = inputs_slots::slot_at(inputs, i);
     let policy = inputs.policy;
@@ -131,8 +121,7 @@ pub(crate) fn status(
     let worst_lag_ms = worst_ms(slot, &peaks[from..end]);
     let proposed_delay_ms = proposed_ms(proposed);
     InputStatus {
-        number: 0,
-        state: inputs_slots::code(state),
+        state,
         source,
         channels: channels_shown(state, channels),
         extra_delay,

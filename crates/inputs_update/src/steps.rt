@@ -37,7 +37,7 @@ pub(crate) fn delay_set(
     requires { (3 ≤ length commands.old) × (i < 16) }
     ensures { (result ≡ (delay_set i slot delay time inputs).inputs) × (commands.new ≡ padded (length commands.old) (delay_set i slot delay time inputs).words) }
 {
-    base::zero_u32(commands);
+    commands.fill(0);
     let all = inputs_slots::put_slot(inputs, i, slot);
     let sent = inputs_set_delay::inner::set_delay(all, i, delay, time, commands, 0);
     sent.inputs

@@ -5,7 +5,7 @@ ghost use Rattle.std.specs.Prelude.{◌≡◌};
 ghost use Rattle.rules_routing.specs.Watch.{moved_slot, stalls_now};
 ghost use Rattle.inputs_watch.specs.WatchInPlace.{found_by};
 
-use rules_record::{Slot, State, Route};
+use rules_record::{Route, Slot, State};
 
 pub mod inner;
 
@@ -20,7 +20,13 @@ pub enum Found {
 }
 
 // What is found of a flow, by the inode and the head that are seen and those that are stored.
-pub fn finds(to: Option<Route>, seen: Option<u64>, stored: Option<u64>, last_head: u64, head: u64) -> Found
+pub fn finds(
+    to: Option<Route>,
+    seen: Option<u64>,
+    stored: Option<u64>,
+    last_head: u64,
+    head: u64,
+) -> Found
     ensures { result ≡ found_by to seen stored last_head head }
 {
     let Some(_) = to else {

@@ -9,7 +9,7 @@ use Rattle.base.specs.Limits.{time_limit}
 use Rattle.base.proofs.Choices.{yes_ask, yes_pick, refused_old}
 use Rattle.base.proofs.Points.{both_true, true_both}
 use Rattle.doubles.specs.Doubles.{ms_of}
-use Rattle.rules_window.specs.declared.Quantile.{Quantile}
+use Rattle.rules_window.specs.Quantile.{Quantile}
 use Rattle.rules_window.specs.Window.{Window}
 use Rattle.rules_window.specs.WholeWindow.{Sound}
 use Rattle.rules_window.specs.Quantile.{quantile_in, quantile_of, total_upto, thousandths}

@@ -5,7 +5,7 @@ use mathlib.Core.Path.{◌≡◌, refl, sym, ap, ◌∙◌}
 use mathlib.Core.List.{List}
 use lib.Ieee.{Float}
 use Rattle.doubles.specs.Doubles.{ms_of}
-use Rattle.rules_window.specs.declared.Quantile.{Quantile}
+use Rattle.rules_window.specs.Quantile.{Quantile}
 use Rattle.rules_window.specs.Window.{Window}
 use Rattle.rules_window.specs.Quantile.{quantile_of, thousandths}
 use Rattle.rules_window.specs.ColumnSums.{column_sums, as_one_second}
@@ -20,17 +20,17 @@ use Rattle.rules_calls.specs.Status.{source_of, arrival_by, arrival_with, arriva
 -- the other arm of `let .. else`: a quantile whose tag is not that of an end
 pub none_first : (half high highest : Quantile) → ((end : ℕ) → half ≡ Quantile.End end → ⊥) → None ≡ arrival_of half high highest
 none_first (Quantile.End end) high highest k = absurd (k end refl)
-none_first Quantile.None high highest k = refl
+none_first Quantile.NoLags high highest k = refl
 none_first (Quantile.Refused number) high highest k = refl
 
 none_with : (p50 : ℕ) (high highest : Quantile) → ((end : ℕ) → high ≡ Quantile.End end → ⊥) → None ≡ arrival_with p50 high highest
 none_with p50 (Quantile.End end) highest k = absurd (k end refl)
-none_with p50 Quantile.None highest k = refl
+none_with p50 Quantile.NoLags highest k = refl
 none_with p50 (Quantile.Refused number) highest k = refl
 
 none_by : (p50 p99 : ℕ) (highest : Quantile) → ((end : ℕ) → highest ≡ Quantile.End end → ⊥) → None ≡ arrival_by p50 p99 highest
 none_by p50 p99 (Quantile.End end) k = absurd (k end refl)
-none_by p50 p99 Quantile.None k = refl
+none_by p50 p99 Quantile.NoLags k = refl
 none_by p50 p99 (Quantile.Refused number) k = refl
 
 module _ (half high highest : Quantile) {p50 : ℕ} (is-half : half ≡ Quantile.End p50) where

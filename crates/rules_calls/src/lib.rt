@@ -2,7 +2,7 @@
 // No code: the code that is proved equal to them stands in the crates inputs_new, inputs_route, inputs_update and inputs_status.
 #![tactic(auto)]
 
-use rules_record::{AutoTag, ExtraDelay, Flow};
+use rules_record::{AutoTag, ExtraDelay, Flow, State};
 
 // A flow in a domain.
 #[derive(Clone, Copy)]
@@ -19,11 +19,10 @@ pub struct ArrivalLag {
     pub p999: f64,
 }
 
-// The status of one input. In every answer an accepted call has number 0; a refused one has the number of its check and a zero value.
+// The status of one input.
 #[derive(Clone, Copy)]
 pub struct InputStatus {
-    pub number: u32,
-    pub state: u32,
+    pub state: State,
     pub source: Option<Source>,
     pub channels: u32,
     pub extra_delay: ExtraDelay,
@@ -38,13 +37,6 @@ pub struct InputStatus {
     pub delay_changes: u64,
     pub late_events: u64,
     pub reopens: u64,
-}
-
-// Yes or no.
-#[derive(Clone, Copy)]
-pub struct Answer {
-    pub number: u32,
-    pub value: bool,
 }
 
 // What `update` is given: automatic, or a manual delay in milliseconds, sent by the scoring program (Ms) or by the listening desk (Desk). The record keeps no sender.

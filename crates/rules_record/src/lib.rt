@@ -118,10 +118,3 @@ pub enum Output {
     Words(usize),
     Bytes(usize, usize),
 }
-
-// The number of the first check that says no, or 0, and the record.
-#[derive(Clone, Copy)]
-pub struct InputsAnswer {
-    pub number: u32,
-    pub inputs: Inputs,
-}

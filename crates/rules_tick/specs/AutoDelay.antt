@@ -2,7 +2,7 @@
 use Rattle.std.specs.Prelude.{ℕ, ◌+◌, Bool, ◌≡◌, leb, None, Option, Some}
 use Rattle.base.specs.Choice.{pick, both}
 use Rattle.base.specs.Limits.{nanos}
-use Rattle.rules_window.specs.declared.Quantile.{Quantile}
+use Rattle.rules_window.specs.Quantile.{Quantile}
 use Rattle.base.specs.Rows.{span_of}
 use Rattle.rules_window.specs.Window.{Window}
 use Rattle.rules_window.specs.Quantile.{quantile_upto, thousandths}
@@ -27,7 +27,7 @@ reach_of policy = policy.read_offset + policy.delay_max
 -- a quantile, where there is one, as a lag
 abbrev pub quantile_lag : Quantile → Option ℕ
 quantile_lag (Quantile.End end) = Some end
-quantile_lag Quantile.None = None
+quantile_lag Quantile.NoLags = None
 quantile_lag (Quantile.Refused number) = None
 
 -- "p999 is 0.999 up to offset + maximum where span is at least 1 s"

@@ -18,10 +18,9 @@ pub struct Look {
     pub lags: usize,
 }
 
-// The number of the first check that says no, or 0, and the record; and whether the table of remembered delays is to be saved.
+// The record after a tick, and whether the table of remembered delays is to be saved.
 #[derive(Clone, Copy)]
-pub struct TickAnswer {
-    pub number: u32,
+pub struct Ticked {
     pub inputs: Inputs,
     pub unsaved: bool,
 }

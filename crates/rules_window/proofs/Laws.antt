@@ -19,7 +19,7 @@ use Rattle.base.proofs.Choices.{by_le, by_bool, no_pick, yes_pick}
 use Rattle.base.proofs.Points.{zeros_at, sum_at_le}
 use Rattle.doubles.specs.Quantile as places
 use Rattle.doubles.proofs.Places.{place_at_least, place_at_most}
-use Rattle.rules_window.specs.declared.Quantile.TheVariants.{End, None as no_quantile}
+use Rattle.rules_window.specs.Quantile.{End, NoLags}
 use Rattle.base.specs.Rows.{span_of}
 use Rattle.base.specs.Limits.{nanos, time_limit, width_limit, buckets_limit, window_reach}
 use Rattle.rules_window.specs.Window.{Window, fresh, cleared, opens, counted, pushed, pushed_all}
@@ -234,7 +234,7 @@ module _ (q : Float) (limit : ℕ) (w : Window) where
           let k = within_some limit w.width w.buckets w.seconds w.counts b (omega (arith, first.0, first.1, more)) in
           record { inside = omega (arith, found_below target limit w.width w.buckets w.seconds w.counts w.buckets 0 b f); shown = k.0; some = k.1 }
 
-      go : (y : Bool) (f : Option ℕ) → reach target limit w.width w.buckets w.seconds w.counts w.buckets 0 ≡ f → pick y no_quantile (end_of w.width f) ≡ End e → (b : ℕ) × ((Holds limit w b) × (e ≡ (b + 1) * w.width))
+      go : (y : Bool) (f : Option ℕ) → reach target limit w.width w.buckets w.seconds w.counts w.buckets 0 ≡ f → pick y NoLags (end_of w.width f) ≡ End e → (b : ℕ) × ((Holds limit w b) × (e ≡ (b + 1) * w.width))
       go true f r k = let z : ◌≡◌ {A = ℕ} 0 1 = cc in absurd (omega arith)
       go false (Some b) r k = (b, (holds b r, cc))
       go false None r k = let z : ◌≡◌ {A = ℕ} 0 1 = cc in absurd (omega arith)
@@ -267,18 +267,18 @@ module _ (q : Float) (limit : ℕ) (w : Window) where
       ((found.0 + 1) * w.width, rw (ne_eqb (total_upto limit w) 0 (λ z. omega arith), is))
 
   -- and is none exactly where none does
-  pub quantile_none : Placeable q limit w → quantile_upto q limit w ≡ no_quantile → (b : ℕ) → Holds limit w b → ⊥
+  pub quantile_none : Placeable q limit w → quantile_upto q limit w ≡ NoLags → (b : ℕ) → Holds limit w b → ⊥
   quantile_none p e b h =
       let some = quantile_exists p b h in
       let f = some.1 in
       let z : ◌≡◌ {A = ℕ} 0 1 = cc in
       omega arith
 
-  pub quantile_cases : (quantile_upto q limit w ≡ no_quantile) ⊎ ((e : ℕ) × (quantile_upto q limit w ≡ End e))
+  pub quantile_cases : (quantile_upto q limit w ≡ NoLags) ⊎ ((e : ℕ) × (quantile_upto q limit w ≡ End e))
   unfolding quantile_in
   quantile_cases = go (eqb (total_upto limit w) 0) (reach (places.target_of (total_upto limit w) q) limit w.width w.buckets w.seconds w.counts w.buckets 0)
     where
-      go : (y : Bool) (f : Option ℕ) → (pick y no_quantile (end_of w.width f) ≡ no_quantile) ⊎ ((e : ℕ) × (pick y no_quantile (end_of w.width f) ≡ End e))
+      go : (y : Bool) (f : Option ℕ) → (pick y NoLags (end_of w.width f) ≡ NoLags) ⊎ ((e : ℕ) × (pick y NoLags (end_of w.width f) ≡ End e))
       go true f = inl refl
       go false (Some b) = inr ((b + 1) * w.width, refl)
       go false None = inl refl

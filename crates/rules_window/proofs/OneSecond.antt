@@ -11,7 +11,7 @@ use Rattle.base.specs.Choice.{pick}
 use Rattle.base.specs.Lists.{sum}
 use Rattle.base.proofs.Points.{sum_cong}
 use Rattle.doubles.specs.Quantile as places
-use Rattle.rules_window.specs.declared.Quantile.TheVariants.{None as no_quantile}
+use Rattle.rules_window.specs.Quantile.{NoLags}
 use Rattle.rules_window.specs.Window.{Window}
 use Rattle.rules_window.specs.Quantile.{column, within, running, reach, end_of, quantile_in, quantile_upto, lags_in, total_upto, Placeable}
 use Rattle.rules_window.specs.ColumnSums.{column_sums, as_one_second}
@@ -61,4 +61,4 @@ module _ (w : Window) where
     same_quantile q =
         let t = same_total in
         let r : (n : ℕ) → reached summed_up (places.target_of n q) w.buckets 0 ≡ reached w (places.target_of n q) w.buckets 0 = λ n. same_reach (places.target_of n q) w.buckets 0 (omega arith) in
-        (λ i. pick (eqb (t i) 0) no_quantile (end_of w.width (r (t i) i)))
+        (λ i. pick (eqb (t i) 0) NoLags (end_of w.width (r (t i) i)))

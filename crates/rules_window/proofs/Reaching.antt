@@ -16,7 +16,7 @@ use Rattle.base.proofs.Choices.{by_le, no_pick, yes_pick}
 use Rattle.base.proofs.All.{sum_none, sum_more, sum_end}
 use Rattle.base.proofs.Points.{sum_cong}
 use Rattle.doubles.specs.Quantile as places
-use Rattle.rules_window.specs.declared.Quantile.TheVariants.{End, None as no_quantile}
+use Rattle.rules_window.specs.Quantile.{End, NoLags}
 use Rattle.rules_window.specs.Quantile.{column, within, running, reach, end_of, quantile_in}
 use Rattle.rules_window.proofs.Sums.{sum_split, sum_rises, sum_past}
 use Rattle.rules_window.proofs.OneSecond.{one_column}
@@ -138,7 +138,7 @@ found_below target limit W B n cs (suc d) c b e = go (leb target (running limit 
     go false f g = omega (arith, g f)
 
 module _ (q : Float) (limit W B n : ℕ) (cs : List ℕ) (t : ℕ) (et : t ≡ running limit W B n cs B) where
-  pub quantile_none : t ≡ 0 → no_quantile ≡ quantile_in q limit W B n cs
+  pub quantile_none : t ≡ 0 → NoLags ≡ quantile_in q limit W B n cs
   unfolding quantile_in
   quantile_none z = simp (← et, eq-eqb _ _ z)
 
@@ -150,7 +150,7 @@ module _ (q : Float) (limit W B n : ℕ) (cs : List ℕ) (t : ℕ) (et : t ≡ r
     unfolding quantile_in
     quantile_is z = simp (← et, ne_eqb _ _ z, ← ep, ← ef)
 
-    pub quantile_nowhere : (t ≡ 0 → ⊥) → found ≡ None → no_quantile ≡ quantile_in q limit W B n cs
+    pub quantile_nowhere : (t ≡ 0 → ⊥) → found ≡ None → NoLags ≡ quantile_in q limit W B n cs
     quantile_nowhere z f = ap (end_of W) (sym f) ∙ quantile_is z
 
     pub quantile_end : (t ≡ 0 → ⊥) → (b a : ℕ) → found ≡ Some b → a ≡ (b + 1) * W → End a ≡ quantile_in q limit W B n cs

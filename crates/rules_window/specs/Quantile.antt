@@ -1,13 +1,28 @@
 -- Document 01, "LagWindow": the quantile of the counted lags up to a limit. Assumes nothing.
-use Rattle.std.specs.Prelude.{ℕ, zero, suc, ◌+◌, ◌*◌, List, false, leb, eqb, get_or, Float, None, Option, Some}
+use Rattle.std.specs.Prelude.{ℕ, Result, Ok, Err, zero, suc, ◌+◌, ◌*◌, List, false, leb, eqb, get_or, Float, None, Option, Some}
 use Rattle.std.specs.Float.{binary64}
 use Rattle.std.specs.Float.Ieee.{round}
 use Rattle.base.specs.Choice.{pick}
 use Rattle.base.specs.Lists.{sum}
 use Rattle.doubles.specs.Quantile as places
-use Rattle.rules_window.specs.declared.Quantile.{Quantile}
-use Rattle.rules_window.specs.declared.Quantile.TheVariants.{End, None as no_quantile}
+use Rattle.refusals.specs.declared.Refusal.{Refusal}
+use Rattle.refusals.specs.Numbers as refusals
 use Rattle.rules_window.specs.Window.{Window}
+
+-- the end of the bucket that holds a quantile, none where no lag counts, or the number of the check that refuses
+pub data Quantile : Type 0 where
+  End : ℕ → Quantile
+  NoLags : Quantile
+  Refused : ℕ → Quantile
+
+-- .. of what is found of lags that are counted, and of each case of what a call gives
+abbrev pub found : Option ℕ → Quantile
+found None = NoLags
+found (Some end) = End end
+
+abbrev pub told : Result (Option ℕ) Refusal → Quantile
+told (Ok quantile) = found quantile
+told (Err refusal) = Refused (refusals.number_of refusal)
 
 -- the lags of bucket b in the n seconds
 unfoldable pub column : (buckets b n : ℕ) (counts : List ℕ) → ℕ
@@ -30,13 +45,13 @@ reach target limit width buckets n counts (suc m) b =
 -- "the answer is the end (b + 1) times W"
 abbrev pub end_of : (width : ℕ) → Option ℕ → Quantile
 end_of width (Some b) = End ((b + 1) * width)
-end_of width None = no_quantile
+end_of width None = NoLags
 
 -- "Total 0: none. Else target = total times q as a double, raised to the next whole number, at least 1"
 unfoldable pub quantile_in : (q : Float) (limit width buckets n : ℕ) (counts : List ℕ) → Quantile
 quantile_in q limit width buckets n counts =
     let total = running limit width buckets n counts buckets in
-    pick (eqb total 0) no_quantile (end_of width (reach (places.target_of total q) limit width buckets n counts buckets 0))
+    pick (eqb total 0) NoLags (end_of width (reach (places.target_of total q) limit width buckets n counts buckets 0))
 
 -- k thousandths as a double: "0.5, 0.99 and 0.999"
 unfoldable pub thousandths : ℕ → Float

@@ -1,11 +1,34 @@
 -- Document 01, "Clock helpers": `Schedule`, when a service that did not answer is asked again. Assumes nothing.
-use Rattle.std.specs.Prelude.{ℕ, ◌+◌, ◌*◌, min, Bool, true, false, leb, None, Option, Some}
+use Rattle.std.specs.Prelude.{ℕ, Result, ◌+◌, ◌*◌, min, Bool, true, false, leb, None, Option, Some}
 use Rattle.base.specs.Choice.{both, accepted}
 use Rattle.base.specs.Limits.{nanos, timely_record, call_number}
 use Rattle.sources.specs.declared.Schedule.{Schedule}
-use Rattle.sources.specs.declared.Answer.{Answer}
-use Rattle.sources.specs.declared.Failure.{Failure}
+use Rattle.sources.specs.declared.Failed.{Failed}
+use Rattle.refusals.specs.declared.Refusal.{Refusal}
+use Rattle.refusals.specs.Numbers.{number_in, value_in}
 use Rattle.sources.specs.declared.Down.{Down}
+
+-- what the calls leave, as the papers have it. In every answer an accepted call has number 0; "a no ends it with that number, a zero value, and record .. unchanged"
+pub record Answer : Type 0 where
+  pub number : ℕ
+  pub value : Bool
+
+pub record Failure : Type 0 where
+  pub number : ℕ
+  pub value : ℕ
+  pub schedule : Schedule
+
+-- .. of each case of what a call gives, and of the record as it came
+abbrev pub told : Result Bool Refusal → Answer
+told result = record { number = number_in result; value = value_in false result }
+
+abbrev pub left_failed : (came : Schedule) → Result Failed Refusal → Failure
+left_failed came result =
+    record {
+      number = number_in result;
+      value = (value_in (record { wait = 0; schedule = came }) result).wait;
+      schedule = (value_in (record { wait = 0; schedule = came }) result).schedule;
+    }
 
 -- "waits 5 s at first"
 abbrev pub first_wait : ℕ

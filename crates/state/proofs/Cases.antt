@@ -1,5 +1,6 @@
 -- What each call on a `Coalesce` gives, case by case: each refusal, and each way through. Assumes nothing.
 use Rattle.std.specs.Prelude.{None, Option, Some}
+use Rattle.std.specs.Option.{is_some}
 use Prim.Native.Nat.{ℕ, ◌+◌, ◌≤◌, ◌<◌}
 use mathlib.Core.Bool.{Bool, true, false}
 use mathlib.Core.Path.{◌≡◌, refl, sym, ap, ◌∙◌}
@@ -7,19 +8,17 @@ use borrow.Author.Tests.{le-leb, lt-leb}
 use Rattle.base.proofs.Choices.{yes_ask, no_ask}
 use Rattle.base.specs.Limits.{time_limit, span_limit, call_number}
 use Rattle.base.proofs.Calls.{call_broken, call_late, call_accepted}
-use Rattle.state.specs.Coalesce.{fresh_coalesce, whole_coalesce, due_after_change, changed_number, change_by, changed_of, is_set, record_number, answer_by, pending_of, is_due, taken_by, take_due_of, take_of}
+use Rattle.state.specs.Coalesce.{Change, TakeReply, fresh_coalesce, whole_coalesce, due_after_change, changed_number, change_by, changed_of, is_set, record_number, answer_by, pending_of, is_due, taken_by, take_due_of, take_of}
 use Rattle.state.specs.declared.Coalesce.{Coalesce}
-use Rattle.state.specs.declared.Change.{Change}
-use Rattle.state.specs.declared.Taken.{Taken}
 
 -- the record as it came, a no with it, and a yes that cleared its due time
 abbrev unchanged : ℕ → Coalesce → Change
 unchanged number coalesce = record { number = number; coalesce = coalesce }
 
-abbrev not_taken : ℕ → Coalesce → Taken
+abbrev not_taken : ℕ → Coalesce → TakeReply
 not_taken number coalesce = record { number = number; value = false; coalesce = coalesce }
 
-abbrev cleared : Taken
+abbrev cleared : TakeReply
 cleared = record { number = 0; value = true; coalesce = fresh_coalesce }
 
 -- ---- changed
@@ -56,6 +55,11 @@ module _ (coalesce : Coalesce) (time delay : ℕ) where
             changed_by 0 _ (checked_by 0 (call_accepted time whole timed)) (ap (λ (due : Option ℕ). due_after_change due time delay) set ∙ sym set)
 
 -- ---- pending and take
+some_is_set : (due : Option ℕ) → is_some due ≡ is_set due
+unfolding is_set
+some_is_set None = refl
+some_is_set (Some due) = refl
+
 module _ (coalesce : Coalesce) where
   module _ (number : ℕ) (answer : Bool) (e : record_number coalesce ≡ number) (f : is_set coalesce.due ≡ answer) where
     pending_by : answer_by number answer ≡ pending_of coalesce
@@ -80,13 +84,8 @@ module _ (coalesce : Coalesce) where
     unfolding record_number
     record_accepted = yes_ask 6 _ whole
 
-    pub pending_unset : coalesce.due ≡ None → answer_by 0 false ≡ pending_of coalesce
-    unfolding is_set
-    pending_unset unset = pending_by 0 _ record_accepted (ap is_set unset)
-
-    pub pending_set : (at : ℕ) → coalesce.due ≡ Some at → answer_by 0 true ≡ pending_of coalesce
-    unfolding is_set
-    pending_set at set = pending_by 0 _ record_accepted (ap is_set set)
+    pub pending_tells : (answer : Bool) → answer ≡ is_some coalesce.due → answer_by 0 answer ≡ pending_of coalesce
+    pending_tells answer told = pending_by 0 _ record_accepted (sym (told ∙ some_is_set coalesce.due))
 
     pub take_unset : coalesce.due ≡ None → not_taken 0 coalesce ≡ take_of coalesce
     unfolding is_set

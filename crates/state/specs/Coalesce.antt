@@ -1,11 +1,40 @@
 -- Document 01, "Clock helpers": `Coalesce`, when to write a file that changes often. Assumes nothing.
-use Rattle.std.specs.Prelude.{ℕ, ◌+◌, Bool, true, false, leb, None, Option, Some}
+use Rattle.std.specs.Prelude.{ℕ, Result, ◌+◌, Bool, true, false, leb, None, Option, Some}
 use Rattle.base.specs.Choice.{pick, ask, accepted}
 use Rattle.base.specs.Limits.{span_limit, timely_record, call_number}
 use Rattle.state.specs.declared.Coalesce.{Coalesce}
-use Rattle.state.specs.declared.Change.{Change}
-use Rattle.state.specs.declared.Answer.{Answer}
+use Rattle.refusals.specs.declared.Refusal.{Refusal}
+use Rattle.refusals.specs.Numbers.{number_in, value_in}
 use Rattle.state.specs.declared.Taken.{Taken}
+
+-- what the calls leave, as the papers have it. In every answer an accepted call has number 0; "a no ends it with that number, a zero value, and record .. unchanged"
+pub record Change : Type 0 where
+  pub number : ℕ
+  pub coalesce : Coalesce
+
+pub record Answer : Type 0 where
+  pub number : ℕ
+  pub value : Bool
+
+pub record TakeReply : Type 0 where
+  pub number : ℕ
+  pub value : Bool
+  pub coalesce : Coalesce
+
+-- .. of each case of what a call gives, and of the record as it came
+abbrev pub left_change : (came : Coalesce) → Result Coalesce Refusal → Change
+left_change came result = record { number = number_in result; coalesce = value_in came result }
+
+abbrev pub told : Result Bool Refusal → Answer
+told result = record { number = number_in result; value = value_in false result }
+
+abbrev pub left_take : (came : Coalesce) → Result Taken Refusal → TakeReply
+left_take came result =
+    record {
+      number = number_in result;
+      value = (value_in (record { write = false; coalesce = came }) result).write;
+      coalesce = (value_in (record { write = false; coalesce = came }) result).coalesce;
+    }
 
 -- a fresh record: no due time is set
 abbrev pub fresh_coalesce : Coalesce
@@ -57,14 +86,14 @@ is_due None time = false
 is_due (Some due) time = leb due time
 
 -- a take: its number, yes or no, and after a yes the record with its due time cleared; refused: no, and the record as it came
-abbrev pub taken_by : (number : ℕ) (answer : Bool) (coalesce : Coalesce) → Taken
+abbrev pub taken_by : (number : ℕ) (answer : Bool) (coalesce : Coalesce) → TakeReply
 taken_by number answer coalesce =
     record { number = number; value = accepted number false answer; coalesce = accepted number coalesce (pick answer fresh_coalesce coalesce) }
 
 -- ".. and clears it"; its checks are 6 and 8
-unfoldable pub take_due_of : (coalesce : Coalesce) (time : ℕ) → Taken
+unfoldable pub take_due_of : (coalesce : Coalesce) (time : ℕ) → TakeReply
 take_due_of coalesce time = taken_by (call_number (whole_coalesce coalesce) time) (is_due coalesce.due time) coalesce
 
 -- "`take` clears it and tells if one was set"
-unfoldable pub take_of : Coalesce → Taken
+unfoldable pub take_of : Coalesce → TakeReply
 take_of coalesce = taken_by (record_number coalesce) (is_set coalesce.due) coalesce

@@ -2,7 +2,6 @@
 // Its words were read before (crate text_read): here they are stored. Of more rows or peaks than there are places only their number is kept.
 #![tactic(auto)]
 
-use base::place_u32;
 use delay_hold::DelayHold;
 use lag_window::LagWindow;
 use rules_record::{Inputs, Slot};
@@ -75,7 +74,7 @@ fn column(counts: &[u32], first: usize, buckets: usize) -> u64 {
     let mut sum: u64 = 0;
     let mut at = first;
     for _i in 0..LagWindow::SECONDS {
-        sum += u64::from(place_u32(counts, at));
+        sum += u64::from(counts.get(at).copied().unwrap_or(0));
         at = at.saturating_add(buckets);
     }
     sum

@@ -39,6 +39,20 @@ pub type Heard = [u32; 524_288];
 // The flows of a delay file that is read, or a file that is written.
 pub type Bytes = [u8; 1_287];
 
+// The lists, lent together.
+#[derive(Drop)]
+pub struct Lists<'a> {
+    pub starts: &'a mut Seconds,
+    pub totals: &'a mut Seconds,
+    pub counts: &'a mut Counts,
+    pub sums: &'a mut Sums,
+    pub times: &'a mut Times,
+    pub peaks: &'a mut Peaks,
+    pub commands: &'a mut Words,
+    pub bytes: &'a mut Bytes,
+    pub heard: &'a mut Heard,
+}
+
 // The lengths that a call asks for.
 #[derive(Clone, Copy)]
 pub struct Sizes {
