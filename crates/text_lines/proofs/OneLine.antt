@@ -9,8 +9,6 @@ use lib.Seq.{get_or-take, get_or-drop}
 use Rattle.std.specs.Prelude.{Option, Some, None}
 use Rattle.std.proofs.lemmas.Option.{same_Some}
 use Rattle.base.proofs.Choices.{pick_all, by_le}
-use Rattle.text_scan.specs.declared.Step.{Step}
-use Rattle.text_scan.specs.declared.Step.TheVariants.{At, Bad}
 use Rattle.text_scan.specs.Scan.{first_from}
 use Rattle.text_scan.proofs.Parts.{looked_to, first_over}
 use Rattle.text_lines.specs.declared.Cursor.{Cursor}
@@ -65,9 +63,9 @@ look_told s c = at_step (first_from s c.seen c.to 10)
     goes_on : Told c c.to (unfinished_of c)
     goes_on = pick_all (Told c c.to) (ltb longest (c.to - c.from)) (none (dropped_all c) refl) (none (seen_all c) refl)
 
-    at_step : (step : Step) → Told c (looked_to c.to step) (looked_at c step)
-    at_step (At i) = at i (i + 1)
-    at_step Bad = pick_all (Told c c.to) c.ended left goes_on
+    at_step : (step : Option ℕ) → Told c (looked_to c.to step) (looked_at c step)
+    at_step (Some i) = at i (i + 1)
+    at_step None = pick_all (Told c c.to) c.ended left goes_on
 
 pub no_newline : (s : List ℕ) (c : Cursor) → Clear s c → (f : Found) → (look_of s c).found ≡ Some f → (i : ℕ) → i < length (line_of s (look_of s c).cursor f) →
     get_or (line_of s (look_of s c).cursor f) i 0 ≡ 10 → ⊥

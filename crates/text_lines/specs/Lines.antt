@@ -2,8 +2,6 @@
 use Rattle.std.specs.Prelude.{ℕ, ◌+◌, ◌-◌, ◌≤◌, max, Bool, true, false, ◌≡◌, List, [], Option, Some, None, eqb, leb, ltb, length, take, drop}
 use Rattle.base.specs.Choice.{pick}
 use Rattle.base.specs.Lists.{shifted}
-use Rattle.text_scan.specs.declared.Step.{Step}
-use Rattle.text_scan.specs.declared.Step.TheVariants.{At, Bad}
 use Rattle.text_scan.specs.Scan.{has_byte, first_from}
 use Rattle.text_lines.specs.declared.Cursor.{Cursor}
 use Rattle.text_lines.specs.declared.Found.{Found}
@@ -51,9 +49,9 @@ unfoldable pub unfinished_of : Cursor → Looked
 unfinished_of c = pick (ltb longest (c.to - c.from)) (dropped_all c) (seen_all c)
 
 -- the line ends before its newline, where there is one
-abbrev pub looked_at : (c : Cursor) → Step → Looked
-looked_at c (At end) = found_at c end (end + 1)
-looked_at c Bad = pick c.ended (last_of c) (unfinished_of c)
+abbrev pub looked_at : (c : Cursor) → Option ℕ → Looked
+looked_at c (Some end) = found_at c end (end + 1)
+looked_at c None = pick c.ended (last_of c) (unfinished_of c)
 
 -- the first newline (10) of what was read and not yet looked at ends the line
 unfoldable pub look_of : (s : List ℕ) (c : Cursor) → Looked

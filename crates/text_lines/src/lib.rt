@@ -7,7 +7,7 @@ ghost use Rattle.text_lines.specs.Lines.{at_begin, looked, last_of, unfinished_o
 use std::io::{Read, Write};
 use text_print::Printer;
 use text_scan::bytes::part;
-use text_scan::{Step, first, is_at};
+use text_scan::{first, is_at};
 
 // The longest line, without its newline. The input buffer is longer.
 pub const LONGEST: usize = 1_048_576;
@@ -80,7 +80,7 @@ impl Cursor {
         ensures { looked self.new result ≡ look_of input.now self.old }
     {
         let newline = first(input, self.seen, self.to, b'\n');
-        if let Step::At(end) = newline {
+        if let Some(end) = newline {
             return Some(Found {
                 end,
                 next: end.saturating_add(1),
