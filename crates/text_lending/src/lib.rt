@@ -80,6 +80,7 @@ pub struct Span {
 
 // The buckets a second of windows with these settings, as the library counts them; none where no supervisor has such an offset or maximum, or the
 // width is 0: the call is refused then before its lists are asked for.
+#[tactic(auto, using(buckets::proofs::Told::reaches_told), unfolding(crate::specs::Lengths::buckets_lent))]
 pub fn buckets(offset: u32, maximum: u32, width: u32) -> usize
     ensures { result ≡ buckets_lent offset maximum width }
 {
@@ -103,6 +104,7 @@ pub fn cut(length: usize, short: bool) -> usize
 }
 
 // For n inputs and so many buckets a second.
+#[tactic(auto, unfolding(crate::specs::Lengths::lengths_for))]
 pub fn lengths(n: usize, buckets: usize, short: bool) -> Sizes
     ensures { result ≡ lengths_for n buckets short }
 {
@@ -117,6 +119,7 @@ pub fn lengths(n: usize, buckets: usize, short: bool) -> Sizes
 }
 
 // The buckets a second of a record's windows.
+#[tactic(auto, unfolding(crate::specs::LentTo::buckets_held))]
 pub fn buckets_in(inputs: Inputs) -> usize
     ensures { result ≡ buckets_held inputs }
 {
@@ -125,6 +128,7 @@ pub fn buckets_in(inputs: Inputs) -> usize
 }
 
 // The lengths of the lists that a call asks for: `new` by its settings, every other by the record.
+#[tactic(auto, unfolding(crate::specs::LentTo::by_settings, crate::specs::LentTo::by_record))]
 pub fn sizes_for(call: Call, inputs: Inputs, short: bool) -> Sizes
     ensures { result ≡ lent_to call inputs short }
 {
@@ -137,6 +141,7 @@ pub fn sizes_for(call: Call, inputs: Inputs, short: bool) -> Sizes
 }
 
 // The lengths of the lists that the reader and the writer of a delay file ask for.
+#[tactic(auto, unfolding(crate::specs::Lengths::files_lent))]
 pub fn file_sizes(short: bool) -> FileSizes
     ensures { result ≡ files_lent short }
 {
@@ -156,6 +161,7 @@ pub fn first_u32(s: &[u32], n: usize) -> &[u32]
 }
 
 // So many places from `first` on, of at most `most`.
+#[tactic(auto, unfolding(crate::specs::Lengths::places_from))]
 pub fn places(first: usize, count: usize, most: usize) -> Span
     ensures value { result ≡ places_from first count most }
     ensures from_le_to { (result.from ≤ result.to) × (result.to ≤ most) }
