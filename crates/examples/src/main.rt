@@ -1,7 +1,7 @@
 // Document 01's examples and some limits, run on the library; crates/examples/stdout holds what the Rust answers, where it has an answer.
 #![tactic(auto)]
 
-use policy::{DelayPolicy, Need};
+use policy::DelayPolicy;
 use std::io;
 
 // A name, then the bits of a double; nothing for one that is no number.
@@ -15,8 +15,8 @@ fn double(rt: &impl Print, name: &str, value: f64) -> io::Result<()> {
 // A need, or the number of the refusal.
 fn need(rt: &impl Print, name: &str, policy: DelayPolicy, lag: u32) -> io::Result<()> {
     match policy.need_of(lag) {
-        Need::Of(value) => println!(rt; "{name}{value}"),
-        Need::Refused(check) => println!(rt; "{name}refused {check}"),
+        Ok(value) => println!(rt; "{name}{value}"),
+        Err(refusal) => println!(rt; "{name}refused {}", refusal.number()),
     }
 }
 
