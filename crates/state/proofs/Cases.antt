@@ -84,6 +84,14 @@ module _ (coalesce : Coalesce) where
     unfolding record_number
     record_accepted = yes_ask 6 _ whole
 
+    pub pending_unset : coalesce.due ≡ None → answer_by 0 false ≡ pending_of coalesce
+    unfolding is_set
+    pending_unset unset = pending_by 0 _ record_accepted (ap is_set unset)
+
+    pub pending_set : (at : ℕ) → coalesce.due ≡ Some at → answer_by 0 true ≡ pending_of coalesce
+    unfolding is_set
+    pending_set at set = pending_by 0 _ record_accepted (ap is_set set)
+
     pub pending_tells : (answer : Bool) → answer ≡ is_some coalesce.due → answer_by 0 answer ≡ pending_of coalesce
     pending_tells answer told = pending_by 0 _ record_accepted (sym (told ∙ some_is_set coalesce.due))
 
