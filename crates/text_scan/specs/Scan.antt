@@ -50,7 +50,7 @@ abbrev pub below_base : (base d : ℕ) → Option ℕ
 below_base base d = pick (nat_lt d base) (Some d) None
 
 unfoldable pub digit_of : (b base : ℕ) → Option ℕ
-digit_of b base = pick (nat_lt b 48) None (pick (nat_lt b 58) (below_base base (b - 48)) (pick (nat_lt b 97) None (pick (nat_lt b 103) (below_base base (b - 87)) None)))
+digit_of b base = below_base base (pick (nat_lt b 48) 16 (pick (nat_lt b 58) (b - 48) (pick (nat_lt b 97) 16 (pick (nat_lt b 103) (b - 87) 16))))
 
 -- a number that began at `from` and ends at `to` has at least one digit
 unfoldable pub closed : (from value to : ℕ) → Option (Word ℕ)

@@ -12,9 +12,9 @@ fn close(from: usize, value: u128, to: usize) -> Option<Word<u128>>
     (from < to).then_some(Word { value, next: to })
 }
 
-// The number of at most `most` whose digits, in base 10 or 16, stand from `at` on.
+// The number of at most `most` whose digits in the base stand from `at` on.
 #[tactic(auto, unfolding(crate::specs::Scan::number_from))]
-pub fn number(s: &[u8], at: usize, base: u8, most: u128) -> Option<Word<u128>>
+pub fn number(s: &[u8], at: usize, base: u64, most: u128) -> Option<Word<u128>>
     ensures value { result ≡ number_from s.now at base most }
     ensures bound { IfSome result (λ w. w.value ≤ most) }
 {

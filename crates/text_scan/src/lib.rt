@@ -56,18 +56,18 @@ pub fn first(s: &[u8], at: usize, to: usize, b: u8) -> Option<usize>
     None
 }
 
-// The value of a digit of the base, 10 or 16; those above 9 are in lower case.
+// The value of a digit of the base; those above 9 are in lower case. What is no digit in base 16 counts as 16.
 #[tactic(auto, unfolding(crate::specs::Scan::digit_of))]
-pub fn digit(b: u8, base: u8) -> Option<u8>
+pub fn digit(b: u8, base: u64) -> Option<u8>
     ensures value { result ≡ digit_of b base }
     ensures below { IfSome result (λ d. d < base) }
 {
     let d = match b {
         b'0'..=b'9' => b - b'0',
         b'a'..=b'f' => b - b'a' + 10,
-        _ => return None,
+        _ => 16,
     };
-    (d < base).then_some(d)
+    (u64::from(d) < base).then_some(d)
 }
 
 // The place after the text, which stands at this place.

@@ -51,7 +51,7 @@ impl<'a> Reader<'a> {
 
     // A number of at most `most`, in base 10 or 16.
     #[tactic(auto, unfolding(crate::specs::Words::number_after))]
-    pub fn number(&mut self, sep: u8, base: u8, most: u128) -> Option<u128>
+    pub fn number(&mut self, sep: u8, base: u64, most: u128) -> Option<u128>
         ensures read { read_as self.new.at result ≡ number_after self.old.s.now self.old.at sep base most }
         ensures bound { IfSome result (λ n. n ≤ most) }
         ensures same { self.new.s.now ≡ self.old.s.now }
@@ -63,7 +63,7 @@ impl<'a> Reader<'a> {
     }
 
     #[tactic(auto, unfolding(crate::specs::Words::u64_in))]
-    fn u64_in(&mut self, sep: u8, base: u8) -> Option<u64>
+    fn u64_in(&mut self, sep: u8, base: u64) -> Option<u64>
         ensures read { read_as self.new.at result ≡ u64_in self.old.s.now self.old.at sep base }
         ensures same { self.new.s.now ≡ self.old.s.now }
     {
