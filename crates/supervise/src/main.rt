@@ -11,7 +11,7 @@ use text_files::file_at;
 use text_lending::{
     LONE_COUNTS, LONE_PEAKS, LONE_SECONDS, LONE_SUMS, Lists, buckets_in, first_u32,
 };
-use text_lines::{Cursor, Found, Output};
+use text_lines::{Cursor, Output};
 use text_print::Printer;
 use text_requests::lists::{kinds_at, loads_at, looks_at};
 use text_requests::{Call, Known, Lone, Request};

@@ -4,8 +4,8 @@
 
 pub mod bits;
 
-ghost use Rattle.std.specs.Prelude.{◌≡◌, [], ◌∷◌, ◌<◌, ◌≤◌, length, take};
-ghost use Rattle.text_print.specs.Print.{page, printed, glyph_of, spells, digits_text, decimal_text, hex_text, whole_hex_text, byte_text, flow_text};
+ghost use Rattle.std.specs.Prelude.{◌≡◌, [], ◌∷◌, ◌<◌, ◌≤◌, take};
+ghost use Rattle.text_print.specs.Print.{printed, glyph_of, spells, digits_text, decimal_text, hex_text, byte_text, flow_text};
 ghost use Rattle.text_print.specs.Printers.{on};
 
 // The buffer that answers are printed into.

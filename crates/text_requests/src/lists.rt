@@ -2,7 +2,7 @@
 ghost use Rattle.std.specs.Prelude.{◌≡◌, ℕ, ◌+◌, ◌*◌, ◌≤◌, length, List, Option};
 ghost use Rattle.text_scan.specs.declared.Word.{Word};
 ghost use Rattle.text_words.specs.Words.{read_as, passed_as};
-ghost use Rattle.text_requests.specs.Lists.{kind_one, look_at, load_at, row_at, cell_at, peak_at, times, or_blank, sixteen, kinds_at, nothing_seen, looks_at, loads_at, loaded_as, HalfPut, heard_as, lags_at, cells_end, rows_at};
+ghost use Rattle.text_requests.specs.Lists.{kind_one, look_at, load_at, row_at, cell_at, peak_at, times, or_blank, sixteen, kinds_at, looks_at, loads_at, loaded_as, HalfPut, heard_as, lags_at, cells_end, rows_at};
 
 use crate::parts::{flow_of, kind_of};
 use rules_record::{AutoTag, ExtraDelay, Flow};
