@@ -1,7 +1,7 @@
 // The flow table: 64 places, each flow at one place for good, with the automatic delay that it had last.
 #![tactic(auto)]
 
-ghost use Rattle.std.specs.Prelude.{◌≡◌, ◌≤◌, slice_index_or};
+ghost use Rattle.std.specs.Prelude.{◌≡◌, ◌≤◌, slice_index_or, true};
 ghost use Rattle.base.specs.First.{first};
 ghost use Rattle.rules_record.specs.Flows.{same_flow, empty_entry, known, flow_place, distinct_flows, admits, flow_at, enrolled, recalled, kept, differs, remembered, remembered_for};
 
@@ -14,10 +14,7 @@ pub mod inner;
 pub fn same(a: Flow, b: Flow) -> bool
     ensures { result ≡ same_flow a b }
 {
-    if a.high != b.high {
-        return false;
-    }
-    a.low == b.low
+    a == b
 }
 
 // How many places of the table are in use; there are 64.
@@ -177,4 +174,28 @@ pub fn remember_for(inputs: Inputs, slot: Slot, delay: u32) -> Inputs
         return remember(inputs, route.flow, delay);
     }
     inputs
+}
+
+fn tone(a: rules_record::State) -> bool
+    ensures { result ≡ true }
+{
+    a == rules_record::State::Running
+}
+
+fn ttwo(a: Flow, b: Flow) -> bool
+    ensures { result ≡ true }
+{
+    a < b
+}
+
+fn tthree(a: rules_record::State) -> bool
+    ensures { result ≡ true }
+{
+    a < rules_record::State::Running
+}
+
+fn tfour(a: rules_record::State) -> bool
+    ensures { result ≡ true }
+{
+    matches!(a, rules_record::State::Running | rules_record::State::Stalled)
 }

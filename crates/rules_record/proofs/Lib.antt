@@ -12,6 +12,7 @@ pub mod Beside
 pub mod RecordCases
 pub mod CheckOrder
 pub mod Checked
+pub mod Derived
 pub mod Effects
 pub mod Facts
 pub mod Keep

@@ -1,13 +1,8 @@
--- `inputs_flows::same` meets its contract. Assumes nothing.
-use borrow.Author.Tests.{eq-eqb, ne_eqb}
-use Rattle.base.specs.Choice.{both}
-use Rattle.rules_record.specs.Flows.{same_flow}
+use Rattle.std.proofs.Common.{rules, ◌≡◌, ◌≤◌, slice_index_or, ℕ, ◌+◌, ◌-◌, ◌*◌, ◌<◌, length, ◌/◌, ◌%◌, Bool, true, false, nat_eq, nat_lt, List, [], ◌∷◌, ◌++◌, slice_set, bit_and, bit_or, Fits, w8, w32, w64, Bor, MutBor}
+use Rattle.base.specs.First.{first}
+use Rattle.rules_record.specs.Flows.{same_flow, empty_entry, known, flow_place, distinct_flows, admits, flow_at, enrolled, recalled, kept, differs, remembered, remembered_for}
 use Rattle.inputs_flows.proofs.same.Goals as goal
 
-pub returns-then-a-b : goal.returns-then-a-b
-unfolding same_flow both
-returns-then-a-b c = rw (ne_eqb _ _ c.if-a-b.true)
-
+-- src/lib.rt:14:1
 pub returns : goal.returns
-unfolding same_flow both
-returns c = rw (eq-eqb _ _ c.if-a-b.false)
+returns c = ?
