@@ -6,7 +6,7 @@ use mathlib.Core.Path.{refl, sym, ap, ◌∙◌}
 use native.Mathlib.Nat.{le_antisymm}
 use native.Mathlib.Numerals.{add-one}
 use native.Mathlib.Omega.{arith}
-use borrow.Author.Tests.{lt-ltb, le-ltb, eq-eqb, ne_eqb}
+use borrow.Author.Tests.{lt-ltb, le-ltb, eq-eqb, ne_eqb, eqb-true, eqb-false}
 use Rattle.std.proofs.lemmas.List.{get_or-take, length-take-le}
 use Rattle.std.proofs.lemmas.List.Folds.{list_all_more, list_any_more}
 use Rattle.std.proofs.lemmas.List.Sums.{prefix_len_is}
@@ -70,3 +70,10 @@ first_of_any p (suc n) =
     by_bool (any p n)
     (λ y. rw (before, y) (ne_eqb (first p n) (suc n) (λ g. omega (arith, g, first_at_most p n))))
     (λ y. by_bool (p n) (λ h. rw (before, y, h) (ne_eqb n (suc n) (λ g. omega (arith, g)))) (λ h. rw (before, y, h) (eq-eqb (suc n) (suc n) refl)))
+
+-- one passes where the first that does is below n
+pub any_of_first : (p : ℕ → Bool) (n : ℕ) → any p n ≡ nat_lt (first p n) n
+any_of_first p n =
+    by_bool (any p n)
+    (λ y. let other = eqb-false _ _ (first_of_any p n ∙ ap not y) in y ∙ sym (lt-ltb _ _ (omega (arith, other, first_at_most p n))))
+    (λ y. let same = eqb-true _ _ (first_of_any p n ∙ ap not y) in y ∙ sym (le-ltb _ _ (omega (arith, same))))
