@@ -4,24 +4,11 @@ ghost use Rattle.base.specs.Choice.{pick};
 ghost use Rattle.base.specs.Lists.{padded, listed};
 ghost use Rattle.byte_order.specs.Bytes.{AllBytes};
 ghost use Rattle.refusals.specs.Numbers.{number_in};
-ghost use Rattle.rules_files.specs.Files.{lower_flow, rises, flow_in, delay_in, headed};
+ghost use Rattle.rules_files.specs.Files.{rises, flow_in, delay_in, headed};
 ghost use Rattle.rules_files.specs.ReadFile.{read_number, flow_byte_in, left_read, read_reply};
 
 use refusals::Refusal;
 use rules_record::Flow;
-
-// Is the first flow lower by its bytes?
-pub(crate) fn lower(a: Flow, b: Flow) -> bool
-    ensures { result ≡ lower_flow a b }
-{
-    if a.high < b.high {
-        return true;
-    }
-    if a.high != b.high {
-        return false;
-    }
-    a.low < b.low
-}
 
 // The flow of entry k.
 fn flow_in(file: &[u8], head: usize, k: usize) -> Flow
@@ -39,15 +26,11 @@ fn rising(file: &[u8], head: usize, count: usize) -> bool
     if count == 0 {
         return true;
     }
-    let last = count - 1;
-    let mut k: usize = 0;
-    while k < last {
-        let a = flow_in(file, head, k);
-        let b = flow_in(file, head, k + 1);
-        if !lower(a, b) {
+    for k in 0..count - 1 {
+        let lower = flow_in(file, head, k) < flow_in(file, head, k + 1);
+        if !lower {
             return false;
         }
-        k += 1;
     }
     true
 }
@@ -132,11 +115,8 @@ fn fill_flows(file: &[u8], head: usize, count: usize, flows: &mut [u8])
     requires { (head ≤ 11) × (count ≤ 64) × (head + count * 20 ≤ length file.now) × (length flows.old ≡ 1024) }
     ensures { flows.new ≡ padded 1024 (listed (flow_byte_in file.now head) (count * 16)) }
 {
-    let n = flows.len();
-    let mut i: usize = 0;
-    while i < n {
-        flows[i] = flow_byte(file, head, count, i);
-        i += 1;
+    for (i, byte) in flows.iter_mut().enumerate() {
+        *byte = flow_byte(file, head, count, i);
     }
 }
 
@@ -144,11 +124,8 @@ fn fill_delays(file: &[u8], head: usize, count: usize, delays: &mut [u32])
     requires { (head ≤ 11) × (count ≤ 64) × (head + count * 20 ≤ length file.now) × (length delays.old ≡ 64) }
     ensures { delays.new ≡ padded 64 (listed (delay_in file.now head) count) }
 {
-    let n = delays.len();
-    let mut i: usize = 0;
-    while i < n {
-        delays[i] = delay_in(file, head, count, i);
-        i += 1;
+    for (i, delay) in delays.iter_mut().enumerate() {
+        *delay = delay_in(file, head, count, i);
     }
 }
 

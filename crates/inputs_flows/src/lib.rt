@@ -1,24 +1,13 @@
 // The flow table: 64 places, each flow at one place for good, with the automatic delay that it had last.
 #![tactic(auto)]
 
-ghost use Rattle.std.specs.Prelude.{◌≡◌, ◌≤◌, slice_index_or};
-ghost use Rattle.base.specs.First.{first};
-ghost use Rattle.rules_record.specs.Flows.{same_flow, empty_entry, known, flow_place, distinct_flows, admits, flow_at, enrolled, recalled, kept, differs, remembered, remembered_for};
+ghost use Rattle.std.specs.Prelude.{◌≡◌};
+ghost use Rattle.rules_record.specs.Flows.{known, flow_place, distinct_flows, admits, flow_at, enrolled, recalled, kept, differs, remembered, remembered_for};
 
 use rules_record::{Flow, FlowEntry, Inputs, Slot};
 
 // Functions that ask something of their caller; the crates above use them where the bytes are there.
 pub mod inner;
-
-// Are these the same 16 bytes?
-pub fn same(a: Flow, b: Flow) -> bool
-    ensures { result ≡ same_flow a b }
-{
-    if a.high != b.high {
-        return false;
-    }
-    a.low == b.low
-}
 
 // How many places of the table are in use; there are 64.
 fn places(inputs: Inputs) -> usize
@@ -42,30 +31,16 @@ pub fn flow_at(inputs: Inputs, place: usize) -> Flow
     Flow { high: 0, low: 0 }
 }
 
-// The first of n places that holds the flow, or n. It takes the table alone: a loop that hands on the record copies it at each turn.
-fn find_below(table: [FlowEntry; 64], flow: Flow, n: usize) -> usize
-    requires { n ≤ 64 }
-    ensures { result ≡ first (λ place. same_flow (slice_index_or table place empty_entry).flow flow) n }
-{
-    let mut i: usize = 0;
-    while i < n {
-        let entry = table[i];
-        let at = entry.flow;
-        if same(at, flow) {
-            return i;
-        }
-        i += 1;
-    }
-    n
-}
-
 // The flow's place, or the number of places in use where it has none.
 pub fn find(inputs: Inputs, flow: Flow) -> usize
     ensures { result ≡ flow_place inputs flow }
 {
     let n = places(inputs);
-    let table = inputs.flows;
-    find_below(table, flow, n)
+    let table = &inputs.flows[..n];
+    table
+        .iter()
+        .position(|entry| entry.flow == flow)
+        .unwrap_or(n)
 }
 
 // Does the table hold no flow twice?
@@ -73,15 +48,11 @@ pub fn distinct(inputs: Inputs) -> bool
     ensures { result ≡ distinct_flows inputs }
 {
     let n = places(inputs);
-    let table = inputs.flows;
-    let mut i: usize = 0;
-    while i < n {
-        let entry = inputs.flows[i];
-        let flow = entry.flow;
-        if find_below(table, flow, i) != i {
+    let table = &inputs.flows[..n];
+    for (i, entry) in table.iter().enumerate() {
+        if table[..i].iter().any(|earlier| earlier.flow == entry.flow) {
             return false;
         }
-        i += 1;
     }
     true
 }

@@ -5,24 +5,24 @@
 use delay_hold::DelayHold;
 use policy::DelayPolicy;
 
-#[derive(Clone, Copy)]
+#[derive(Clone, Copy, Debug, PartialEq, Eq, PartialOrd, Ord, Hash)]
 pub enum AutoTag {
     Auto,
 }
 
 // An input's extra delay: measured, or fixed in milliseconds.
-#[derive(Clone, Copy)]
+#[derive(Clone, Copy, Debug, PartialEq)]
 pub enum ExtraDelay {
     Auto(AutoTag),
     Ms(f64),
 }
 
-#[derive(Clone, Copy)]
+#[derive(Clone, Copy, Debug, PartialEq)]
 pub struct InputConfig {
     pub extra_delay: ExtraDelay,
 }
 
-#[derive(Clone, Copy)]
+#[derive(Clone, Copy, Debug, PartialEq, Eq, PartialOrd, Ord, Hash)]
 pub enum State {
     Unrouted,
     Waiting,
@@ -31,7 +31,7 @@ pub enum State {
 }
 
 // Where an input reads from. The domain is the host's number for its path; the flow is its place in the flow table, which it never leaves.
-#[derive(Clone, Copy)]
+#[derive(Clone, Copy, Debug, PartialEq, Eq, PartialOrd, Ord, Hash)]
 pub struct Route {
     pub domain: u64,
     pub flow: usize,
@@ -65,20 +65,20 @@ pub struct Slot {
 }
 
 // A flow's 16 bytes, the first weighing most: eight in high, eight in low.
-#[derive(Clone, Copy)]
+#[derive(Clone, Copy, Debug, PartialEq, Eq, PartialOrd, Ord, Hash)]
 pub struct Flow {
     pub high: u64,
     pub low: u64,
 }
 
-#[derive(Clone, Copy)]
+#[derive(Clone, Copy, Debug, PartialEq, Eq)]
 pub struct FlowEntry {
     pub flow: Flow,
     pub remembered: Option<u32>,
 }
 
 // One generation of a flow: the flow's place and the inode of its data file.
-#[derive(Clone, Copy)]
+#[derive(Clone, Copy, Debug, PartialEq, Eq, PartialOrd, Ord, Hash)]
 pub struct Instance {
     pub flow: usize,
     pub inode: u64,
@@ -112,7 +112,7 @@ pub struct Sent {
 }
 
 // The length of the list that a call writes its answer to: none, words of commands, or bytes and how many it must have exactly.
-#[derive(Clone, Copy)]
+#[derive(Clone, Copy, Debug, PartialEq, Eq)]
 pub enum Output {
     Absent,
     Words(usize),

@@ -1,18 +1,10 @@
 -- `delay_files::reading::fill_delays` meets its contract. Assumes nothing.
 use native.Mathlib.Omega.{arith}
-use mathlib.Core.Path.{refl}
-use lib.ListN.{length-set}
 use Rattle.base.proofs.Listed.{fill_step, fill_end}
 use Rattle.delay_files.proofs.reading.fill_delays.Goals as goal
 
-pub loop-i-init : goal.loop-i-init
-loop-i-init c = (omega arith, refl, refl)
-
-pub delay_in-requires : goal.delay_in-requires
-delay_in-requires c = (c.requires.0, c.requires.1, c.requires.2)
-
 pub loop-i-preserved : goal.loop-i-preserved
-loop-i-preserved c = (omega arith, simp length-set (omega arith), fill_step _ _ _ _ _ (omega (arith, c.requires.1)) c.requires.3 c.loop-i.invariant.2 (omega arith) c.delay_in.ensures)
+loop-i-preserved c = fill_step _ _ _ _ _ (omega (arith, c.requires.1)) c.requires.3 c.loop-i.invariant c.loop-i-test.true c.delay_in.ensures
 
 pub returns : goal.returns
-returns c = fill_end _ _ _ _ c.loop-i.i (omega (arith, c.requires.1)) c.requires.3 c.loop-i.invariant.2 c.loop-i-test.false
+returns c = fill_end _ _ _ _ c.loop-i.i (omega (arith, c.requires.1)) c.requires.3 c.loop-i.invariant c.loop-i-test.false
