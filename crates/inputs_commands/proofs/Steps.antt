@@ -1,0 +1,41 @@
+-- Laws of `Does`: a step that sends nothing, one that sends a command, one after another. Assumes nothing.
+use Rattle.std.specs.Prelude.{◌≡◌, ℕ, ◌+◌, ◌≤◌}
+use mathlib.Core.Path.{refl, sym, ap, subst, ◌∙◌}
+use native.Mathlib.Omega.{arith}
+use lib.ListN.{length}
+use lib.Seq.{length-sets}
+use Rattle.rules_record.specs.declared.Inputs.{Inputs}
+use Rattle.rules_record.specs.Commands.{Done, quiet, send_first, changed}
+use Rattle.rules_record.proofs.Sending.{did_quiet, did_sent, did_first, did_changed}
+use Rattle.inputs_commands.specs.declared.Command.{Command}
+use Rattle.inputs_commands.specs.declared.Command.TheVariants.{SetInput, ClearInput, SetDelay}
+use Rattle.inputs_commands.specs.declared.Commands.{Commands}
+use Rattle.inputs_commands.specs.Sending.{words_of, Room, Sends, Does}
+
+-- what is done may be said by another name
+pub does_by : {most : ℕ} {done same : Done} {answer : Inputs} {before after : Commands} → done ≡ same → Does most same answer before after → Does most done answer before after
+does_by {most} {answer = answer} {before = before} {after = after} e h = subst (λ (x : Done). Does most x answer before after) (sym e) h
+
+pub does_quiet : {most : ℕ} {s z : Inputs} {c : Commands} → z ≡ s → Does most (quiet s) z c c
+does_quiet e = record { did = did_quiet e; same = refl }
+
+-- one command is sent
+pub does_sent : (command : Command) {most : ℕ} {s z : Inputs} {before after : Commands} → 3 ≤ most → z ≡ s → Sends command before after → Does most (send_first (words_of command) (quiet s)) z before after
+does_sent (SetInput i w) l e h = record { did = did_sent _ _ _ l e h.used h.words; same = h.same }
+does_sent (ClearInput i w) l e h = record { did = did_sent _ _ _ l e h.used h.words; same = h.same }
+does_sent (SetDelay i w) l e h = record { did = did_sent _ _ _ l e h.used h.words; same = h.same }
+
+-- a command is sent, and then something more
+pub does_first : (command : Command) {most : ℕ} {done : Done} {answer : Inputs} {before between after : Commands} → Sends command before between → Does most done answer between after
+    → Does (most + 3) (send_first (words_of command) done) answer before after
+does_first (SetInput i w) h d = record { did = did_first _ _ _ h.used h.words d.did; same = d.same ∙ h.same }
+does_first (ClearInput i w) h d = record { did = did_first _ _ _ h.used h.words d.did; same = d.same ∙ h.same }
+does_first (SetDelay i w) h d = record { did = did_first _ _ _ h.used h.words d.did; same = d.same ∙ h.same }
+
+-- the record changes once more
+pub does_changed : (f : Inputs → Inputs) {most : ℕ} {done : Done} {answer z : Inputs} {before after : Commands} → Does most done answer before after → z ≡ f answer → Does most (changed f done) z before after
+does_changed f h e = record { did = did_changed f h.did e; same = h.same }
+
+-- room for a command and more is room for more once it is sent
+pub room_left : (command : Command) (n : ℕ) {before after : Commands} → Room (n + 3) before → Sends command before after → Room n after
+room_left command n {before} r h = omega (arith, r, h.used, ap length h.words ∙ length-sets before.words.now before.used (words_of command))
