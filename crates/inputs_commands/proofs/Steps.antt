@@ -7,10 +7,13 @@ use lib.Seq.{length-sets}
 use Rattle.rules_record.specs.declared.Inputs.{Inputs}
 use Rattle.rules_record.specs.Commands.{Done, quiet, send_first, changed}
 use Rattle.rules_record.proofs.Sending.{did_quiet, did_sent, did_first, did_changed}
+use Rattle.rules_record.specs.Lent.{Lists}
+use Rattle.rules_record.specs.Effects.{Effect, silent, beside}
+use Rattle.rules_record.proofs.Effects.{effected_silent, effected_done}
 use Rattle.inputs_commands.specs.declared.Command.{Command}
 use Rattle.inputs_commands.specs.declared.Command.TheVariants.{SetInput, ClearInput, SetDelay}
 use Rattle.inputs_commands.specs.declared.Commands.{Commands}
-use Rattle.inputs_commands.specs.Sending.{words_of, Room, Sends, Does}
+use Rattle.inputs_commands.specs.Sending.{words_of, Room, Sends, Does, Affects}
 
 -- what is done may be said by another name
 pub does_by : {most : ℕ} {done same : Done} {answer : Inputs} {before after : Commands} → done ≡ same → Does most same answer before after → Does most done answer before after
@@ -39,3 +42,17 @@ does_changed f h e = record { did = did_changed f h.did e; same = h.same }
 -- room for a command and more is room for more once it is sent
 pub room_left : (command : Command) (n : ℕ) {before after : Commands} → Room (n + 3) before → Sends command before after → Room n after
 room_left command n {before} r h = omega (arith, r, h.used, ap length h.words ∙ length-sets before.words.now before.used (words_of command))
+
+-- room for a step and more is room for more after it
+pub room_after : (n : ℕ) {most : ℕ} {done : Done} {answer : Inputs} {before after : Commands} → Room (most + n) before → Does most done answer before after → Room n after
+room_after n {done = done} {before = before} r h = omega (arith, r, h.did.used, h.did.room, ap length h.did.words ∙ length-sets before.words.now before.used done.words)
+
+-- ---- the same of `Affects`
+pub affects_by : {most : ℕ} {effect same : Effect} {answer : Inputs} {l : Lists} {before after : Commands} → effect ≡ same → Affects most same answer l before after → Affects most effect answer l before after
+affects_by {most} {answer = answer} {l = l} {before = before} {after = after} e h = subst (λ (x : Effect). Affects most x answer l before after) (sym e) h
+
+pub affects_silent : {most : ℕ} {s z : Inputs} {l m : Lists} {c : Commands} → z ≡ s → m ≡ l → Affects most (silent s l) z m c c
+affects_silent e k = record { effected = effected_silent e k; same = refl }
+
+pub affects_done : {most : ℕ} {done : Done} {answer : Inputs} {l m : Lists} {before after : Commands} → Does most done answer before after → m ≡ l → Affects most (beside l done) answer m before after
+affects_done h k = record { effected = effected_done h.did k; same = h.same }
