@@ -34,6 +34,13 @@ pub record Sends (command : Command) (before after : Commands) : Type 0 where
   pub words : after.words.now ≡ sets before.words.now before.used (words_of command)
   pub same : after.words.ghost_name ≡ before.words.ghost_name
 
+-- These words stand after those in use, at most `most` of them, in the same lent list.
+pub record Laid (most : ℕ) (sent : List ℕ) (before after : Commands) : Type 0 where
+  pub used : after.used ≡ before.used + length sent
+  pub words : after.words.now ≡ sets before.words.now before.used sent
+  pub room : length sent ≤ most
+  pub same : after.words.ghost_name ≡ before.words.ghost_name
+
 -- What a step does: `Did` of the words in use before and after, in the same lent list
 pub record Does (most : ℕ) (done : Done) (answer : Inputs) (before after : Commands) : Type 0 where
   pub did : Did most done (record { inputs = answer; used = after.used }) before.words.now after.words.now before.used
