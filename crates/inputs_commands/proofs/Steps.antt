@@ -47,9 +47,13 @@ does_changed f h e = record { did = did_changed f h.did e; same = h.same }
 pub room_left : (command : Command) (n : ℕ) {before after : Commands} → Room (n + 3) before → Sends command before after → Room n after
 room_left command n {before} r h = omega (arith, r, h.used, ap length h.words ∙ length-sets before.words.now before.used (words_of command))
 
+-- a step leaves the list as long as it was
+pub long_after : {most : ℕ} {done : Done} {answer : Inputs} {before after : Commands} → Does most done answer before after → length after.words.now ≡ length before.words.now
+long_after {done = done} {before = before} h = ap length h.did.words ∙ length-sets before.words.now before.used done.words
+
 -- room for a step and more is room for more after it
 pub room_after : (n : ℕ) {most : ℕ} {done : Done} {answer : Inputs} {before after : Commands} → Room (most + n) before → Does most done answer before after → Room n after
-room_after n {done = done} {before = before} r h = omega (arith, r, h.did.used, h.did.room, ap length h.did.words ∙ length-sets before.words.now before.used done.words)
+room_after n r h = omega (arith, r, h.did.used, h.did.room, long_after h)
 
 -- ---- the same of `Affects`
 pub affects_by : {most : ℕ} {effect same : Effect} {answer : Inputs} {l : Lists} {before after : Commands} → effect ≡ same → Affects most same answer l before after → Affects most effect answer l before after
@@ -89,3 +93,6 @@ laid_first {words = words} {before = before} e h = (omega (arith, e, h.used), h.
 -- what a call leaves, where the lent list ends as these words
 pub left_by : {n : ℕ} {s : Inputs} {l : Lists} {words list : List ℕ} {r : Reply} → record { number = n; inputs = s; lists = l; commands = words } ≡ r → list ≡ words → record { number = n; inputs = s; lists = l; commands = list } ≡ r
 left_by {n} {s} {l} h e = ap (λ (c : List ℕ). record { number = n; inputs = s; lists = l; commands = c }) e ∙ h
+
+pub long_effected : {most : ℕ} {effect : Effect} {answer : Inputs} {l : Lists} {before after : Commands} → Affects most effect answer l before after → length after.words.now ≡ length before.words.now
+long_effected {effect = effect} {before = before} h = ap length h.effected.done.words ∙ length-sets before.words.now before.used effect.words
