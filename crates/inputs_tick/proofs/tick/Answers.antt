@@ -8,7 +8,6 @@ use Rattle.rules_tick.proofs.TickChecking.{inputs_asked, words_enough}
 use Rattle.rules_record.specs.Lent.{lists}
 use Rattle.std.specs.Prelude.{length}
 use native.Mathlib.Omega.{arith}
-use mathlib.Core.Path.{◌∙◌}
 use Rattle.inputs_tick.proofs.tick.Goals as goal
 
 pub returns-in_err-check_tick : goal.returns-in_err-check_tick

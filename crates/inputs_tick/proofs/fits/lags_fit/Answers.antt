@@ -1,6 +1,5 @@
 -- `inputs_tick::fits::lags_fit` meets its contract. Assumes nothing.
 use mathlib.Core.Path.{refl}
-use native.Mathlib.Omega.{arith}
 use Rattle.rules_tick.proofs.LagCounting.{lags_none, lags_more, lags_stop, lags_end}
 use Rattle.rules_tick.specs.Looks.{look_at, no_look}
 use Rattle.inputs_tick.proofs.fits.lags_fit.Goals as goal

@@ -1,5 +1,4 @@
 -- `inputs_tick::fits::looks_fit` meets its contract. Assumes nothing.
-use native.Mathlib.Omega.{arith}
 use Rattle.rules_tick.proofs.LagCounting.{looks_none, looks_more, looks_stop, looks_end_law}
 use Rattle.rules_tick.specs.Looks.{look_at, no_look}
 use Rattle.inputs_tick.proofs.fits.looks_fit.Goals as goal

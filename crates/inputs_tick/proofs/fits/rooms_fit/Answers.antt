@@ -1,5 +1,4 @@
 -- `inputs_tick::fits::rooms_fit` meets its contract. Assumes nothing.
-use native.Mathlib.Omega.{arith}
 use Rattle.rules_tick.proofs.LagCounting.{rooms_none, rooms_ask, rooms_more, rooms_stop, rooms_end}
 use Rattle.rules_tick.specs.Looks.{look_at, no_look}
 use Rattle.inputs_tick.proofs.fits.rooms_fit.Goals as goal
