@@ -1,17 +1,19 @@
 // Over the whole record and the lists of all inputs, for the crates above, which have checked what is asked here.
-ghost use Rattle.std.specs.Prelude.{◌≡◌, ℕ, ◌+◌, ◌≤◌, List, [], length};
+ghost use Rattle.std.specs.Prelude.{◌≡◌, ℕ, List, [], length};
 ghost use Rattle.rules_record.specs.Inputs.{slot_at, put_slot};
 ghost use Rattle.rules_record.specs.Lent.{lists};
 ghost use Rattle.rules_record.specs.Facts.{OwnSums};
-ghost use Rattle.rules_record.specs.Effects.{silent, Effected};
+ghost use Rattle.rules_record.specs.Effects.{silent};
+ghost use Rattle.inputs_commands.specs.Sending.{Room, Affects};
 ghost use Rattle.rules_tick.specs.Lags.{arrived, largest_of};
 ghost use Rattle.rules_tick.specs.LateEvents.{late_slot};
 ghost use Rattle.rules_tick.specs.AutoDelay.{auto_delayed};
 ghost use Rattle.rules_tick.specs.InputReady.{ArriveAsked, LateAsked, AutoAsked};
 
 use super::steps;
+use inputs_commands::Commands;
 use policy::DelayPolicy;
-use rules_record::{Inputs, Sent, Slot};
+use rules_record::{Inputs, Slot};
 
 // The slot of input i after the lags of one tick are pushed to its window, and the last one is kept. The caller puts it, with what else the tick changes in it: a record is large, and each call that returns one copies it.
 pub fn arrive(
@@ -63,31 +65,27 @@ pub fn auto_delay(
     sums: &[u64],
     times: &mut [u64],
     peaks: &mut [u32],
-    commands: &mut [u32],
-    used: usize,
-) -> Sent
+    commands: &mut Commands<'_>,
+) -> Inputs
     requires auto_asked { AutoAsked inputs i starts.now sums.now times.old peaks.old }
-    requires used_in_bounds { used + 3 ≤ length commands.old }
-    ensures { (totals counts : List ℕ) → OwnSums inputs (lists starts.now totals counts sums.now times.old peaks.old) i (slot_at inputs i) → Effected 3 (auto_delayed i max_lag time inputs (lists starts.now totals counts sums.now times.old peaks.old)) result (lists starts.now totals counts sums.now times.new peaks.new) commands.old commands.new used }
+    requires used_in_bounds { Room 3 commands.old }
+    ensures { (totals counts : List ℕ) → OwnSums inputs (lists starts.now totals counts sums.now times.old peaks.old) i (slot_at inputs i) → Affects 3 (auto_delayed i max_lag time inputs (lists starts.now totals counts sums.now times.old peaks.old)) result (lists starts.now totals counts sums.now times.new peaks.new) commands.old commands.new }
 {
     let slot = inputs_slots::slot_at(inputs, i);
     let state = slot.state;
     let code = inputs_slots::code(state);
     if code == inputs_slots::STALLED {
-        return Sent {
-            inputs: steps::interrupted(inputs, i, slot),
-            used,
-        };
+        return steps::interrupted(inputs, i, slot);
     }
     if code != inputs_slots::RUNNING {
-        return Sent { inputs, used };
+        return inputs;
     }
     if !inputs_slots::automatic(slot) {
-        return Sent { inputs, used };
+        return inputs;
     }
     let next = steps::next_for(inputs, slot, i, max_lag, time, starts, sums, times, peaks);
     let hold = next.hold;
     let change = next.change;
     let decided = inputs_slots::with_hold(slot, hold);
-    steps::answer(inputs, i, decided, change, time, commands, used)
+    steps::answer(inputs, i, decided, change, time, commands)
 }

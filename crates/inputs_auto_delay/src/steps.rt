@@ -1,10 +1,10 @@
 // The parts of the steps in `inner`: one input's window and lags, its late events, its quantile, and the answer of its hold.
-ghost use Rattle.std.specs.Prelude.{◌≡◌, ℕ, ◌+◌, ◌<◌, ◌≤◌, List, length};
+ghost use Rattle.std.specs.Prelude.{◌≡◌, ℕ, ◌<◌, ◌≤◌, List};
 ghost use Rattle.base.specs.Limits.{samples_limit, counter_limit};
 ghost use Rattle.policy.specs.Settings.{Sound};
 ghost use Rattle.rules_record.specs.Slots.{with_hold};
 ghost use Rattle.rules_record.specs.Inputs.{slot_at, put_slot};
-ghost use Rattle.rules_record.specs.Commands.{Did};
+ghost use Rattle.inputs_commands.specs.Sending.{Room, Does};
 ghost use Rattle.delay_hold.specs.Steps5To8.{timer_off, with_lower};
 ghost use Rattle.rules_record.specs.Lent.{lists, window_for};
 ghost use Rattle.rules_record.specs.Facts.{OwnSums};
@@ -14,8 +14,9 @@ ghost use Rattle.rules_tick.specs.AutoDelay.{p999_of, current_of, next_for, Answ
 ghost use Rattle.rules_tick.specs.InputReady.{P999Asked, AutoAsked};
 
 use delay_hold::{DelayHold, Next};
+use inputs_commands::Commands;
 use policy::DelayPolicy;
-use rules_record::{Inputs, Sent, Slot};
+use rules_record::{Inputs, Slot};
 
 // How long the seconds of lags must span before the first automatic setting.
 const MIN_LAG_SECONDS: u64 = 1;
@@ -144,26 +145,19 @@ pub(crate) fn answer(
     slot: Slot,
     change: Option<u32>,
     time: u64,
-    commands: &mut [u32],
-    used: usize,
-) -> Sent
-    requires { (used + 3 ≤ length commands.old) × (i < 16) × (slot.delay_changes < counter_limit) }
-    ensures { Did 3 (answered change i time slot inputs) result commands.old commands.new used }
+    commands: &mut Commands<'_>,
+) -> Inputs
+    requires { Room 3 commands.old × (i < 16) × (slot.delay_changes < counter_limit) }
+    ensures { Does 3 (answered change i time slot inputs) result commands.old commands.new }
 {
     let Some(delay) = change else {
-        return Sent {
-            inputs: inputs_slots::put_slot(inputs, i, slot),
-            used,
-        };
+        return inputs_slots::put_slot(inputs, i, slot);
     };
     if inputs.confirm {
         let changed = inputs_slots::with_proposed(slot, Some(delay));
-        return Sent {
-            inputs: inputs_slots::put_slot(inputs, i, changed),
-            used,
-        };
+        return inputs_slots::put_slot(inputs, i, changed);
     }
     let changed = inputs_slots::with_delay_changes(slot, slot.delay_changes + 1);
     let all = inputs_slots::put_slot(inputs, i, changed);
-    inputs_set_delay::inner::set_delay(all, i, delay, time, commands, used)
+    inputs_set_delay::inner::set_delay(all, i, delay, time, commands)
 }

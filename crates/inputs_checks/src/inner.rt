@@ -108,8 +108,7 @@ fn whole_inputs(
     ensures { result ≡ whole_inputs inputs (lists starts.now totals.now counts.now sums.now times.now peaks.now) }
 {
     let policy = inputs.policy;
-    let mut i: usize = 0;
-    while i < inputs.count {
+    for i in 0..inputs.count {
         let slot = inputs.slots[i];
         if !whole_input(
             policy,
@@ -126,14 +125,12 @@ fn whole_inputs(
         ) {
             return false;
         }
-        i += 1;
     }
-    while i < 16 {
+    for i in inputs.count..16 {
         let slot = inputs.slots[i];
         if !inputs_places::unused_slot(slot) {
             return false;
         }
-        i += 1;
     }
     true
 }

@@ -10,6 +10,7 @@ ghost use Rattle.rules_calls.specs.NewStart.{zeroed_lists};
 ghost use Rattle.rules_calls.specs.NewChecks.{margin_fits, settings_number};
 ghost use Rattle.rules_calls.specs.NewReply.{new_reply};
 
+use inputs_commands::Commands;
 use policy::DelayPolicy;
 use refusals::Refusal;
 use rules_calls::Settings;
@@ -204,6 +205,9 @@ pub fn new(
     };
     zero_lists(starts, totals, counts, sums, times, peaks);
     commands.fill(0);
-    let sent = start::started(all, settings.count, kinds, time, commands);
-    Ok(sent.inputs)
+    let mut sent = Commands {
+        words: commands,
+        used: 0,
+    };
+    Ok(start::started(all, settings.count, kinds, time, &mut sent))
 }

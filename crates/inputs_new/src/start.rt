@@ -1,9 +1,10 @@
 // The inputs of a new supervisor: their kinds, and the delays of the manual ones.
-ghost use Rattle.std.specs.Prelude.{◌≡◌, ◌+◌, ◌*◌, ◌<◌, ◌≤◌, length};
-ghost use Rattle.rules_record.specs.Commands.{Did};
+ghost use Rattle.std.specs.Prelude.{◌≡◌, ◌*◌, ◌<◌, ◌≤◌};
+ghost use Rattle.inputs_commands.specs.Sending.{Room, Does};
 ghost use Rattle.rules_calls.specs.NewStart.{kind_at, made_at, started_one, started_below};
 
-use rules_record::{ExtraDelay, InputConfig, Inputs, Sent};
+use inputs_commands::Commands;
+use rules_record::{ExtraDelay, InputConfig, Inputs};
 
 // The delay kind of input i; there are 16 places.
 fn kind_at(kinds: [ExtraDelay; 16], i: usize) -> ExtraDelay
@@ -28,40 +29,34 @@ fn started_one(
     i: usize,
     kind: ExtraDelay,
     time: u64,
-    commands: &mut [u32],
-    used: usize,
-) -> Sent
-    requires { (used + 3 ≤ length commands.old) × (i < 16) }
-    ensures { Did 3 (started_one i kind time inputs) result commands.old commands.new used }
+    commands: &mut Commands<'_>,
+) -> Inputs
+    requires { Room 3 commands.old × (i < 16) }
+    ensures { Does 3 (started_one i kind time inputs) result commands.old commands.new }
 {
     let all = made_at(inputs, i, kind, time);
     let ExtraDelay::Ms(delay) = kind else {
-        return Sent { inputs: all, used };
+        return all;
     };
     let policy = inputs.policy;
     let samples = doubles::samples(delay).min(policy.delay_max);
-    inputs_set_delay::inner::set_delay(all, i, samples, time, commands, used)
+    inputs_set_delay::inner::set_delay(all, i, samples, time, commands)
 }
 
-// The inputs in their order; the words are laid from the first place on.
+// The inputs in their order.
 pub(crate) fn started(
     inputs: Inputs,
     count: usize,
     kinds: [ExtraDelay; 16],
     time: u64,
-    commands: &mut [u32],
-) -> Sent
-    requires { (count * 3 ≤ length commands.old) × (count ≤ 16) }
-    ensures { Did (count * 3) (started_below count kinds time inputs) result commands.old commands.new 0 }
+    commands: &mut Commands<'_>,
+) -> Inputs
+    requires { Room (count * 3) commands.old × (count ≤ 16) }
+    ensures { Does (count * 3) (started_below count kinds time inputs) result commands.old commands.new }
 {
     let mut all = inputs;
-    let mut used: usize = 0;
-    let mut i: usize = 0;
-    while i < count {
-        let sent = started_one(all, i, kind_at(kinds, i), time, commands, used);
-        all = sent.inputs;
-        used = sent.used;
-        i += 1;
+    for i in 0..count {
+        all = started_one(all, i, kind_at(kinds, i), time, commands);
     }
-    Sent { inputs: all, used }
+    all
 }

@@ -8,6 +8,7 @@ ghost use Rattle.rules_record.specs.Reply.{left_inputs};
 ghost use Rattle.rules_calls.specs.RouteChecks.{wanted_fits, route_number};
 ghost use Rattle.rules_calls.specs.RouteReply.{route_reply};
 
+use inputs_commands::Commands;
 use refusals::Refusal;
 use rules_calls::Source;
 use rules_record::Inputs;
@@ -96,11 +97,14 @@ pub fn route(
     if steps::equal_route(new, old) {
         return Ok(known);
     }
-    let used = steps::announce(input, new, slot, commands);
+    let mut sent = Commands {
+        words: commands,
+        used: 0,
+    };
+    steps::announce(input, new, slot, &mut sent);
     let changed = steps::routed_slot(new, time, slot);
     let all = inputs_clear::inner::clear(
         known, input, changed, starts, totals, counts, sums, times, peaks,
     );
-    let sent = steps::open_for(new, input, time, world, all, commands, used);
-    Ok(sent.inputs)
+    Ok(steps::open_for(new, input, time, world, all, &mut sent))
 }

@@ -1,13 +1,13 @@
 // The parts of the call: the route that is wanted beside the one that was, what changes in the slot, and what is sent.
-ghost use Rattle.std.specs.Prelude.{◌≡◌, ◌+◌, ◌<◌, ◌≤◌, ◌++◌, length};
-ghost use Rattle.std.proofs.lemmas.List.Edits.{sets};
+ghost use Rattle.std.specs.Prelude.{◌≡◌, ◌<◌, ◌++◌};
 ghost use Rattle.base.specs.Limits.{counter_limit};
 ghost use Rattle.rules_record.specs.Inputs.{slot_at};
-ghost use Rattle.rules_record.specs.Commands.{Did};
+ghost use Rattle.inputs_commands.specs.Sending.{Room, Laid, Does};
 ghost use Rattle.rules_calls.specs.Route.{enrolled_for, route_for, equal_route, other_flow, starts_over, forgetting, zeroing, started_over, state_for, routed_slot, opened_for};
 
+use inputs_commands::{Command, Commands};
 use rules_calls::Source;
-use rules_record::{Inputs, Route, Sent, Slot, State};
+use rules_record::{Inputs, Route, Slot, State};
 use rules_routing::World;
 
 // ---- the route that is wanted
@@ -122,33 +122,32 @@ pub(crate) fn routed_slot(new: Option<Route>, time: u64, slot: Slot) -> Slot
 
 // ---- the commands
 // What an old route read is forgotten.
-fn forget(i: usize, old: Option<Route>, commands: &mut [u32]) -> usize
-    requires { (3 ≤ length commands.old) × (i < 16) }
-    ensures { (result ≡ length (forgetting i old)) × (commands.new ≡ sets commands.old 0 (forgetting i old)) × (length (forgetting i old) ≤ 3) }
+fn forget(i: usize, old: Option<Route>, commands: &mut Commands<'_>)
+    requires { Room 3 commands.old × (i < 16) }
+    ensures { Laid 3 (forgetting i old) commands.old commands.new }
 {
     let Some(_) = old else {
-        return 0;
+        return;
     };
-    inputs_commands::inner::send(commands, 0, inputs_commands::inner::CLEAR_INPUT, i, 1)
+    commands.send(Command::ClearInput {
+        input: i,
+        forget: true,
+    });
 }
 
-// What is sent before the new flow opens; answers how many words.
-pub(crate) fn announce(i: usize, new: Option<Route>, slot: Slot, commands: &mut [u32]) -> usize
-    requires { (6 ≤ length commands.old) × (i < 16) }
-    ensures { (result ≡ length (forgetting i slot.route ++ zeroing i new slot)) × (commands.new ≡ sets commands.old 0 (forgetting i slot.route ++ zeroing i new slot)) × (length (forgetting i slot.route ++ zeroing i new slot) ≤ 6) }
+// What is sent before the new flow opens.
+pub(crate) fn announce(i: usize, new: Option<Route>, slot: Slot, commands: &mut Commands<'_>)
+    requires { Room 6 commands.old × (i < 16) }
+    ensures { Laid 6 (forgetting i slot.route ++ zeroing i new slot) commands.old commands.new }
 {
     let old = slot.route;
-    let used = forget(i, old, commands);
+    forget(i, old, commands);
     if starts_over(new, slot) {
-        return inputs_commands::inner::send(
-            commands,
-            used,
-            inputs_commands::inner::SET_DELAY,
-            i,
-            0,
-        );
+        commands.send(Command::SetDelay {
+            input: i,
+            samples: 0,
+        });
     }
-    used
 }
 
 // The new flow opens, where there is one.
@@ -158,14 +157,13 @@ pub(crate) fn open_for(
     time: u64,
     world: World,
     inputs: Inputs,
-    commands: &mut [u32],
-    used: usize,
-) -> Sent
-    requires { (used + 6 ≤ length commands.old) × (i < 16) × ((slot_at inputs i).reopens < counter_limit) }
-    ensures { Did 6 (opened_for new i time world inputs) result commands.old commands.new used }
+    commands: &mut Commands<'_>,
+) -> Inputs
+    requires { Room 6 commands.old × (i < 16) × ((slot_at inputs i).reopens < counter_limit) }
+    ensures { Does 6 (opened_for new i time world inputs) result commands.old commands.new }
 {
     let Some(_) = new else {
-        return Sent { inputs, used };
+        return inputs;
     };
-    inputs_try_open::inner::try_open(inputs, i, time, world, commands, used)
+    inputs_try_open::inner::try_open(inputs, i, time, world, commands)
 }

@@ -27,13 +27,11 @@ pub(crate) fn looks_fit(inputs: Inputs, looks: [Look; 16]) -> bool
     ensures { result ≡ looks_fit inputs looks }
 {
     let policy = inputs.policy;
-    let mut i: usize = 0;
-    while i < inputs.count {
+    for i in 0..inputs.count {
         let look = looks[i];
         if !look_fits(look, policy.delay_max) {
             return false;
         }
-        i += 1;
     }
     true
 }
@@ -44,14 +42,12 @@ pub(crate) fn lags_fit(inputs: Inputs, looks: [Look; 16], lags: &[u32]) -> bool
     ensures { result ≡ lags_fit inputs looks lags.now }
 {
     let mut left = lags.len();
-    let mut i: usize = 0;
-    while i < inputs.count {
+    for i in 0..inputs.count {
         let look = looks[i];
         if left < look.lags {
             return false;
         }
         left -= look.lags;
-        i += 1;
     }
     left == 0
 }
@@ -87,13 +83,11 @@ pub(crate) fn rooms_fit(
     requires { RoomsAsked inputs (length starts.now) (length totals.now) }
     ensures { (counts sums times peaks : List ℕ) → result ≡ rooms_fit inputs (lists starts.now totals.now counts sums times peaks) looks time }
 {
-    let mut i: usize = 0;
-    while i < inputs.count {
+    for i in 0..inputs.count {
         let look = looks[i];
         if !room_fits(inputs, i, time, look.lags, starts, totals) {
             return false;
         }
-        i += 1;
     }
     true
 }

@@ -9,6 +9,7 @@ ghost use Rattle.rules_tick.specs.TickChecks.{tick_number};
 ghost use Rattle.rules_tick.specs.TickAnswer.{told};
 ghost use Rattle.rules_tick.specs.TickLeaves.{tick_leaves};
 
+use inputs_commands::Commands;
 use refusals::Refusal;
 use rules_record::{Inputs, Output};
 pub use rules_tick::{Look, Ticked};
@@ -88,10 +89,13 @@ pub fn tick(
         commands.len(),
     )?;
     commands.fill(0);
-    let sent = each::tick_inputs(
-        inputs, looks, lags, time, starts, totals, counts, sums, times, peaks, commands,
+    let mut sent = Commands {
+        words: commands,
+        used: 0,
+    };
+    let all = each::tick_inputs(
+        inputs, looks, lags, time, starts, totals, counts, sums, times, peaks, &mut sent,
     );
-    let all = sent.inputs;
     let kept = inputs_instances::prune_instances(all, None);
     let done = each::saved(kept);
     Ok(Ticked {

@@ -5,6 +5,7 @@ ghost use Rattle.base.specs.Lists.{padded};
 ghost use Rattle.rules_calls.specs.Update.{kind_stored, delay_set};
 ghost use Rattle.rules_calls.specs.ConfirmDelay.{taken};
 
+use inputs_commands::Commands;
 use rules_record::{ExtraDelay, InputConfig, Inputs, Slot};
 
 // The kind is stored, the proposal goes.
@@ -39,6 +40,9 @@ pub(crate) fn delay_set(
 {
     commands.fill(0);
     let all = inputs_slots::put_slot(inputs, i, slot);
-    let sent = inputs_set_delay::inner::set_delay(all, i, delay, time, commands, 0);
-    sent.inputs
+    let mut sent = Commands {
+        words: commands,
+        used: 0,
+    };
+    inputs_set_delay::inner::set_delay(all, i, delay, time, &mut sent)
 }

@@ -16,8 +16,7 @@ use Rattle.rules_record.specs.declared.Slot.{Slot}
 use Rattle.rules_record.specs.declared.Inputs.{Inputs}
 use Rattle.rules_record.specs.Slots.{with_config, with_proposed, with_delay_changes}
 use Rattle.rules_record.specs.Inputs.{put_slot}
-use Rattle.rules_record.specs.declared.Sent.{Sent}
-use Rattle.rules_record.specs.Commands.{Did}
+use Rattle.rules_record.specs.Commands.{Sent, Did}
 use Rattle.rules_routing.specs.SetDelay.{set_delay_of}
 use Rattle.rules_calls.specs.declared.DelaySetting.{DelaySetting}
 use Rattle.rules_calls.specs.UpdateChecks.{manual_fits, kind_fits}

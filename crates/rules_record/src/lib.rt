@@ -104,13 +104,6 @@ pub struct Inputs {
     pub instance_count: usize,
 }
 
-// The record after a step, and how many command words are in use.
-#[derive(Clone, Copy)]
-pub struct Sent {
-    pub inputs: Inputs,
-    pub used: usize,
-}
-
 // The length of the list that a call writes its answer to: none, words of commands, or bytes and how many it must have exactly.
 #[derive(Clone, Copy, Debug, PartialEq, Eq)]
 pub enum Output {

@@ -13,8 +13,7 @@ use Rattle.rules_record.specs.Inputs.{slot_at, put_slot, with_slots}
 use Rattle.rules_record.proofs.SlotFrame.{slot_same, put_stores}
 use Rattle.rules_record.proofs.Sized.{sized_put}
 use Rattle.rules_record.specs.Sized.{Sized}
-use Rattle.rules_record.specs.declared.Sent.{Sent}
-use Rattle.rules_record.specs.Commands.{Did, quiet}
+use Rattle.rules_record.specs.Commands.{Sent, Did, quiet}
 use Rattle.rules_record.proofs.Sending.{did_by, did_quiet}
 use Rattle.rules_routing.specs.Watch.{moved_slot}
 use Rattle.rules_record.specs.Lent.{Lists, lists}

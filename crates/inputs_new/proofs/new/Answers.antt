@@ -5,6 +5,8 @@ use Rattle.refusals.proofs.Answers.{never_zero}
 use Rattle.rules_record.specs.Lent.{lists}
 use Rattle.rules_calls.proofs.NewReplies.{new_refused, new_late, load_asked, new_full, start_asked, new_done}
 use mathlib.Core.Path.{ap}
+use native.Mathlib.Omega.{arith}
+use Rattle.inputs_commands.proofs.Steps.{left_by}
 use Rattle.std.specs.Option.{is_some}
 use Rattle.inputs_new.proofs.new.Goals as goal
 
@@ -29,8 +31,8 @@ zero_lists-requires c = tt
 pub fill-requires : goal.fill-requires
 fill-requires c = tt
 
-pub started-sent-requires : goal.started-sent-requires
-started-sent-requires c = start_asked c.args.settings c.args.kinds c.args.flows.now c.args.delays.now c.args.time (lists c.args.starts.now c.args.totals.now c.args.counts.now c.args.sums.now c.args.times.now c.args.peaks.now) c.args.commands.now c.in_ok-check_settings.ensures refl (c.fill.ensures.after (λ y e. e))
+pub started-requires : goal.started-requires
+started-requires c = let h = start_asked c.args.settings c.args.kinds c.args.flows.now c.args.delays.now c.args.time (lists c.args.starts.now c.args.totals.now c.args.counts.now c.args.sums.now c.args.times.now c.args.peaks.now) c.args.commands.now c.in_ok-check_settings.ensures refl (c.fill.ensures.after (λ y e. e)) in (omega (arith, h.0), h.1)
 
 pub returns : goal.returns
-returns c = new_done _ _ _ _ _ _ _ c.in_ok-check_settings.ensures refl c.if-time-gt-TIME_LIMIT.false c.blank_for.ensures c.load.ensures.fits_value (ap is_some c.in-Some.is) (λ h. c.load.ensures.inputs_value _ c.in-Some.is) c.zero_lists.ensures (c.fill.ensures.after (λ y e. e)) c.started-sent.ensures
+returns c = left_by (new_done _ _ _ _ _ _ _ c.in_ok-check_settings.ensures refl c.if-time-gt-TIME_LIMIT.false c.blank_for.ensures c.load.ensures.fits_value (ap is_some c.in-Some.is) (λ h. c.load.ensures.inputs_value _ c.in-Some.is) c.zero_lists.ensures (c.fill.ensures.after (λ y e. e)) c.started.ensures.did) (search (rules, c.started.ensures.same))

@@ -1,9 +1,11 @@
 -- `inputs_route::steps::forget` meets its contract. Assumes nothing.
-use Rattle.rules_calls.proofs.RouteCases.{forget_none, forget_old}
+use Rattle.std.specs.Prelude.{true}
+use Rattle.inputs_commands.specs.declared.Command.TheVariants.{ClearInput}
+use Rattle.inputs_commands.proofs.Steps.{laid_none, laid_sent}
 use Rattle.inputs_route.proofs.steps.forget.Goals as goal
 
 pub returns-in_default : goal.returns-in_default
-returns-in_default c = forget_none _ _ _ c.in_default.is
+returns-in_default c = rw c.in_default.is laid_none
 
 pub returns : goal.returns
-returns c = forget_old _ _ _ c.in-Some.is c.send.ensures
+returns c = rw c.in-Some.is (laid_sent (ClearInput _ true) c.send.ensures)

@@ -1,6 +1,5 @@
 -- `inputs_tick::fits::lags_fit` meets its contract. Assumes nothing.
 use mathlib.Core.Path.{refl}
-use native.Mathlib.Omega.{arith}
 use Rattle.rules_tick.proofs.LagCounting.{lags_none, lags_more, lags_stop, lags_end}
 use Rattle.rules_tick.specs.Looks.{look_at, no_look}
 use Rattle.inputs_tick.proofs.fits.lags_fit.Goals as goal
@@ -8,21 +7,9 @@ use Rattle.inputs_tick.proofs.fits.lags_fit.Goals as goal
 pub loop-i-init : goal.loop-i-init
 loop-i-init c = lags_none c.args.inputs c.args.looks c.args.lags.now
 
-pub offset_bounds-looks-i : goal.offset_bounds-looks-i
-offset_bounds-looks-i c = omega (arith, c.loop-i-test.true, c.requires)
-
-pub bounds-looks-i : goal.bounds-looks-i
-bounds-looks-i c = omega (arith, c.loop-i-test.true, c.requires)
-
 pub returns-then-left-look : goal.returns-then-left-look
 unfolding look_at no_look
 returns-then-left-look c = lags_stop c.args.inputs c.args.looks c.args.lags.now _ _ c.loop-i.invariant c.loop-i-test.true refl c.if-left-look.true
-
-pub overflow_add-i : goal.overflow_add-i
-overflow_add-i c = omega (arith, c.loop-i-test.true, c.requires)
-
-pub loop-i-smaller : goal.loop-i-smaller
-loop-i-smaller c = omega (arith, c.loop-i-test.true)
 
 pub loop-i-preserved : goal.loop-i-preserved
 unfolding look_at no_look

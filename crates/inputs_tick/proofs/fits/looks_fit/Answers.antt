@@ -1,5 +1,4 @@
 -- `inputs_tick::fits::looks_fit` meets its contract. Assumes nothing.
-use native.Mathlib.Omega.{arith}
 use Rattle.rules_tick.proofs.LagCounting.{looks_none, looks_more, looks_stop, looks_end_law}
 use Rattle.rules_tick.specs.Looks.{look_at, no_look}
 use Rattle.inputs_tick.proofs.fits.looks_fit.Goals as goal
@@ -7,25 +6,9 @@ use Rattle.inputs_tick.proofs.fits.looks_fit.Goals as goal
 pub loop-i-init : goal.loop-i-init
 loop-i-init c = looks_none c.args.inputs c.args.looks
 
-pub offset_bounds-looks-i : goal.offset_bounds-looks-i
-offset_bounds-looks-i c = omega (arith, c.loop-i-test.true, c.requires)
-
-pub bounds-looks-i : goal.bounds-looks-i
-bounds-looks-i c = omega (arith, c.loop-i-test.true, c.requires)
-
-pub look_fits-requires : goal.look_fits-requires
-unfolding look_at no_look
-look_fits-requires c = tt
-
 pub returns-then-not-look_fits : goal.returns-then-not-look_fits
 unfolding look_at no_look
 returns-then-not-look_fits c = looks_stop c.args.inputs c.args.looks _ c.loop-i-test.true c.look_fits.ensures c.if-not-look_fits.true
-
-pub overflow_add-i : goal.overflow_add-i
-overflow_add-i c = omega (arith, c.loop-i-test.true, c.requires)
-
-pub loop-i-smaller : goal.loop-i-smaller
-loop-i-smaller c = omega (arith, c.loop-i-test.true)
 
 pub loop-i-preserved : goal.loop-i-preserved
 unfolding look_at no_look

@@ -1,17 +1,10 @@
 -- `inputs_tick::fits::rooms_fit` meets its contract. Assumes nothing.
-use native.Mathlib.Omega.{arith}
 use Rattle.rules_tick.proofs.LagCounting.{rooms_none, rooms_ask, rooms_more, rooms_stop, rooms_end}
 use Rattle.rules_tick.specs.Looks.{look_at, no_look}
 use Rattle.inputs_tick.proofs.fits.rooms_fit.Goals as goal
 
 pub loop-i-init : goal.loop-i-init
 loop-i-init c = rooms_none c.args.inputs c.args.looks c.args.time c.args.starts.now c.args.totals.now
-
-pub offset_bounds-looks-i : goal.offset_bounds-looks-i
-offset_bounds-looks-i c = omega (arith, c.loop-i-test.true, c.requires.most)
-
-pub bounds-looks-i : goal.bounds-looks-i
-bounds-looks-i c = omega (arith, c.loop-i-test.true, c.requires.most)
 
 pub room_fits-requires : goal.room_fits-requires
 unfolding look_at no_look
@@ -20,12 +13,6 @@ room_fits-requires c = rooms_ask c.args.inputs c.args.looks c.args.time c.args.s
 pub returns-then-not-room_fits : goal.returns-then-not-room_fits
 unfolding look_at no_look
 returns-then-not-room_fits c = rooms_stop c.args.inputs c.args.looks c.args.time c.args.starts.now c.args.totals.now _ c.loop-i-test.true c.room_fits.ensures c.if-not-room_fits.true
-
-pub overflow_add-i : goal.overflow_add-i
-overflow_add-i c = omega (arith, c.loop-i-test.true, c.requires.most)
-
-pub loop-i-smaller : goal.loop-i-smaller
-loop-i-smaller c = omega (arith, c.loop-i-test.true)
 
 pub loop-i-preserved : goal.loop-i-preserved
 unfolding look_at no_look
