@@ -11,7 +11,7 @@ ghost use Rattle.rules_tick.specs.InputReady.{ArriveAsked, LateAsked, AutoAsked}
 
 use super::steps;
 use policy::DelayPolicy;
-use rules_record::{Inputs, Sent, Slot};
+use rules_record::{Inputs, Sent, Slot, State};
 
 // The slot of input i after the lags of one tick are pushed to its window, and the last one is kept. The caller puts it, with what else the tick changes in it: a record is large, and each call that returns one copies it.
 pub fn arrive(
@@ -71,15 +71,13 @@ pub fn auto_delay(
     ensures { (totals counts : List ℕ) → OwnSums inputs (lists starts.now totals counts sums.now times.old peaks.old) i (slot_at inputs i) → Effected 3 (auto_delayed i max_lag time inputs (lists starts.now totals counts sums.now times.old peaks.old)) result (lists starts.now totals counts sums.now times.new peaks.new) commands.old commands.new used }
 {
     let slot = inputs_slots::slot_at(inputs, i);
-    let state = slot.state;
-    let code = inputs_slots::code(state);
-    if code == inputs_slots::STALLED {
+    if slot.state == State::Stalled {
         return Sent {
             inputs: steps::interrupted(inputs, i, slot),
             used,
         };
     }
-    if code != inputs_slots::RUNNING {
+    if slot.state != State::Running {
         return Sent { inputs, used };
     }
     if !inputs_slots::automatic(slot) {

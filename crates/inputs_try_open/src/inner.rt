@@ -5,7 +5,7 @@ ghost use Rattle.rules_record.specs.Inputs.{slot_at};
 ghost use Rattle.rules_record.specs.Commands.{Did};
 ghost use Rattle.rules_routing.specs.TryOpen.{opened_slot, start_of, recall_of, open_reader, try_open_of};
 
-use rules_record::{Inputs, Instance, Sent, Slot};
+use rules_record::{Inputs, Instance, Sent, Slot, State};
 use rules_routing::World;
 
 // The slot once its reader is open.
@@ -14,8 +14,7 @@ fn opened(slot: Slot, inode: u64, head: u64, time: u64) -> Slot
     ensures { result ≡ opened_slot slot inode head time }
 {
     let runs = crate::running(slot, inode, head, time);
-    let state = slot.state;
-    if inputs_slots::code(state) == inputs_slots::WAITING {
+    if slot.state == State::Waiting {
         return runs;
     }
     inputs_slots::with_reopens(runs, slot.reopens + 1)
