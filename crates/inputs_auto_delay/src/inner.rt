@@ -13,7 +13,7 @@ ghost use Rattle.rules_tick.specs.InputReady.{ArriveAsked, LateAsked, AutoAsked}
 use super::steps;
 use inputs_commands::Commands;
 use policy::DelayPolicy;
-use rules_record::{Inputs, Slot};
+use rules_record::{Inputs, Slot, State};
 
 // The slot of input i after the lags of one tick are pushed to its window, and the last one is kept. The caller puts it, with what else the tick changes in it: a record is large, and each call that returns one copies it.
 pub fn arrive(
@@ -72,12 +72,10 @@ pub fn auto_delay(
     ensures { (totals counts : List ℕ) → OwnSums inputs (lists starts.now totals counts sums.now times.old peaks.old) i (slot_at inputs i) → Affects 3 (auto_delayed i max_lag time inputs (lists starts.now totals counts sums.now times.old peaks.old)) result (lists starts.now totals counts sums.now times.new peaks.new) commands.old commands.new }
 {
     let slot = inputs_slots::slot_at(inputs, i);
-    let state = slot.state;
-    let code = inputs_slots::code(state);
-    if code == inputs_slots::STALLED {
+    if slot.state == State::Stalled {
         return steps::interrupted(inputs, i, slot);
     }
-    if code != inputs_slots::RUNNING {
+    if slot.state != State::Running {
         return inputs;
     }
     if !inputs_slots::automatic(slot) {

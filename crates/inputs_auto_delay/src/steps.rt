@@ -16,7 +16,7 @@ ghost use Rattle.rules_tick.specs.InputReady.{P999Asked, AutoAsked};
 use delay_hold::{DelayHold, Next};
 use inputs_commands::Commands;
 use policy::DelayPolicy;
-use rules_record::{Inputs, Slot};
+use rules_record::{Inputs, Slot, State};
 
 // How long the seconds of lags must span before the first automatic setting.
 const MIN_LAG_SECONDS: u64 = 1;
@@ -39,8 +39,7 @@ pub(crate) fn late_now(policy: DelayPolicy, slot: Slot, applied: u32, max_lag: O
     requires { Sound policy × (applied ≤ samples_limit) }
     ensures { result ≡ late_now policy slot applied max_lag }
 {
-    let state = slot.state;
-    if inputs_slots::code(state) != inputs_slots::RUNNING {
+    if slot.state != State::Running {
         return false;
     }
     let Some(lag) = max_lag else {

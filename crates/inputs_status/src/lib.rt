@@ -14,7 +14,7 @@ ghost use Rattle.rules_calls.specs.Settled.{settled_slot, settled_reply};
 
 use refusals::Refusal;
 use rules_calls::InputStatus;
-use rules_record::{Inputs, Output, Slot};
+use rules_record::{Inputs, Output, Slot, State};
 
 mod shown;
 
@@ -159,8 +159,7 @@ pub fn has_channels(
         inputs, input, channels, starts, totals, counts, sums, times, peaks,
     )?;
     let slot = inputs_slots::slot_at(inputs, input);
-    let state = slot.state;
-    if inputs_slots::code(state) != inputs_slots::RUNNING {
+    if slot.state != State::Running {
         return Ok(false);
     }
     Ok(wanted <= channels as usize)
@@ -170,8 +169,7 @@ pub fn has_channels(
 fn settled_slot(slot: Slot, hold: u64, time: u64) -> bool
     ensures { result ≡ settled_slot slot hold time }
 {
-    let state = slot.state;
-    if inputs_slots::code(state) != inputs_slots::RUNNING {
+    if slot.state != State::Running {
         return false;
     }
     let last_set = slot.last_set;

@@ -36,7 +36,7 @@ fn source_of(inputs: Inputs, to: Option<Route>) -> Option<Source>
 fn channels_shown(state: State, channels: u32) -> u32
     ensures { result ≡ channels_shown state channels }
 {
-    if inputs_slots::code(state) == inputs_slots::UNROUTED {
+    if state == State::Unrouted {
         return 0;
     }
     channels

@@ -41,12 +41,10 @@ fn look_at(inputs: Inputs, i: usize, look: Look, time: u64, commands: &mut Comma
 fn rests(slot: Slot, look: Look) -> bool
     ensures { result ≡ true → (state_number slot.state < 2) × ((s : Inputs) (i time : ℕ) → slot_at s i ≡ slot → looked i look time s ≡ quiet s) }
 {
-    let state = slot.state;
-    let code = inputs_slots::code(state);
-    if inputs_slots::RUNNING <= code {
+    if State::Waiting < slot.state {
         return false;
     }
-    if code != inputs_slots::WAITING {
+    if slot.state != State::Waiting {
         return true;
     }
     let world = look.world;
@@ -74,9 +72,7 @@ pub fn stays(slot: Slot, look: Look) -> bool
 fn moves(slot: Slot, look: Look) -> bool
     ensures { result ≡ true → ((s : Inputs) (i time : ℕ) → slot_at s i ≡ slot → looked i look time s ≡ quiet (put_slot s i (moved_slot slot look.world.head time))) }
 {
-    let state = slot.state;
-    let code = inputs_slots::code(state);
-    if code < inputs_slots::RUNNING {
+    if slot.state < State::Running {
         return false;
     }
     let to = slot.route;

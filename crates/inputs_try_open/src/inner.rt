@@ -6,7 +6,7 @@ ghost use Rattle.inputs_commands.specs.Sending.{Room, Does};
 ghost use Rattle.rules_routing.specs.TryOpen.{opened_slot, start_of, recall_of, open_reader, try_open_of};
 
 use inputs_commands::{Command, Commands};
-use rules_record::{Inputs, Instance, Slot};
+use rules_record::{Inputs, Instance, Slot, State};
 use rules_routing::World;
 
 // The slot once its reader is open.
@@ -15,8 +15,7 @@ fn opened(slot: Slot, inode: u64, head: u64, time: u64) -> Slot
     ensures { result ≡ opened_slot slot inode head time }
 {
     let runs = crate::running(slot, inode, head, time);
-    let state = slot.state;
-    if inputs_slots::code(state) == inputs_slots::WAITING {
+    if slot.state == State::Waiting {
         return runs;
     }
     inputs_slots::with_reopens(runs, slot.reopens + 1)

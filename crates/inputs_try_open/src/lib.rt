@@ -25,8 +25,7 @@ fn running(slot: Slot, inode: u64, head: u64, time: u64) -> Slot
 {
     let told = inputs_slots::with_last_input(slot, time);
     let placed = inputs_slots::with_inode(told, Some(inode));
-    let state = slot.state;
-    if inputs_slots::code(state) == inputs_slots::STALLED {
+    if slot.state == State::Stalled {
         return inputs_slots::with_head(placed, head, slot.head_changed);
     }
     let runs = inputs_slots::with_state(placed, State::Running);
@@ -40,8 +39,7 @@ fn starts(slot: Slot) -> bool
     if !inputs_slots::automatic(slot) {
         return false;
     }
-    let state = slot.state;
-    if inputs_slots::code(state) != inputs_slots::WAITING {
+    if slot.state != State::Waiting {
         return false;
     }
     slot.delay == 0

@@ -52,8 +52,7 @@ pub fn moved(slot: Slot, head: u64, time: u64) -> Slot
     ensures { result ≡ moved_slot slot head time }
 {
     let seen = inputs_slots::with_head(slot, head, time);
-    let state = slot.state;
-    if inputs_slots::code(state) == inputs_slots::STALLED {
+    if slot.state == State::Stalled {
         return inputs_slots::with_state(seen, State::Running);
     }
     seen
@@ -63,8 +62,7 @@ pub fn moved(slot: Slot, head: u64, time: u64) -> Slot
 fn stalls(slot: Slot, time: u64, stall: u64) -> bool
     ensures { result ≡ stalls_now slot time stall }
 {
-    let state = slot.state;
-    if inputs_slots::code(state) != inputs_slots::RUNNING {
+    if slot.state != State::Running {
         return false;
     }
     stall <= time.saturating_sub(slot.head_changed)

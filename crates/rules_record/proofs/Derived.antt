@@ -2,7 +2,8 @@
 use Rattle.std.specs.Prelude.{◌≡◌, Bool, true, false, ◌&&◌, ◌==◌, not, nat_lt, Option, None, Some}
 use Rattle.std.specs.Option.{option_eq}
 use Rattle.std.specs.Ordering.{partial_lt}
-use mathlib.Core.Path.{refl}
+use mathlib.Core.Path.{refl, sym, ap, ◌∙◌}
+use borrow.Author.Tests.{eqb-true, eqb-false}
 use denote.Enum.Bare.{sameb}
 use Rattle.base.specs.Choice.{both}
 use Rattle.rules_record.specs.contracts.State.{the_type}
@@ -22,6 +23,14 @@ and_both : (a b : Bool) → (a && b) ≡ both a b
 unfolding both
 and_both true b = refl
 and_both false b = refl
+
+not_false : (b : Bool) → not b ≡ false → b ≡ true
+not_false true e = refl
+not_false false e = sym e
+
+not_true : (b : Bool) → not b ≡ true → b ≡ false
+not_true true e = sym e
+not_true false e = refl
 
 -- flows are equal where they are the same 16 bytes
 pub flow_eq : (a b : Flow) → (flow.eq-value).it a b ≡ same_flow a b
@@ -55,6 +64,20 @@ state_eq Stalled Unrouted = refl
 state_eq Stalled Waiting = refl
 state_eq Stalled Running = refl
 state_eq Stalled Stalled = refl
+
+-- what a test of the code told of a state's number
+module _ (a b : State) {r : Bool} where
+  pub state_same : r ≡ sameb the_type a b → r ≡ true → state_number a ≡ state_number b
+  state_same e h = eqb-true _ _ (sym (state_eq a b) ∙ sym e ∙ h)
+
+  pub state_other : r ≡ sameb the_type a b → r ≡ false → state_number a ≡ state_number b → ⊥
+  state_other e h = eqb-false _ _ (sym (state_eq a b) ∙ sym e ∙ h)
+
+  pub state_not_other : r ≡ not (sameb the_type a b) → r ≡ false → state_number a ≡ state_number b
+  state_not_other e h = eqb-true _ _ (sym (state_eq a b) ∙ not_false _ (sym e ∙ h))
+
+  pub state_not_same : r ≡ not (sameb the_type a b) → r ≡ true → state_number a ≡ state_number b → ⊥
+  state_not_same e h = eqb-false _ _ (sym (state_eq a b) ∙ not_true _ (sym e ∙ h))
 
 -- .. and in the order of their numbers
 pub state_lt : (a b : State) → partial_lt (state.partial_cmp-value).it a b ≡ nat_lt (state_number a) (state_number b)
