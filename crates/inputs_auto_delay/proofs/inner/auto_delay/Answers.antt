@@ -23,4 +23,4 @@ pub answer-requires : goal.answer-requires
 answer-requires c = (c.requires.used_in_bounds, omega (arith, c.requires.auto_asked.ready.input, c.requires.auto_asked.ready.fitting.allowed.most), answer_asks _ _ c.slot_at-slot.ensures c.with_hold-decided.ensures c.requires.auto_asked.changes)
 
 pub returns : goal.returns
-returns c = λ totals counts own. affects_by (decides_by _ _ _ _ _ c.slot_at-slot.ensures refl (state_other c.slot_at-slot.result.state Stalled c.eq.ensures c.if-eq.false) (state_not_other c.slot_at-slot.result.state Running c.ne.ensures c.if-ne.false) c.automatic.ensures (c.if-not-automatic.false) (c.next_for-next.ensures totals counts own) c.with_hold-decided.ensures) (affects_done c.answer.ensures refl refl)
+returns c = λ totals counts own. affects_by (decides_by _ _ _ _ _ c.slot_at-slot.ensures refl (state_other c.slot_at-slot.result.state Stalled c.eq.ensures c.if-eq.false) (state_not_other c.slot_at-slot.result.state Running c.ne.ensures c.if-ne.false) c.automatic.ensures (c.if-not-automatic.false) (c.next_for-next.ensures totals counts own) c.with_hold-decided.ensures) (affects_done c.answer.ensures refl)
