@@ -2,7 +2,7 @@
 use Rattle.std.specs.Prelude.{◌≡◌, Bool, true, false, ◌&&◌, ◌==◌, not, nat_lt, Option, None, Some}
 use Rattle.std.specs.Option.{option_eq}
 use Rattle.std.specs.Ordering.{partial_lt}
-use mathlib.Core.Path.{refl, sym, ap, ◌∙◌}
+use mathlib.Core.Path.{refl, sym, ◌∙◌}
 use borrow.Author.Tests.{eqb-true, eqb-false}
 use denote.Enum.Bare.{sameb}
 use Rattle.base.specs.Choice.{both}
