@@ -1,8 +1,7 @@
 -- `inputs_auto_delay::inner::auto_delay` meets its contract. Assumes nothing.
 use mathlib.Core.Path.{refl}
-use native.Mathlib.Omega.{arith}
 use Rattle.inputs_commands.proofs.Steps.{affects_by, affects_silent, affects_done}
-use Rattle.rules_tick.proofs.AutoDelayCases.{stalled_by, idle_by, manual_by, decides_by, answer_asks}
+use Rattle.rules_tick.proofs.AutoDelayCases.{stalled_by, idle_by, manual_by, decides_by}
 use Rattle.inputs_auto_delay.proofs.inner.auto_delay.Goals as goal
 
 pub returns-then-code-eq-STALLED : goal.returns-then-code-eq-STALLED
@@ -13,12 +12,6 @@ returns-then-code-ne-RUNNING c = λ totals counts own. affects_by (idle_by _ _ _
 
 pub returns-then-not-automatic : goal.returns-then-not-automatic
 returns-then-not-automatic c = λ totals counts own. affects_by (manual_by _ _ _ _ _ c.slot_at-slot.ensures c.code-code.ensures c.if-code-eq-STALLED.false c.if-code-ne-RUNNING.false c.automatic.ensures (c.if-not-automatic.true)) (affects_silent refl refl)
-
-pub next_for-next-requires : goal.next_for-next-requires
-next_for-next-requires c = (c.slot_at-slot.ensures, c.requires.auto_asked)
-
-pub answer-requires : goal.answer-requires
-answer-requires c = (c.requires.used_in_bounds, omega (arith, c.requires.auto_asked.ready.input, c.requires.auto_asked.ready.fitting.allowed.most), answer_asks _ _ c.slot_at-slot.ensures c.with_hold-decided.ensures c.requires.auto_asked.changes)
 
 pub returns : goal.returns
 returns c = λ totals counts own. affects_by (decides_by _ _ _ _ _ c.slot_at-slot.ensures c.code-code.ensures c.if-code-eq-STALLED.false c.if-code-ne-RUNNING.false c.automatic.ensures (c.if-not-automatic.false) (c.next_for-next.ensures totals counts own) c.with_hold-decided.ensures) (affects_done c.answer.ensures refl)
