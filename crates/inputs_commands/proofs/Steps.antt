@@ -43,10 +43,6 @@ does_first (SetDelay i w) h d = record { did = did_first _ _ _ h.used h.words d.
 pub does_changed : (f : Inputs → Inputs) {most : ℕ} {done : Done} {answer z : Inputs} {before after : Commands} → Does most done answer before after → z ≡ f answer → Does most (changed f done) z before after
 does_changed f h e = record { did = did_changed f h.did e; same = h.same }
 
--- room for a command and more is room for more once it is sent
-pub room_left : (command : Command) (n : ℕ) {before after : Commands} → Room (n + 3) before → Sends command before after → Room n after
-room_left command n {before} r h = omega (arith, r, h.used, ap length h.words ∙ length-sets before.words.now before.used (words_of command))
-
 -- a step leaves the list as long as it was
 pub long_after : {most : ℕ} {done : Done} {answer : Inputs} {before after : Commands} → Does most done answer before after → length after.words.now ≡ length before.words.now
 long_after {done = done} {before = before} h = ap length h.did.words ∙ length-sets before.words.now before.used done.words

@@ -7,8 +7,6 @@ use Rattle.base.proofs.Choices.{yes_pick, no_pick}
 use Rattle.rules_record.specs.declared.Slot.{Slot}
 use Rattle.rules_record.specs.declared.Route.{Route}
 use Rattle.rules_record.specs.declared.Inputs.{Inputs}
-use Rattle.rules_record.specs.declared.State.TheVariants.{Stalled}
-use Rattle.rules_record.specs.Slots.{with_state}
 use Rattle.rules_record.specs.Inputs.{slot_at, put_slot}
 use Rattle.rules_record.specs.Commands.{clear_input, quiet, send_first}
 use Rattle.rules_routing.specs.declared.World.{World}
@@ -35,9 +33,6 @@ module _ (last head : ℕ) {to : Option Route} {seen stored : Option ℕ} {route
 
 -- ---- what is done then
 module _ (slot : Slot) (s : Inputs) (i time : ℕ) (world : World) where
-  pub still_stalls : stalls_now slot time s.stall ≡ true → {stalled : Slot} {all : Inputs} → stalled ≡ with_state slot Stalled → all ≡ put_slot s i stalled → watch_found Still slot s i time world ≡ try_open_of all i time world
-  still_stalls h e f = yes_pick _ _ h ∙ ap (λ (z : Inputs). try_open_of z i time world) (sym (f ∙ ap (put_slot s i) e))
-
   pub still_stays : stalls_now slot time s.stall ≡ false → watch_found Still slot s i time world ≡ quiet s
   still_stays h = no_pick _ _ h
 

@@ -7,12 +7,6 @@ use Rattle.inputs_commands.specs.declared.Command.TheVariants.{ClearInput}
 use Rattle.inputs_commands.proofs.Steps.{does_by, does_quiet, does_sent}
 use Rattle.inputs_watch.proofs.inner.watch.Goals as goal
 
-pub lost-waits-requires : goal.lost-waits-requires
-lost-waits-requires c = rw c.slot_at-slot.ensures c.requires.2
-
-pub watch_still-requires : goal.watch_still-requires
-watch_still-requires c = (c.requires.0, c.requires.1, c.requires.2, rw c.slot_at-slot.ensures c.requires.2)
-
 pub returns-in-Unwatched : goal.returns-in-Unwatched
 returns-in-Unwatched c = does_by (watch_by _ _ _ _ _ _ c.slot_at-slot.ensures c.finds-found.ensures c.in-Unwatched.is) (does_quiet refl)
 
