@@ -7,7 +7,7 @@ use lib.Ieee.{fin, binary64, round, mul, div, of_int, le}
 use Rattle.base.specs.Choice.{ask, both}
 use Rattle.buckets.specs.Ranges.{reaches_allowed}
 use Rattle.doubles.specs.Doubles.{ms_of, samples_of, half_away}
-use Rattle.policy.specs.declared.Need.TheVariants as Need
+use Rattle.policy.specs.Need as Need
 use Rattle.policy.specs.Settings.{margins_allowed}
 use Rattle.policy.specs.Need.{need_of, need_number, need_reply}
 use Rattle.answers.specs.Fifteen.{settings, Fifteen}

@@ -1,21 +1,19 @@
 -- Document 01's fifteen worked answers in one place, stated of what the calls themselves answer: three of Doubles, three of Need,
 -- four quantiles, five of `next` as far as current 48. Assumes nothing.
-use Rattle.std.specs.Prelude.{ℕ, ◌*◌, false, ◌≡◌, List, [], ◌∷◌, ◌++◌, pos, negsuc, Float, replicate}
+use Rattle.std.specs.Prelude.{ℕ, ◌*◌, false, ◌≡◌, List, [], ◌∷◌, ◌++◌, pos, negsuc, Float, replicate, None, Option, Some}
 use Rattle.std.specs.Float.{fin, binary64}
 use Rattle.std.specs.Float.Ieee.{round}
 use Rattle.buckets.specs.Ranges.{buckets_of}
 use Rattle.doubles.specs.Doubles.{ms_of, samples_of}
 use Rattle.policy.specs.declared.DelayPolicy.{DelayPolicy}
-use Rattle.policy.specs.declared.Need.TheVariants as Need
+use Rattle.policy.specs.Need as Need
 use Rattle.policy.specs.Need.{need_reply}
-use Rattle.rules_window.specs.declared.Quantile.{Quantile}
-use Rattle.rules_window.specs.declared.Quantile.TheVariants.{End}
+use Rattle.rules_window.specs.Quantile.{Quantile}
+use Rattle.rules_window.specs.Quantile.{End}
 use Rattle.rules_window.specs.Quantile.{thousandths}
 use Rattle.rules_window.specs.Checks as window
-use Rattle.delay_hold.specs.declared.Lag.{Lag}
-use Rattle.delay_hold.specs.declared.Lag.TheVariants.{None, Of}
-use Rattle.delay_hold.specs.declared.Answer.{Answer}
-use Rattle.delay_hold.specs.declared.Answer.TheVariants.{Kept, Changed}
+use Rattle.delay_hold.specs.Checks.{Answer}
+use Rattle.delay_hold.specs.Checks.{Kept, Changed}
 use Rattle.delay_hold.specs.Next.{Held}
 use Rattle.delay_hold.specs.Checks as hold
 
@@ -47,7 +45,7 @@ one = fin false 1 (pos 0)
 abbrev pub fresh : Held
 fresh = (hold.new_reply (replicate 600 7) (replicate 600 7)).held
 
-abbrev pub first_next : (p999 largest : Lag) (current : ℕ) → Answer
+abbrev pub first_next : (p999 largest : Option ℕ) (current : ℕ) → Answer
 first_next p999 largest current = (hold.next_reply settings 48 fresh p999 largest current 3_600_000_000_000).answer
 
 pub record Fifteen : Type 0 where
@@ -63,5 +61,5 @@ pub record Fifteen : Type 0 where
   pub two_above : quantile_left (thousandths 999) (after (replicate 998 0 ++ 48 ∷ 48 ∷ []) made) ≡ End 96
   -- "Current 0: lag 485 gives 104, lag 480 none, lag 5281 none. p999 480, no lag: current 47 raises to 96, 48 does not"
   pub decisions :
-      first_next None (Of 485) 0 ∷ first_next None (Of 480) 0 ∷ first_next None (Of 5281) 0 ∷ first_next (Of 480) None 47 ∷ first_next (Of 480) None 48 ∷ []
+      first_next None (Some 485) 0 ∷ first_next None (Some 480) 0 ∷ first_next None (Some 5281) 0 ∷ first_next (Some 480) None 47 ∷ first_next (Some 480) None 48 ∷ []
       ≡ Changed 104 ∷ Kept ∷ Kept ∷ Changed 96 ∷ Kept ∷ []

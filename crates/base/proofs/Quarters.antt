@@ -1,83 +1,78 @@
--- Four quarters of a list, read side by side: they are zero exactly where the bits of all their numbers, joined, are. Assumes nothing.
-use Rattle.std.specs.Prelude.{◌≡◌, ℕ, ◌+◌, ◌-◌, ◌<◌, ◌≤◌, Bool, true, false, eqb, List, get_or}
-use mathlib.Core.Path.{refl, sym, ◌∙◌}
+-- Four quarters of a list, read side by side, and what is left: a test holds all over the list exactly where it holds in each part. Assumes nothing.
+use Rattle.std.proofs.Common.{◌≡◌, ℕ, ◌+◌, ◌-◌, ◌*◌, ◌<◌, ◌≤◌, min, Bool, true, false, ◌&&◌, List, length, take, drop, get_or, refl, sym, ap, ◌∙◌, arith}
+use Rattle.std.specs.List.{list_all}
+use Rattle.std.proofs.Math.Bool.{and_assoc}
 use native.Mathlib.Nat.{le_antisymm}
-use native.Mathlib.Numerals.{add-one}
-use native.Mathlib.Omega.{arith}
-use borrow.Author.Tests.{eq-eqb, eqb-true}
-use lib.Bits.{bit_or}
-use Rattle.base.specs.Choice.{pick}
-use Rattle.base.specs.Lists.{all, blank_from}
-use Rattle.base.proofs.All.{all_none, or_zero}
-use Rattle.base.proofs.Choices.{by_bool, by_le}
-use Rattle.base.proofs.Points.{pick_true, all_at, all_intro, blank_at, blank_intro}
-use Rattle.base.proofs.Tests.{not_both}
+use Rattle.std.proofs.lemmas.List.{take-append-drop, drop-drop}
+use Rattle.std.proofs.lemmas.List.Folds.{list_all-append, list_all_more}
+use lib.ListN.{length-drop}
+use lib.Seq.{take_all, get_or-drop}
+use Rattle.base.specs.Lists.{each_from}
+use Rattle.base.proofs.Shifts.{drop_min}
 
--- place i of each quarter from a, b, c and d on is zero
-abbrev zero_at : (a b c d : ℕ) (xs : List ℕ) (i : ℕ) → Bool
-zero_at a b c d xs i = pick (eqb (get_or xs (a + i) 0) 0) (pick (eqb (get_or xs (b + i) 0) 0) (pick (eqb (get_or xs (c + i) 0) 0) (eqb (get_or xs (d + i) 0) 0) false) false) false
+paired : (a x b y : Bool) → ((a && x) && (b && y)) ≡ ((a && b) && (x && y))
+paired false x b y = refl
+paired true false false y = refl
+paired true false true y = refl
+paired true true b y = refl
 
-nested : (p w x y z : Bool) → pick (pick (pick (pick p w false) x false) y false) z false ≡ pick p (pick w (pick x (pick y z false) false) false) false
-nested false w x y z = refl
-nested true false x y z = refl
-nested true true false y z = refl
-nested true true true y z = refl
+rowed : (p w x y z : Bool) → ((((p && w) && x) && y) && z) ≡ (p && (((w && x) && y) && z))
+rowed false w x y z = refl
+rowed true w x y z = refl
 
-joined : (bits w x y z : ℕ) → eqb (bit_or (bit_or (bit_or (bit_or bits w) x) y) z) 0 ≡ pick (eqb bits 0) (pick (eqb w 0) (pick (eqb x 0) (pick (eqb y 0) (eqb z 0) false) false) false) false
-joined bits w x y z =
-    or_zero (bit_or (bit_or (bit_or bits w) x) y) z
-    ∙ (rw (or_zero (bit_or (bit_or bits w) x) y, or_zero (bit_or bits w) x, or_zero bits w) (nested (eqb bits 0) (eqb w 0) (eqb x 0) (eqb y 0) (eqb z 0)))
+grown : (a w b x c y d z : Bool) → (((((((a && b) && c) && d) && w) && x) && y) && z) ≡ ((((a && w) && (b && x)) && (c && y)) && (d && z))
+grown a w b x c y d z = rowed (((a && b) && c) && d) w x y z ∙ sym (ap (λ p. (p && (c && y)) && (d && z)) (paired a w b x) ∙ ap (λ p. p && (d && z)) (paired (a && b) (w && x) c y) ∙ paired ((a && b) && c) ((w && x) && y) d z)
 
-module _ (a b c d : ℕ) (xs : List ℕ) where
-  -- .. and so are the first i of each
+nested : (a b c d e : Bool) → ((((a && b) && c) && d) && e) ≡ (a && (b && (c && (d && e))))
+nested false b c d e = refl
+nested true false c d e = refl
+nested true true false d e = refl
+nested true true true d e = refl
+
+module _ {A : Type 0} (test : A → Bool) (q : ℕ) (xs : List A) where
+  -- the test holds at the first i places of each of the four quarters
   unfoldable pub zero_to : (i : ℕ) → Bool
-  zero_to i = all (zero_at a b c d xs) i
+  zero_to i = ((list_all test (take i xs) && list_all test (take i (drop q xs))) && list_all test (take i (drop (2 * q) xs))) && list_all test (take i (drop (3 * q) xs))
 
   pub quarters_none : true ≡ zero_to 0
   unfolding zero_to
-  quarters_none = sym (all_none _)
+  quarters_none = refl
 
-  pub quarters_more : (i bits : ℕ) → eqb bits 0 ≡ zero_to i → eqb (bit_or (bit_or (bit_or (bit_or bits (get_or xs (a + i) 0)) (get_or xs (b + i) 0)) (get_or xs (c + i) 0)) (get_or xs (d + i) 0)) 0 ≡ zero_to (i + 1)
-  unfolding zero_to all
-  quarters_more i bits e = joined bits (get_or xs (a + i) 0) (get_or xs (b + i) 0) (get_or xs (c + i) 0) (get_or xs (d + i) 0) ∙ rw (add-one, ← e)
+  one_more : (from i : ℕ) (x : A) → from + i < length xs → x ≡ get_or xs (from + i) x → list_all test (take (i + 1) (drop from xs)) ≡ (list_all test (take i (drop from xs)) && test x)
+  one_more from i x l e = let h : i < length (drop from xs) = simp length-drop (omega arith) in list_all_more test (drop from xs) i x h ∙ ap (λ y. list_all test (take i (drop from xs)) && test y) (get_or-drop from xs i x ∙ sym e)
 
--- the four quarters, of q places each, and the places after them
-module _ (k q : ℕ) (xs : List ℕ) where
-  abbrev all_zero : Bool
-  all_zero = zero_to k (k + q) (k + q + q) (k + q + q + q) xs q
-
-  module _ (h : all_zero ≡ true) where
-    four : (j : ℕ) → j < q → (get_or xs (k + j) 0 ≡ 0) × (get_or xs (k + q + j) 0 ≡ 0) × (get_or xs (k + q + q + j) 0 ≡ 0) × (get_or xs (k + q + q + q + j) 0 ≡ 0)
-    unfolding zero_to
-    four j l =
-        let a = pick_true _ _ (all_at _ q h j l) in
-        let b = pick_true _ _ a.1 in
-        let c = pick_true _ _ b.1 in
-        (eqb-true _ _ a.0, eqb-true _ _ b.0, eqb-true _ _ c.0, eqb-true _ _ c.1)
-
-    there : (a i : ℕ) → a ≤ i → get_or xs (a + (i - a)) 0 ≡ 0 → get_or xs i 0 ≡ 0
-    there a i l e = let m : a + (i - a) ≡ i = omega arith in rw m at e
-
-    zero_at_law : (i : ℕ) → k ≤ i → i < k + q + q + q + q → get_or xs i 0 ≡ 0
-    zero_at_law i l g =
-        by_le (k + q) i
-        (λ m. by_le (k + q + q) i
-        (λ n. by_le (k + q + q + q) i
-        (λ o. there (k + q + q + q) i o (four (i - (k + q + q + q)) (omega arith)).3)
-        (λ o. there (k + q + q) i n (four (i - (k + q + q)) (omega arith)).2))
-        (λ n. there (k + q) i m (four (i - (k + q)) (omega arith)).1))
-        (λ m. there k i l (four (i - k) (omega arith)).0)
-
-  zero_all : blank_from k xs ≡ true → all_zero ≡ true
+  pub quarters_more : (i : ℕ) → 4 * q ≤ length xs → i < q → {b b1 b2 b3 b4 : Bool} {w x y z : A} → b ≡ zero_to i → w ≡ get_or xs i w → x ≡ get_or xs (q + i) x → y ≡ get_or xs (2 * q + i) y → z ≡ get_or xs (3 * q + i) z → b1 ≡ (b && test w) → b2 ≡ (b1 && test x) → b3 ≡ (b2 && test y) → b4 ≡ (b3 && test z) → b4 ≡ zero_to (i + 1)
   unfolding zero_to
-  zero_all h = all_intro _ q (λ j l. rw (zero (k + j) (omega arith), zero (k + q + j) (omega arith), zero (k + q + q + j) (omega arith), zero (k + q + q + q + j) (omega arith)))
-    where
-      zero : (i : ℕ) → k ≤ i → eqb (get_or xs i 0) 0 ≡ true
-      zero i l = eq-eqb _ _ (blank_at k xs h i l)
+  quarters_more i few l {w = w} {x} {y} {z} e ew ex ey ez e1 e2 e3 e4 =
+      let first = list_all_more test xs i w (omega arith) ∙ ap (λ a. list_all test (take i xs) && test a) (sym ew) in
+      let second = one_more q i x (omega arith) ex in
+      let third = one_more (2 * q) i y (omega arith) ey in
+      let fourth = one_more (3 * q) i z (omega arith) ez in
+      let passed : ℕ → Bool = λ from. list_all test (take i (drop from xs)) in
+      rw (first, second, third, fourth, e4, e3, e2, e1, e) (grown (passed 0) (test w) (passed q) (test x) (passed (2 * q)) (test y) (passed (3 * q)) (test z))
 
-  pub quarters_tell : (i bits : ℕ) → eqb bits 0 ≡ zero_to k (k + q) (k + q + q) (k + q + q + q) xs i → i ≤ q → q ≤ i → blank_from k xs ≡ pick (eqb bits 0) (blank_from (k + q + q + q + q) xs) false
-  quarters_tell i bits e l m =
-      rw (e, le_antisymm l m)
-      (by_bool all_zero
-      (λ h. rw h (by_bool (blank_from (k + q + q + q + q) xs) (λ r. rw r (blank_intro k xs (λ j g. by_le (k + q + q + q + q) j (λ y. blank_at _ xs r j y) (λ y. zero_at_law h j g y)))) (λ r. rw r (by_bool (blank_from k xs) (λ f. absurd (not_both (blank_intro _ xs (λ j g. blank_at k xs f j (omega arith))) r)) (λ f. f)))))
-      (λ h. rw h (by_bool (blank_from k xs) (λ f. absurd (not_both (zero_all f) h)) (λ f. f))))
+  -- .. all of them, and the places passed after them
+  pub left_none : (i : ℕ) → i ≤ q → q ≤ i → {b : Bool} → b ≡ zero_to i → b ≡ (zero_to q && true)
+  left_none i l m e = rw (e, le_antisymm l m) (alone (zero_to q))
+    where
+      alone : (b : Bool) → b ≡ (b && true)
+      alone true = refl
+      alone false = refl
+
+  pub left_more : (i : ℕ) (ys : List A) → i < length ys → {b c : Bool} {x : A} → x ≡ get_or ys i x → b ≡ (zero_to q && list_all test (take i ys)) → c ≡ (b && test x) → c ≡ (zero_to q && list_all test (take (i + 1) ys))
+  left_more i ys l {x = x} ex e f = rw (f, e, list_all_more test ys i x l, ← ex) (and_assoc (zero_to q) (list_all test (take i ys)) (test x))
+
+  cut : (a b : ℕ) → b ≡ a + q → list_all test (drop a xs) ≡ (list_all test (take q (drop a xs)) && list_all test (drop b xs))
+  cut a b e = ap (list_all test) (sym (take-append-drop q (drop a xs))) ∙ list_all-append test (take q (drop a xs)) (drop q (drop a xs)) ∙ ap (λ ys. list_all test (take q (drop a xs)) && list_all test ys) (drop-drop q a xs ∙ ap (λ n. drop n xs) (sym e))
+
+  pub quarters_all : (i : ℕ) → length (take (length xs - 4 * q) (drop (4 * q) xs)) ≤ i → {b : Bool} → b ≡ (zero_to q && list_all test (take i (take (length xs - 4 * q) (drop (4 * q) xs)))) → b ≡ list_all test xs
+  unfolding zero_to
+  quarters_all i l e =
+      let kept : take (length xs - 4 * q) (drop (4 * q) xs) ≡ drop (4 * q) xs = take_all _ _ (simp length-drop (omega arith)) in
+      rw (e, take_all i _ l, kept, cut 0 q (omega arith), cut q (2 * q) (omega arith), cut (2 * q) (3 * q) (omega arith), cut (3 * q) (4 * q) (omega arith)) (nested (list_all test (take q xs)) (list_all test (take q (drop q xs))) (list_all test (take q (drop (2 * q) xs))) (list_all test (take q (drop (3 * q) xs))) (list_all test (drop (4 * q) xs)))
+
+-- what is left of a list from k on, however large k is
+pub from_min : {A : Type 0} (test : A → Bool) (k m : ℕ) (xs : List A) → m ≡ min k (length xs) → list_all test (take (length xs - m) (drop m xs)) ≡ each_from test k xs
+unfolding each_from
+from_min test k m xs e =
+    ap (list_all test) (take_all (length xs - m) (drop m xs) (simp length-drop (omega arith)) ∙ drop_min k m xs e)

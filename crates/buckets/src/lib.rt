@@ -2,7 +2,10 @@
 #![tactic(auto)]
 
 ghost use Rattle.std.specs.Prelude.{◌≡◌};
+ghost use Rattle.refusals.specs.Numbers.{number_in};
 ghost use Rattle.buckets.specs.Ranges.{reaches_allowed, width_allowed, buckets_allowed, ranges_number};
+
+use refusals::Refusal;
 
 // Functions that ask something of their caller; the crates above use them after their checks.
 pub mod inner;
@@ -37,18 +40,18 @@ pub fn buckets_allowed(buckets: usize) -> bool
     buckets <= base::BUCKETS_LIMIT
 }
 
-// The number of the first of checks 2, 17 and 18 that says no, or 0.
-pub fn ranges_number(offset: u32, maximum: u32, width: u32) -> u32
-    ensures { result ≡ ranges_number offset maximum width 0 }
+// Checks 2, 17 and 18, in this order.
+pub fn check_ranges(offset: u32, maximum: u32, width: u32) -> Result<(), Refusal>
+    ensures { number_in result ≡ ranges_number offset maximum width 0 }
 {
     if !reaches_allowed(offset, maximum) {
-        return 2;
+        return Err(Refusal::Reach);
     }
     if !width_allowed(width) {
-        return 17;
+        return Err(Refusal::Width);
     }
     if base::BUCKETS_LIMIT < inner::buckets_of(offset, maximum, width) {
-        return 18;
+        return Err(Refusal::Buckets);
     }
-    0
+    Ok(())
 }

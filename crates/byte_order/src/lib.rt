@@ -11,11 +11,5 @@ pub mod inner;
 pub fn byte_of(value: u64, k: usize) -> u8
     ensures { result ≡ byte_of k value }
 {
-    let mut rest = value;
-    let mut i = k;
-    while 0 < i {
-        rest = rest / 256;
-        i -= 1;
-    }
-    (rest % 256) as u8
+    value.to_le_bytes().get(k).copied().unwrap_or(0)
 }

@@ -2,146 +2,118 @@
 // as the oracle of the Rust reads and writes them.
 #![tactic(auto)]
 
-use sources::{QueryDown, Schedule};
-use state::{Coalesce, Due};
-use std::io;
+use refusals::Refusal;
+use sources::{Down, Schedule};
+use state::{Coalesce, Taken};
+use std::{fmt, io};
 
-fn text(rt: &impl Print, words: &str) -> io::Result<()> {
-    print!(rt; "{words}")
-}
+// `-` where there is none.
+#[derive(Clone, Copy)]
+struct OrNone<T>(Option<T>);
 
-fn number(rt: &impl Print, n: u64) -> io::Result<()> {
-    print!(rt; "{n}")
-}
-
-fn number_after(rt: &impl Print, words: &str, n: u64) -> io::Result<()> {
-    text(rt, words)?;
-    number(rt, n)
-}
-
-fn yes_or_no(rt: &impl Print, yes: bool) -> io::Result<()> {
-    if yes {
-        text(rt, "ok 1")
-    } else {
-        text(rt, "ok 0")
-    }
-}
-
-fn due_line(rt: &impl Print, coalesce: Coalesce) -> io::Result<()> {
-    let due = coalesce.due;
-    match due {
-        Due::Unset => text(rt, "-\n"),
-        Due::At(at) => {
-            number(rt, at)?;
-            text(rt, "\n")
+impl<T: fmt::Display> fmt::Display for OrNone<T> {
+    fn fmt<W: fmt::Write>(&self, f: &mut fmt::Formatter<W>) -> fmt::Result {
+        match &self.0 {
+            Some(x) => write!(f, "{x}"),
+            None => write!(f, "-"),
         }
     }
 }
 
-fn down_line(rt: &impl Print, schedule: Schedule) -> io::Result<()> {
-    let down = schedule.query_down;
-    match down {
-        QueryDown::Never => text(rt, "-\n"),
-        QueryDown::Until { until, wait } => {
-            number(rt, until)?;
-            number_after(rt, ":", wait)?;
-            text(rt, "\n")
-        }
+// Until when the queries are down, and the wait after it.
+#[derive(Clone, Copy)]
+struct Wait(Down);
+
+impl fmt::Display for Wait {
+    fn fmt<W: fmt::Write>(&self, f: &mut fmt::Formatter<W>) -> fmt::Result {
+        let Down { until, wait } = self.0;
+        write!(f, "{until}:{wait}")
     }
 }
 
-fn refused_line(rt: &impl Print, check: u32) -> io::Result<()> {
-    number_after(rt, "refused ", check as u64)?;
-    text(rt, "\n")
+fn due_of(coalesce: Coalesce) -> OrNone<u64> {
+    OrNone(coalesce.due)
+}
+
+fn down_of(schedule: Schedule) -> OrNone<Wait> {
+    OrNone(schedule.query_down.map(Wait))
+}
+
+// A yes as 1, a no as 0.
+fn bit(yes: bool) -> u8 {
+    yes as u8
+}
+
+// The line of an answer: what is shown of its value, or the number of the check that said no.
+fn answer_line<T: fmt::Display + Drop>(
+    rt: &impl Print,
+    answer: Result<T, Refusal>,
+) -> io::Result<()> {
+    match answer {
+        Ok(shown) => println!(rt; "ok {shown}"),
+        Err(refusal) => println!(rt; "refused {}", refusal.number()),
+    }
 }
 
 fn index_at(rt: &impl Print, ns: u64) -> io::Result<()> {
-    number_after(rt, "index_at ", ns)?;
-    text(rt, "\n")?;
-    let answer = timing::index_at(ns);
-    if answer.number != 0 {
-        return refused_line(rt, answer.number);
-    }
-    number_after(rt, "ok ", answer.value)?;
-    text(rt, "\n")
+    println!(rt; "index_at {ns}")?;
+    answer_line(rt, timing::index_at(ns))
 }
 
 fn time_of(rt: &impl Print, index: u64) -> io::Result<()> {
-    number_after(rt, "time_of ", index)?;
-    text(rt, "\n")?;
-    let answer = timing::time_of(index);
-    if answer.number != 0 {
-        return refused_line(rt, answer.number);
-    }
-    number_after(rt, "ok ", answer.value)?;
-    text(rt, "\n")
+    println!(rt; "time_of {index}")?;
+    answer_line(rt, timing::time_of(index))
 }
 
 fn coalesce_line(rt: &impl Print, coalesce: Coalesce) -> io::Result<Coalesce> {
-    text(rt, "co_set ")?;
-    due_line(rt, coalesce)?;
-    text(rt, "ok\n")?;
+    println!(rt; "co_set {}", due_of(coalesce))?;
+    println!(rt; "ok")?;
     Ok(coalesce)
 }
 
 fn changed(rt: &impl Print, coalesce: Coalesce, time: u64, delay: u64) -> io::Result<Coalesce> {
-    number_after(rt, "co_changed ", time)?;
-    number_after(rt, " ", delay)?;
-    text(rt, "\n")?;
+    println!(rt; "co_changed {time} {delay}")?;
     let change = coalesce.changed(time, delay);
-    let after = change.coalesce;
-    if change.number != 0 {
-        refused_line(rt, change.number)?;
-        return Ok(after);
-    }
-    text(rt, "ok ")?;
-    due_line(rt, after)?;
-    Ok(after)
+    answer_line(rt, change.map(due_of))?;
+    Ok(change.unwrap_or(coalesce))
 }
 
 fn pending(rt: &impl Print, coalesce: Coalesce) -> io::Result<()> {
-    text(rt, "co_pending\n")?;
-    let answer = coalesce.pending();
-    if answer.number != 0 {
-        return refused_line(rt, answer.number);
+    println!(rt; "co_pending")?;
+    answer_line(rt, coalesce.pending().map(bit))
+}
+
+// What a take leaves of this record, with its line.
+fn taken(
+    rt: &impl Print,
+    coalesce: Coalesce,
+    answer: Result<Taken, Refusal>,
+) -> io::Result<Coalesce> {
+    match answer {
+        Ok(taken) => {
+            println!(rt; "ok {} {}", bit(taken.write), due_of(taken.coalesce))?;
+            Ok(taken.coalesce)
+        }
+        Err(refusal) => {
+            println!(rt; "refused {}", refusal.number())?;
+            Ok(coalesce)
+        }
     }
-    yes_or_no(rt, answer.value)?;
-    text(rt, "\n")
 }
 
 fn take_due(rt: &impl Print, coalesce: Coalesce, time: u64) -> io::Result<Coalesce> {
-    number_after(rt, "co_take_due ", time)?;
-    text(rt, "\n")?;
-    let taken = coalesce.take_due(time);
-    let after = taken.coalesce;
-    if taken.number != 0 {
-        refused_line(rt, taken.number)?;
-        return Ok(after);
-    }
-    yes_or_no(rt, taken.value)?;
-    text(rt, " ")?;
-    due_line(rt, after)?;
-    Ok(after)
+    println!(rt; "co_take_due {time}")?;
+    taken(rt, coalesce, coalesce.take_due(time))
 }
 
 fn take(rt: &impl Print, coalesce: Coalesce) -> io::Result<Coalesce> {
-    text(rt, "co_take\n")?;
-    let taken = coalesce.take();
-    let after = taken.coalesce;
-    if taken.number != 0 {
-        refused_line(rt, taken.number)?;
-        return Ok(after);
-    }
-    yes_or_no(rt, taken.value)?;
-    text(rt, " ")?;
-    due_line(rt, after)?;
-    Ok(after)
+    println!(rt; "co_take")?;
+    taken(rt, coalesce, coalesce.take())
 }
 
 fn schedule_line(rt: &impl Print, schedule: Schedule) -> io::Result<Schedule> {
-    text(rt, "q_set ")?;
-    down_line(rt, schedule)?;
-    text(rt, "ok\n")?;
+    println!(rt; "q_set {}", down_of(schedule))?;
+    println!(rt; "ok")?;
     Ok(schedule)
 }
 
@@ -149,35 +121,28 @@ fn down_until(rt: &impl Print, until: u64, wait: u64) -> io::Result<Schedule> {
     schedule_line(
         rt,
         Schedule {
-            query_down: QueryDown::Until { until, wait },
+            query_down: Some(Down { until, wait }),
         },
     )
 }
 
 fn query_up(rt: &impl Print, schedule: Schedule, time: u64) -> io::Result<()> {
-    number_after(rt, "q_up ", time)?;
-    text(rt, "\n")?;
-    let answer = schedule.query_up(time);
-    if answer.number != 0 {
-        return refused_line(rt, answer.number);
-    }
-    yes_or_no(rt, answer.value)?;
-    text(rt, "\n")
+    println!(rt; "q_up {time}")?;
+    answer_line(rt, schedule.query_up(time).map(bit))
 }
 
 fn query_failed(rt: &impl Print, schedule: Schedule, time: u64) -> io::Result<Schedule> {
-    number_after(rt, "q_failed ", time)?;
-    text(rt, "\n")?;
-    let failure = schedule.query_failed(time);
-    let after = failure.schedule;
-    if failure.number != 0 {
-        refused_line(rt, failure.number)?;
-        return Ok(after);
+    println!(rt; "q_failed {time}")?;
+    match schedule.query_failed(time) {
+        Ok(failed) => {
+            println!(rt; "ok {} {}", failed.wait, down_of(failed.schedule))?;
+            Ok(failed.schedule)
+        }
+        Err(refusal) => {
+            println!(rt; "refused {}", refusal.number())?;
+            Ok(schedule)
+        }
     }
-    number_after(rt, "ok ", failure.value)?;
-    text(rt, " ")?;
-    down_line(rt, after)?;
-    Ok(after)
 }
 
 fn timing_lines(rt: &impl Print) -> io::Result<()> {
@@ -219,7 +184,7 @@ fn state_lines(rt: &impl Print) -> io::Result<()> {
     coalesce = coalesce_line(
         rt,
         Coalesce {
-            due: Due::At(4_000_000_600_000_000_001),
+            due: Some(4_000_000_600_000_000_001),
         },
     )?;
     pending(rt, coalesce)?;

@@ -9,14 +9,14 @@ ghost use Rattle.rules_files.specs.ReadFile.{left_read, read_reply};
 ghost use Rattle.rules_files.specs.Table.{TableWidths};
 ghost use Rattle.rules_files.specs.WriteFile.{left_written, write_reply};
 
-use rules_files::{DelayRead, DelayWritten};
+use refusals::Refusal;
 use rules_record::Inputs;
 
 mod reading;
 mod writing;
 
 // The flows and the delays of a file of version 1, unused places zero. That a file's numbers are bytes follows from its type.
-pub fn read_delays(file: &[u8], flows: &mut [u8], delays: &mut [u32]) -> DelayRead
+pub fn read_delays(file: &[u8], flows: &mut [u8], delays: &mut [u32]) -> Result<usize, Refusal>
     ensures delays_after { left_read result flows.new delays.new ≡ read_reply 1 7 file.now flows.old delays.old }
     ensures all_bytes { AllBytes file.now }
 {
@@ -33,7 +33,7 @@ pub fn write_delays(
     times: &[u64],
     peaks: &[u32],
     file: &mut [u8],
-) -> DelayWritten
+) -> Result<usize, Refusal>
     ensures file_after { left_written result file.new ≡ write_reply 1 7 0 inputs (lists starts.now totals.now counts.now sums.now times.now peaks.now) file.old }
     ensures table_widths { TableWidths inputs.flows }
 {

@@ -3,10 +3,11 @@ ghost use Rattle.std.specs.Prelude.{◌≡◌, ◌+◌, ◌*◌, ◌<◌, ◌≤
 ghost use Rattle.base.specs.Choice.{pick};
 ghost use Rattle.base.specs.Lists.{padded, listed};
 ghost use Rattle.byte_order.specs.Bytes.{AllBytes};
+ghost use Rattle.refusals.specs.Numbers.{number_in};
 ghost use Rattle.rules_files.specs.Files.{lower_flow, rises, flow_in, delay_in, headed};
 ghost use Rattle.rules_files.specs.ReadFile.{read_number, flow_byte_in, left_read, read_reply};
 
-use rules_files::DelayRead;
+use refusals::Refusal;
 use rules_record::Flow;
 
 // Is the first flow lower by its bytes?
@@ -78,25 +79,31 @@ fn is_headed(version: usize, head: usize, file: &[u8]) -> bool
     file.len() == head + count * 20
 }
 
-// The number of the first of 19 5 20 that says no, or 0, with so many flow bytes and delays lent.
-fn read_number(version: usize, head: usize, file: &[u8], flows: usize, delays: usize) -> u32
+// Checks 19 5 20, with so many flow bytes and delays lent.
+fn check_read(
+    version: usize,
+    head: usize,
+    file: &[u8],
+    flows: usize,
+    delays: usize,
+) -> Result<(), Refusal>
     requires { (7 ≤ head) × (head ≤ 11) }
-    ensures { result ≡ read_number version head file.now flows delays }
+    ensures { number_in result ≡ read_number version head file.now flows delays }
 {
     if !is_headed(version, head, file) {
-        return 19;
+        return Err(Refusal::FileHead);
     }
     if flows != 1024 {
-        return 5;
+        return Err(Refusal::ListLength);
     }
     if delays != 64 {
-        return 5;
+        return Err(Refusal::ListLength);
     }
     let count = byte_order::inner::little_two(file, 5);
     if !rising(file, head, count) {
-        return 20;
+        return Err(Refusal::FileOrder);
     }
-    0
+    Ok(())
 }
 
 // Byte i of the flows, zero after the last.
@@ -152,17 +159,14 @@ pub(crate) fn read(
     file: &[u8],
     flows: &mut [u8],
     delays: &mut [u32],
-) -> DelayRead
+) -> Result<usize, Refusal>
     requires { (7 ≤ head) × (head ≤ 11) }
     ensures delays_after { left_read result flows.new delays.new ≡ read_reply version head file.now flows.old delays.old }
     ensures all_bytes { AllBytes file.now }
 {
-    let number = read_number(version, head, file, flows.len(), delays.len());
-    if number != 0 {
-        return DelayRead { number, count: 0 };
-    }
+    check_read(version, head, file, flows.len(), delays.len())?;
     let count = byte_order::inner::little_two(file, 5);
     fill_flows(file, head, count, flows);
     fill_delays(file, head, count, delays);
-    DelayRead { number, count }
+    Ok(count)
 }

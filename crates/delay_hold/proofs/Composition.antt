@@ -1,11 +1,10 @@
 -- `inner::next`, one step after the other, is `next_of`. Each step is given by what its function ensures. Assumes nothing.
-use Rattle.std.specs.Prelude.{◌≡◌, ℕ, ◌+◌, ◌≤◌, Bool, true, List, length, take}
+use Rattle.std.specs.Prelude.{◌≡◌, ℕ, ◌+◌, ◌≤◌, Bool, true, List, length, take, Option}
 use mathlib.Core.Path.{ap, ◌∙◌}
 use native.Mathlib.Omega.{arith}
 use Rattle.base.specs.Limits.{samples_limit}
 use Rattle.base.specs.Lists.{padded}
 use Rattle.policy.specs.declared.DelayPolicy.{DelayPolicy}
-use Rattle.delay_hold.specs.declared.Lag.{Lag}
 use Rattle.delay_hold.specs.declared.DelayHold.{DelayHold}
 use Rattle.delay_hold.specs.declared.Next.{Next}
 use Rattle.delay_hold.specs.Steps1To3.{in_startup, capped, lag_within, lag_of, late_at, noted, seed_left}
@@ -19,7 +18,7 @@ use Rattle.delay_hold.proofs.Order.{lags_left, after_fits}
 use Rattle.delay_hold.proofs.Bounds.{larger_up, within_up, up_more, worst_up, after_up, floor_up, capped_le, capped_second}
 use Rattle.delay_hold.proofs.Wholes.{whole_of, placed_of, greatest_in, seed_floor}
 
-module _ {width : ℕ} {policy : DelayPolicy} {s : Held} {p999 : Lag} {current : ℕ} (a : AskedFor width policy s p999 current) where
+module _ {width : ℕ} {policy : DelayPolicy} {s : Held} {p999 : Option ℕ} {current : ℕ} (a : AskedFor width policy s p999 current) where
   -- what is asked bounds every lag
   p999_in : lag_up_to p999 peak_limit ≡ true
   p999_in = up_more p999 (peak_most policy width) peak_limit (omega (arith, a.sound.offset, a.sound.maximum, a.width_most)) a.p999_in
@@ -39,11 +38,11 @@ module _ {width : ℕ} {policy : DelayPolicy} {s : Held} {p999 : Lag} {current :
         (rw window_is (capped_second startup policy.window a.window_least))
         (omega (arith, window_is, capped_le startup policy.window, a.window_most))
 
-    module _ (time : ℕ) (joined : Lag) (n : ℕ) (lags : List ℕ) (n-is : n ≡ length (times_after (times_in s) joined window time)) (lags-are : lags ≡ padded most_peaks (lags_after (times_in s) (lags_in s) joined window time)) where
+    module _ (time : ℕ) (joined : Option ℕ) (n : ℕ) (lags : List ℕ) (n-is : n ≡ length (times_after (times_in s) joined window time)) (lags-are : lags ≡ padded most_peaks (lags_after (times_in s) (lags_in s) joined window time)) where
       pub peaks_fit : n ≤ length lags
       peaks_fit = after_fits s.hold.peaks s.times s.lags window time asked_placed joined n lags n-is lags-are
 
-      module _ (peak : Lag) (peak-is : peak ≡ worst_of (take n lags)) where
+      module _ (peak : Option ℕ) (peak-is : peak ≡ worst_of (take n lags)) where
         pub worst_is : peak ≡ worst_of (lags_after (times_in s) (lags_in s) joined window time)
         worst_is =
             peak-is
@@ -51,7 +50,7 @@ module _ {width : ℕ} {policy : DelayPolicy} {s : Held} {p999 : Lag} {current :
             ∙ ap (λ (m : ℕ). worst_of (take m (padded most_peaks (lags_after (times_in s) (lags_in s) joined window time)))) n-is
             ∙ ap worst_of (lags_left s.hold.peaks s.times s.lags window time asked_placed joined)
 
-        module _ (largest lag : Lag) (lag-is : lag ≡ lag_within largest (policy.read_offset + policy.delay_max)) (joined_is : joined ≡ larger_lag lag p999) where
+        module _ (largest lag : Option ℕ) (lag-is : lag ≡ lag_within largest (policy.read_offset + policy.delay_max)) (joined_is : joined ≡ larger_lag lag p999) where
           joined_in : lag_up_to joined peak_limit ≡ true
           joined_in =
               rw (joined_is, lag-is)

@@ -1,5 +1,5 @@
 -- The checks of `new` and `next` as facts, and what each call leaves for each number. Assumes nothing.
-use Rattle.std.specs.Prelude.{◌≡◌, ℕ, zero, suc, ◌^◌, ◌<◌, ◌≤◌, true, false, List, length}
+use Rattle.std.specs.Prelude.{◌≡◌, ℕ, zero, suc, ◌^◌, ◌<◌, ◌≤◌, true, false, List, length, None, Option, Some}
 use mathlib.Core.Path.{refl, sym, ap, ◌∙◌}
 use native.Mathlib.Omega.{arith}
 use borrow.Author.Tests.{leb-true, eqb-true}
@@ -11,16 +11,13 @@ use Rattle.buckets.proofs.Told.{reaches_yes, ranges_told}
 use Rattle.policy.specs.declared.DelayPolicy.{DelayPolicy}
 use Rattle.policy.specs.Settings.{Sound}
 use Rattle.policy.proofs.Checks.{allowed_sound, allowed_times}
-use Rattle.delay_hold.specs.declared.Lag.{Lag}
-use Rattle.delay_hold.specs.declared.Change.{Change}
-use Rattle.delay_hold.specs.declared.Change.TheVariants.{Keep, To}
-use Rattle.delay_hold.specs.declared.Answer.TheVariants.{Kept, Changed, Refused}
+use Rattle.delay_hold.specs.Checks.{Kept, Changed, Refused}
 use Rattle.delay_hold.specs.declared.DelayHold.{DelayHold}
 use Rattle.delay_hold.specs.declared.Next.{Next}
 use Rattle.delay_hold.specs.Step4Peaks.{most_peaks}
 use Rattle.delay_hold.specs.Next.{Held, held, Decided, decided, next_of, one_millisecond, always_lower, fresh_hold, cleared_hold}
 use Rattle.delay_hold.specs.Whole.{peak_most}
-use Rattle.delay_hold.specs.Checks.{lists_fit, new_number, NewReply, new_reply, settings_number, held_number, next_number, next_answer, number_of, value_of, left_hold, reply_of, next_reply, AskedFor, Asked}
+use Rattle.delay_hold.specs.Checks.{Answer, changed_to, lists_fit, new_number, NewReply, new_reply, settings_number, held_number, next_number, next_answer, number_of, value_of, left_hold, reply_of, next_reply, AskedFor, Asked}
 
 pub lists_long : (s : Held) → lists_fit s ≡ true → (length s.times ≡ most_peaks) × (length s.lags ≡ most_peaks)
 unfolding lists_fit
@@ -68,7 +65,7 @@ module _ (policy : DelayPolicy) (width : ℕ) where
   settings_most h = let s = settled h in omega (arith, s.sound.offset, s.sound.maximum, s.width_most)
 
 -- ---- all checks of next
-module _ (policy : DelayPolicy) (width : ℕ) (s : Held) (p999 : Lag) (current time : ℕ) where
+module _ (policy : DelayPolicy) (width : ℕ) (s : Held) (p999 : Option ℕ) (current time : ℕ) where
   pub number_refused : (n : ℕ) → n ≡ settings_number policy width → (n ≡ 0 → ⊥) → n ≡ next_number policy width s p999 current time
   unfolding next_number
   number_refused n e h = e ∙ sym (refused_old (settings_number policy width) _ _ (λ z. h (e ∙ z)))
@@ -116,7 +113,7 @@ module _ (policy : DelayPolicy) (width : ℕ) (s : Held) (p999 : Lag) (current t
   accepted_asked h = record { width = width; asked = (accepted_facts h).0 }
 
   -- ---- what next leaves
-  module _ (largest : Lag) where
+  module _ (largest : Option ℕ) where
     abbrev decision_of : Decided
     decision_of = next_of one_millisecond always_lower policy s p999 largest current time
 
@@ -135,27 +132,28 @@ module _ (policy : DelayPolicy) (width : ℕ) (s : Held) (p999 : Lag) (current t
       next_done : reply_of 0 s (decided r ts ls) ≡ next_reply policy width s p999 largest current time
       next_done = ap (reply_of 0 s) done ∙ next_by {n = 0} (sym zero_is ∙ n-is)
 
-      pub next_kept : r.change ≡ Keep → left_hold Kept r.hold ts ls ≡ next_reply policy width s p999 largest current time
-      next_kept e = ap (λ (c : Change). left_hold (next_answer 0 c) r.hold ts ls) (sym e) ∙ next_done
-
-      pub next_changed : (d : ℕ) → r.change ≡ To d → left_hold (Changed d) r.hold ts ls ≡ next_reply policy width s p999 largest current time
-      next_changed d e = ap (λ (c : Change). left_hold (next_answer 0 c) r.hold ts ls) (sym e) ∙ next_done
+      pub next_told : left_hold (changed_to r.change) r.hold ts ls ≡ next_reply policy width s p999 largest current time
+      next_told = ap (λ (a : Answer). left_hold a r.hold ts ls) (answer_of r.change) ∙ next_done
+        where
+          answer_of : (c : Option ℕ) → changed_to c ≡ next_answer 0 c
+          answer_of None = refl
+          answer_of (Some d) = refl
 
     -- the answer has document 01's number, and changes nothing where that is not 0
     pub reply_number : number_of (next_reply policy width s p999 largest current time).answer ≡ next_number policy width s p999 current time
     unfolding next_reply
     reply_number = by_answer (next_number policy width s p999 current time) decision_of.change
       where
-        by_answer : (n : ℕ) (c : Change) → number_of (next_answer n c) ≡ n
-        by_answer zero Keep = refl
-        by_answer zero (To d) = refl
+        by_answer : (n : ℕ) (c : Option ℕ) → number_of (next_answer n c) ≡ n
+        by_answer zero None = refl
+        by_answer zero (Some d) = refl
         by_answer (suc n) c = refl
 
-    pub reply_value : value_of (next_reply policy width s p999 largest current time).answer ≡ accepted (next_number policy width s p999 current time) Keep decision_of.change
+    pub reply_value : value_of (next_reply policy width s p999 largest current time).answer ≡ accepted (next_number policy width s p999 current time) None decision_of.change
     unfolding next_reply
     reply_value = by_answer (next_number policy width s p999 current time) decision_of.change
       where
-        by_answer : (n : ℕ) (c : Change) → value_of (next_answer n c) ≡ accepted n Keep c
-        by_answer zero Keep = refl
-        by_answer zero (To d) = refl
+        by_answer : (n : ℕ) (c : Option ℕ) → value_of (next_answer n c) ≡ accepted n None c
+        by_answer zero None = refl
+        by_answer zero (Some d) = refl
         by_answer (suc n) c = refl

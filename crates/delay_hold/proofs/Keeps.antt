@@ -1,6 +1,6 @@
 -- `next` leaves a whole hold whole, and its answer is at most the maximum. Assumes nothing.
 -- a change, if it is one, is to at most the maximum
-use Rattle.std.specs.Prelude.{◌≡◌, ℕ, zero, suc, ◌+◌, ◌-◌, ◌<◌, ◌≤◌, max, Bool, true, false, List, length, get_or}
+use Rattle.std.specs.Prelude.{◌≡◌, ℕ, zero, suc, ◌+◌, ◌-◌, ◌<◌, ◌≤◌, max, Bool, true, false, List, length, get_or, None, Option, Some}
 use mathlib.Core.Path.{refl, sym, subst, ◌∙◌}
 use native.Mathlib.Omega.{arith}
 use borrow.Author.Tests.{leb-true, le-leb}
@@ -13,14 +13,7 @@ use Rattle.base.proofs.Points.{blank_intro, past_end}
 use Rattle.base.proofs.Pads.{length_padded, get_or_padded}
 use Rattle.policy.specs.declared.DelayPolicy.{DelayPolicy}
 use Rattle.policy.proofs.Laws.{need_at_most}
-use Rattle.delay_hold.specs.declared.Moment.{Moment}
-use Rattle.delay_hold.specs.declared.Moment.TheVariants.{Never, At}
 use Rattle.delay_hold.specs.declared.Seed.{Seed}
-use Rattle.delay_hold.specs.declared.Seed.TheVariants.{Nothing, From}
-use Rattle.delay_hold.specs.declared.Lag.{Lag}
-use Rattle.delay_hold.specs.declared.Lag.TheVariants.{Of}
-use Rattle.delay_hold.specs.declared.Change.{Change}
-use Rattle.delay_hold.specs.declared.Change.TheVariants.{Keep, To}
 use Rattle.delay_hold.specs.declared.LowerTimer.{LowerTimer}
 use Rattle.delay_hold.specs.declared.DelayHold.{DelayHold}
 use Rattle.delay_hold.specs.declared.Next.{Next}
@@ -39,13 +32,13 @@ use Rattle.delay_hold.proofs.Outcomes.{Outcome, raises, quits, waits, lowers, de
 use Rattle.delay_hold.proofs.Gate.{accepted_facts}
 use Rattle.delay_hold.proofs.Wholes.{WholePeaks, WholeTimes, whole_of, of_whole, placed_of, in_use, spaced_in_use, seed_floor}
 
-abbrev pub ChangeFits : ℕ → Change → Type 0
-ChangeFits maximum Keep = Unit {0}
-ChangeFits maximum (To delay) = delay ≤ maximum
+abbrev pub ChangeFits : ℕ → Option ℕ → Type 0
+ChangeFits maximum None = Unit {0}
+ChangeFits maximum (Some delay) = delay ≤ maximum
 
-pub delay_fits : (maximum current : ℕ) (c : Change) → current ≤ maximum → ChangeFits maximum c → delay_after current c ≤ maximum
-delay_fits maximum current Keep h f = h
-delay_fits maximum current (To d) h f = f
+pub delay_fits : (maximum current : ℕ) (c : Option ℕ) → current ≤ maximum → ChangeFits maximum c → delay_after current c ≤ maximum
+delay_fits maximum current None h f = h
+delay_fits maximum current (Some d) h f = f
 
 -- ---- the timer
 met_fits_at : (on : Bool) (since highest need time maximum : ℕ) → need ≤ maximum → timer_fits (record { on = on; since = since; highest = highest }) maximum ≡ true
@@ -74,21 +67,21 @@ pub since_met : (timer : LowerTimer) (need time bound : ℕ) → timer.since ≤
 since_met timer need time bound h f = met_since timer.on timer.since timer.highest need time bound h f
 
 -- ---- the seed and the start
-left_fits : (seed : Seed) (hold time maximum : ℕ) → seed_fits seed maximum ≡ true → seed_fits (seed_left seed hold time) maximum ≡ true
-left_fits Nothing hold time maximum h = refl
-left_fits (From t d) hold time maximum h = le_rule hold (time - t) Nothing (From t d) (λ (s : Seed). seed_fits s maximum ≡ true) (λ g. refl) (λ g. h)
+left_fits : (seed : Option Seed) (hold time maximum : ℕ) → seed_fits seed maximum ≡ true → seed_fits (seed_left seed hold time) maximum ≡ true
+left_fits None hold time maximum h = refl
+left_fits (Some seed) hold time maximum h = le_rule hold (time - seed.since) None (Some seed) (λ (s : Option Seed). seed_fits s maximum ≡ true) (λ g. refl) (λ g. h)
 
-left_timely : (seed : Seed) (hold time : ℕ) → seed_timely seed ≡ true → seed_timely (seed_left seed hold time) ≡ true
-left_timely Nothing hold time h = refl
-left_timely (From t d) hold time h = le_rule hold (time - t) Nothing (From t d) (λ (s : Seed). seed_timely s ≡ true) (λ g. refl) (λ g. h)
+left_timely : (seed : Option Seed) (hold time : ℕ) → seed_timely seed ≡ true → seed_timely (seed_left seed hold time) ≡ true
+left_timely None hold time h = refl
+left_timely (Some seed) hold time h = le_rule hold (time - seed.since) None (Some seed) (λ (s : Option Seed). seed_timely s ≡ true) (λ g. refl) (λ g. h)
 
-started_timely : (m : Moment) (time : ℕ) → moment_timely m ≡ true → time ≤ time_limit → moment_timely (At (started_at m time)) ≡ true
-started_timely Never time h l = le-leb _ _ l
-started_timely (At t) time h l = h
+started_timely : (m : Option ℕ) (time : ℕ) → moment_timely m ≡ true → time ≤ time_limit → moment_timely (Some (started_at m time)) ≡ true
+started_timely None time h l = le-leb _ _ l
+started_timely (Some t) time h l = h
 
 -- ---- steps 1 to 3, and 5 to 8
 module _ (policy : DelayPolicy) (time : ℕ) (soon : time ≤ time_limit) where
-  noted_whole : (millisecond : ℕ) (h : DelayHold) (lag : Lag) (startup late : Bool) → WholeTimes policy h → WholeTimes policy (noted millisecond policy h lag startup late time)
+  noted_whole : (millisecond : ℕ) (h : DelayHold) (lag : Option ℕ) (startup late : Bool) → WholeTimes policy h → WholeTimes policy (noted millisecond policy h lag startup late time)
   unfolding noted
   noted_whole millisecond h lag startup late w =
       record {
@@ -142,7 +135,7 @@ module _ (policy : DelayPolicy) (time : ℕ) (soon : time ≤ time_limit) where
     need_fits : (worst : ℕ) → need_for policy h.seeded worst ≤ policy.delay_max
     need_fits worst = omega (arith, need_at_most policy worst, seed_floor h.seeded policy.delay_max w.seed)
 
-    decided_fine : (late : Bool) (p999 peak : Lag) → Fine h (decide millisecond may_lower policy h late p999 peak current hold time)
+    decided_fine : (late : Bool) (p999 peak : Option ℕ) → Fine h (decide millisecond may_lower policy h late p999 peak current hold time)
     decided_fine late p999 peak =
         decided_rule millisecond may_lower policy h late current hold time (Fine h) p999 peak
         (record { whole = w; peaks_same = refl; change_fits = tt })
@@ -151,7 +144,7 @@ module _ (policy : DelayPolicy) (time : ℕ) (soon : time ≤ time_limit) where
 -- ---- step 4
 module _ {policy : DelayPolicy} {width : ℕ} {s : Held} (w : WholePeaks policy width s) (times_long : length s.times ≡ most_peaks) (lags_long : length s.lags ≡ most_peaks)
     (window : ℕ) (window_least : nanos ≤ window) (window-in : window ≤ policy.window) (window_most : policy.window ≤ span_limit)
-    (joined : Lag) (joined_in : lag_up_to joined (peak_most policy width) ≡ true) (time : ℕ) (soon : time ≤ time_limit) where
+    (joined : Option ℕ) (joined_in : lag_up_to joined (peak_most policy width) ≡ true) (time : ℕ) (soon : time ≤ time_limit) where
   placed : Placed s.hold.peaks s.times s.lags window
   placed = placed_of w times_long lags_long window window_least (omega arith)
 
@@ -194,7 +187,7 @@ module _ {policy : DelayPolicy} {width : ℕ} {s : Held} (w : WholePeaks policy 
       after_rule (times_in s) (lags_in s) (lags_in_use ∙ sym times_in_use) (λ (_ x : ℕ). x ≤ peak_most policy width) (each (λ (_ x : ℕ). x ≤ peak_most policy width) w.lags_in_law) joined window time
       (λ v e. new v e) (λ v t x e y p. omega (arith, new v e)) i l
     where
-      new : (v : ℕ) → joined ≡ Of v → v ≤ peak_most policy width
+      new : (v : ℕ) → joined ≡ Some v → v ≤ peak_most policy width
       new v e = leb-true v (peak_most policy width) (rw e at joined_in)
 
   times_up : (i : ℕ) → i < length T → get_or T i 0 ≤ time_limit
@@ -225,7 +218,7 @@ module _ {policy : DelayPolicy} {width : ℕ} {s : Held} (w : WholePeaks policy 
           (after_span (times_in s) spaced joined window time policy.window window-in span n (omega arith)))
 
 -- ---- the whole of next
-module _ (millisecond : ℕ) (may_lower : Bool) (width : ℕ) (policy : DelayPolicy) (s : Held) (p999 largest : Lag) (current time : ℕ) (a : AskedFor width policy s p999 current) (soon : time ≤ time_limit) where
+module _ (millisecond : ℕ) (may_lower : Bool) (width : ℕ) (policy : DelayPolicy) (s : Held) (p999 largest : Option ℕ) (current time : ℕ) (a : AskedFor width policy s p999 current) (soon : time ≤ time_limit) where
   abbrev before : DelayHold
   before = hold_before millisecond policy s p999 largest current time
 
@@ -275,7 +268,7 @@ module _ (millisecond : ℕ) (may_lower : Bool) (width : ℕ) (policy : DelayPol
 
 -- an accepted call, whatever its answer, leaves the hold whole
 pub accepted_keeps_whole :
-    (policy : DelayPolicy) (width : ℕ) (s : Held) (p999 largest : Lag) (current time : ℕ) →
+    (policy : DelayPolicy) (width : ℕ) (s : Held) (p999 largest : Option ℕ) (current time : ℕ) →
     next_number policy width s p999 current time ≡ 0 →
     whole_hold policy width (next_reply policy width s p999 largest current time).held ≡ true
 unfolding next_reply

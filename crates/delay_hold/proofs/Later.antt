@@ -1,6 +1,6 @@
 -- What `next` does to the times of a hold, to peaks above a bound and to the seed: what the ceiling of the third demand asks. Assumes nothing.
 -- ---- by what a hold goes: every time in it is at most t
-use Rattle.std.specs.Prelude.{◌≡◌, ℕ, ◌+◌, ◌-◌, ◌<◌, ◌≤◌, max, Bool, true, length, get_or}
+use Rattle.std.specs.Prelude.{◌≡◌, ℕ, ◌+◌, ◌-◌, ◌<◌, ◌≤◌, max, Bool, true, length, get_or, None, Option, Some}
 use mathlib.Core.Path.{refl, sym, ◌∙◌}
 use native.Mathlib.Omega.{arith}
 use borrow.Author.Tests.{leb-true}
@@ -9,14 +9,7 @@ use Rattle.base.specs.Limits.{nanos}
 use Rattle.base.proofs.Choices.{le_rule}
 use Rattle.base.proofs.Pads.{get_or_padded}
 use Rattle.policy.specs.declared.DelayPolicy.{DelayPolicy}
-use Rattle.delay_hold.specs.declared.Moment.{Moment}
-use Rattle.delay_hold.specs.declared.Moment.TheVariants.{Never, At}
 use Rattle.delay_hold.specs.declared.Seed.{Seed}
-use Rattle.delay_hold.specs.declared.Seed.TheVariants.{Nothing, From}
-use Rattle.delay_hold.specs.declared.Lag.{Lag}
-use Rattle.delay_hold.specs.declared.Lag.TheVariants.{Of}
-use Rattle.delay_hold.specs.declared.Change.{Change}
-use Rattle.delay_hold.specs.declared.Change.TheVariants.{Keep}
 use Rattle.delay_hold.specs.declared.DelayHold.{DelayHold}
 use Rattle.delay_hold.specs.declared.Next.{Next}
 use Rattle.delay_hold.specs.Steps1To3.{in_startup, seed_left, lag_of, late_of, noted}
@@ -31,9 +24,9 @@ use Rattle.delay_hold.proofs.Outcomes.{Till, AtMost, Outcome, raises, quits, wai
 use Rattle.delay_hold.proofs.Wholes.{WholePeaks, in_use, spaced_in_use}
 use Rattle.delay_hold.proofs.Keeps.{since_met}
 
-abbrev pub SeedTill : ℕ → Seed → Type 0
-SeedTill t Nothing = Unit {0}
-SeedTill t (From s delay) = s ≤ t
+abbrev pub SeedTill : ℕ → Option Seed → Type 0
+SeedTill t None = Unit {0}
+SeedTill t (Some seed) = seed.since ≤ t
 
 -- a property of the peaks in use: their times and lags
 abbrev pub Each : (ℕ → ℕ → Type 0) → Held → Type 0
@@ -45,13 +38,13 @@ pub record HoldTill (t : ℕ) (s : Held) : Type 0 where
   pub since : s.hold.lower.since ≤ t
   pub seed : SeedTill t s.hold.seeded
 
-pub till_later : (t u : ℕ) (m : Moment) → t ≤ u → Till t m → Till u m
-till_later t u Never h k = tt
-till_later t u (At s) h k = omega arith
+pub till_later : (t u : ℕ) (m : Option ℕ) → t ≤ u → Till t m → Till u m
+till_later t u None h k = tt
+till_later t u (Some s) h k = omega arith
 
-seed_later : (t u : ℕ) (seed : Seed) → t ≤ u → SeedTill t seed → SeedTill u seed
-seed_later t u Nothing h k = tt
-seed_later t u (From s d) h k = omega arith
+seed_later : (t u : ℕ) (seed : Option Seed) → t ≤ u → SeedTill t seed → SeedTill u seed
+seed_later t u None h k = tt
+seed_later t u (Some seed) h k = omega arith
 
 pub hold_later : (t u : ℕ) (s : Held) → t ≤ u → HoldTill t s → HoldTill u s
 hold_later t u s h k =
@@ -63,38 +56,38 @@ hold_later t u s h k =
     }
 
 -- ---- the seed
-pub seed_kept : (t hold time : ℕ) (seed : Seed) → SeedTill t seed → SeedTill t (seed_left seed hold time)
-seed_kept t hold time Nothing h = tt
-seed_kept t hold time (From s d) h = le_rule hold (time - s) Nothing (From s d) (SeedTill t) (λ g. tt) (λ g. h)
+pub seed_kept : (t hold time : ℕ) (seed : Option Seed) → SeedTill t seed → SeedTill t (seed_left seed hold time)
+seed_kept t hold time None h = tt
+seed_kept t hold time (Some seed) h = le_rule hold (time - seed.since) None (Some seed) (SeedTill t) (λ g. tt) (λ g. h)
 
 -- a hold after its time it is gone
-pub seed_gone : (t hold time : ℕ) (seed : Seed) → t + hold ≤ time → SeedTill t seed → floor_of (seed_left seed hold time) ≡ 0
-seed_gone t hold time Nothing g h = refl
-seed_gone t hold time (From s d) g h = le_rule hold (time - s) Nothing (From s d) (λ (x : Seed). floor_of x ≡ 0) (λ q. refl) (λ q. absurd (omega arith))
+pub seed_gone : (t hold time : ℕ) (seed : Option Seed) → t + hold ≤ time → SeedTill t seed → floor_of (seed_left seed hold time) ≡ 0
+seed_gone t hold time None g h = refl
+seed_gone t hold time (Some seed) g h = le_rule hold (time - seed.since) None (Some seed) (λ (x : Option Seed). floor_of x ≡ 0) (λ q. refl) (λ q. absurd (omega arith))
 
 -- ---- next, by its cases
-module _ (millisecond : ℕ) (may_lower : Bool) (policy : DelayPolicy) (s : Held) (p999 largest : Lag) (current time : ℕ) where
+module _ (millisecond : ℕ) (may_lower : Bool) (policy : DelayPolicy) (s : Held) (p999 largest : Option ℕ) (current time : ℕ) where
   abbrev before : DelayHold
   before = hold_before millisecond policy s p999 largest current time
 
   -- a worst lag, and what it came to
-  abbrev pub Came : (DelayHold → Change → Type 0) → ℕ → Type 0
+  abbrev pub Came : (DelayHold → Option ℕ → Type 0) → ℕ → Type 0
   Came Q worst =
       (r : Next) →
       Outcome millisecond may_lower before (need_for policy (seed_left s.hold.seeded policy.hold time) worst) (urgent_at policy (late_of policy largest current) worst current) current (hold_now policy s.hold time) time r →
       Q r.hold r.change
 
   pub next_rule :
-      (Q : DelayHold → Change → Type 0) →
-      Q before Keep →
-      ((w : ℕ) → larger_lag p999 (worst_of (lags_now policy s p999 largest time)) ≡ Of w → Came Q w) →
+      (Q : DelayHold → Option ℕ → Type 0) →
+      Q before None →
+      ((w : ℕ) → larger_lag p999 (worst_of (lags_now policy s p999 largest time)) ≡ Some w → Came Q w) →
       Q (next_of millisecond may_lower policy s p999 largest current time).held.hold (next_of millisecond may_lower policy s p999 largest current time).change
   unfolding next_of noted
   next_rule Q q f = decided_rule millisecond may_lower policy before (late_of policy largest current) current (hold_now policy s.hold time) time (λ (r : Next). Q r.hold r.change) p999 (worst_of (lags_now policy s p999 largest time)) q f
 
   -- with a p999, and nothing above e
   pub next_low :
-      (Q : DelayHold → Change → Type 0) (e : ℕ) →
+      (Q : DelayHold → Option ℕ → Type 0) (e : ℕ) →
       AtMost e p999 →
       lag_up_to (worst_of (lags_now policy s p999 largest time)) e ≡ true →
       ((w : ℕ) → w ≤ e → Came Q w) →
@@ -132,8 +125,8 @@ module _ (millisecond : ℕ) (may_lower : Bool) (policy : DelayPolicy) (s : Held
     pub next_each :
         (P : ℕ → ℕ → Type 0) →
         Each P s →
-        ((v : ℕ) → larger_lag (lag_of policy largest) p999 ≡ Of v → P time v) →
-        ((v t l : ℕ) → larger_lag (lag_of policy largest) p999 ≡ Of v → time - t < nanos → P t l → P t (max l v)) →
+        ((v : ℕ) → larger_lag (lag_of policy largest) p999 ≡ Some v → P time v) →
+        ((v t l : ℕ) → larger_lag (lag_of policy largest) p999 ≡ Some v → time - t < nanos → P t l → P t (max l v)) →
         Each P (next_of millisecond may_lower policy s p999 largest current time).held
     unfolding next_of
     next_each P old new join i l =
@@ -176,7 +169,7 @@ module _ (millisecond : ℕ) (may_lower : Bool) (policy : DelayPolicy) (s : Held
         (λ v q. (omega arith, λ g. new v q g))
         (λ v at lag q y p. (p.0, λ g. let x : v ≤ e = new v q (omega arith) in let z : lag ≤ e = p.1 g in omega arith))
       where
-        new : (v : ℕ) → larger_lag (lag_of policy largest) p999 ≡ Of v → b < time → v ≤ e
+        new : (v : ℕ) → larger_lag (lag_of policy largest) p999 ≡ Some v → b < time → v ≤ e
         new v q g = leb-true v e (rw q at (low g))
 
     -- a window after b, no peak above e is left

@@ -1,12 +1,11 @@
 -- Counting old peaks, the greatest of them and the newest, as the loops go. Assumes nothing.
-use Rattle.std.specs.Prelude.{◌≡◌, ℕ, zero, suc, ◌+◌, ◌-◌, ◌<◌, ◌≤◌, max, false, List, [], ◌∷◌, length, get_or, take, drop}
+use Rattle.std.specs.Prelude.{◌≡◌, ℕ, zero, suc, ◌+◌, ◌-◌, ◌<◌, ◌≤◌, max, false, List, [], ◌∷◌, length, get_or, take, drop, Some}
 use mathlib.Core.Path.{refl}
 use native.Mathlib.Numerals.{add-one}
 use native.Mathlib.Omega.{arith}
 use borrow.Author.Tests.{le-leb, lt-leb}
 use lib.ListN.{length-take, drop_of_length-le}
 use lib.Seq.{drop-cons, get_or-take}
-use Rattle.delay_hold.specs.declared.Lag.TheVariants.{Of}
 use Rattle.delay_hold.specs.Step4Peaks.{old_count, greatest, worst_of, is_new_at}
 
 module _ (xs : List ℕ) (n k : ℕ) (n-in : n ≤ length xs) (k_in : k < n) where
@@ -36,7 +35,7 @@ module _ (xs : List ℕ) (n k : ℕ) (passed : n ≤ k) where
   pub greatest_none : greatest (drop k (take n xs)) ≡ 0
   greatest_none = rw dropped
 
-pub worst_some : (xs : List ℕ) → 0 < length xs → worst_of xs ≡ Of (greatest xs)
+pub worst_some : (xs : List ℕ) → 0 < length xs → worst_of xs ≡ Some (greatest xs)
 worst_some [] h = absurd (omega arith)
 worst_some (x ∷ xs) h = refl
 

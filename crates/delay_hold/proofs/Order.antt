@@ -1,6 +1,6 @@
 -- Step 4 in the order of the code, old peaks first, is step 4 in the order of document 01, the lag first. Assumes nothing.
 -- ---- as many lags as times
-use Rattle.std.specs.Prelude.{◌≡◌, ℕ, zero, suc, ◌+◌, ◌-◌, ◌*◌, ◌<◌, ◌≤◌, max, Bool, true, false, leb, List, [], ◌∷◌, ◌++◌, length, get_or, take, drop, set}
+use Rattle.std.specs.Prelude.{◌≡◌, ℕ, zero, suc, ◌+◌, ◌-◌, ◌*◌, ◌<◌, ◌≤◌, max, Bool, true, false, leb, List, [], ◌∷◌, ◌++◌, length, get_or, take, drop, set, None, Option, Some}
 use mathlib.Core.Path.{refl, sym, ap, ◌∙◌}
 use mathlib.Core.Logic.{⊎_elim}
 use native.Mathlib.Nat.{eq-zero-or-pos}
@@ -12,21 +12,19 @@ use Rattle.base.specs.Limits.{nanos, span_limit}
 use Rattle.base.specs.Choice.{pick}
 use Rattle.base.specs.Lists.{padded, shifted}
 use Rattle.base.proofs.Pads.{length_padded, get_or_padded, padded_set, padded_push, shifted_padded, take_padded}
-use Rattle.delay_hold.specs.declared.Lag.{Lag}
-use Rattle.delay_hold.specs.declared.Lag.TheVariants.{None, Of}
 use Rattle.delay_hold.specs.Step4Peaks.{is_new_at, old_count, join_times, join_lags, times_after, lags_after, most_peaks}
 use Rattle.delay_hold.specs.Step4InPlace.{count_joined, times_joined, lags_joined, Placed}
 use Rattle.delay_hold.proofs.Loops.{new_pos}
 
-pub joined_same : (ts ls : List ℕ) (lag : Lag) (time : ℕ) → length ls ≡ length ts → length (join_lags ts ls lag time) ≡ length (join_times ts lag time)
+pub joined_same : (ts ls : List ℕ) (lag : Option ℕ) (time : ℕ) → length ls ≡ length ts → length (join_lags ts ls lag time) ≡ length (join_times ts lag time)
 unfolding join_times join_lags
 joined_same ts ls None time e = e
-joined_same ts ls (Of l) time e = by_new (is_new_at (length ts) ts time) where
+joined_same ts ls (Some l) time e = by_new (is_new_at (length ts) ts time) where
   by_new : (b : Bool) → length (pick b (ls ++ (l ∷ [])) (set ls (length ls - 1) (max (get_or ls (length ls - 1) 0) l))) ≡ length (pick b (ts ++ (time ∷ [])) ts)
   by_new true = simp length-append (omega arith)
   by_new false = simp length-set (omega arith)
 
-pub after_same : (ts ls : List ℕ) (lag : Lag) (w time : ℕ) → length ls ≡ length ts → length (lags_after ts ls lag w time) ≡ length (times_after ts lag w time)
+pub after_same : (ts ls : List ℕ) (lag : Option ℕ) (w time : ℕ) → length ls ≡ length ts → length (lags_after ts ls lag w time) ≡ length (times_after ts lag w time)
 unfolding times_after lags_after
 after_same ts ls lag w time e = simp length-drop (omega (arith, joined_same ts ls lag time e))
 
@@ -92,20 +90,20 @@ module _ (ts : List ℕ) (w time : ℕ) (least : nanos ≤ w) where
         new_some (length ts - k) (padded most_peaks (drop k ts)) time (omega arith) ∙ rw (get_or_padded most_peaks (drop k ts), get_or-drop, e) (sym (new_some (length ts) ts time (omega arith)))
 
   module _ (l : ℕ) where
-    times_new : is_new_at (length ts) ts time ≡ true → times_after ts (Of l) w time ≡ drop k ts ++ (time ∷ [])
+    times_new : is_new_at (length ts) ts time ≡ true → times_after ts (Some l) w time ≡ drop k ts ++ (time ∷ [])
     unfolding times_after join_times
     times_new e = rw (e, old_snoc ts w time (omega arith), drop-append-le k ts (time ∷ []) (old_le ts w time))
 
-    times_old : is_new_at (length ts) ts time ≡ false → times_after ts (Of l) w time ≡ drop k ts
+    times_old : is_new_at (length ts) ts time ≡ false → times_after ts (Some l) w time ≡ drop k ts
     unfolding times_after join_times
     times_old e = rw e
 
     module _ (ls : List ℕ) (same : length ls ≡ length ts) where
-      lags_new : is_new_at (length ts) ts time ≡ true → lags_after ts ls (Of l) w time ≡ drop k ls ++ (l ∷ [])
+      lags_new : is_new_at (length ts) ts time ≡ true → lags_after ts ls (Some l) w time ≡ drop k ls ++ (l ∷ [])
       unfolding lags_after join_times join_lags
       lags_new e = rw (e, old_snoc ts w time (omega arith), drop-append-le k ls (l ∷ []) (omega (arith, old_le ts w time)))
 
-      lags_old : is_new_at (length ts) ts time ≡ false → lags_after ts ls (Of l) w time ≡ drop k (set ls (length ls - 1) (max (get_or ls (length ls - 1) 0) l))
+      lags_old : is_new_at (length ts) ts time ≡ false → lags_after ts ls (Some l) w time ≡ drop k (set ls (length ls - 1) (max (get_or ls (length ls - 1) 0) l))
       unfolding lags_after join_times join_lags
       lags_old e = rw e
 
@@ -143,35 +141,35 @@ module _ (ts ls : List ℕ) (w time : ℕ) (same : length ls ≡ length ts) (in6
   lags_long : length (drop gone ls) ≡ m
   lags_long = length-drop gone ls ∙ omega arith
 
-  count_of : (l : ℕ) (b : Bool) → is_new_at (length ts) ts time ≡ b → count_joined m P (Of l) time ≡ length (times_after ts (Of l) w time)
+  count_of : (l : ℕ) (b : Bool) → is_new_at (length ts) ts time ≡ b → count_joined m P (Some l) time ≡ length (times_after ts (Some l) w time)
   count_of l true e = rw (new_same ts w time least, e, times_new ts w time least l e) (simp (length-append, length-drop) (omega arith))
   count_of l false e = rw (new_same ts w time least, e, times_old ts w time least l e) (sym left_long)
 
-  pub count_is : (lag : Lag) → count_joined m P lag time ≡ length (times_after ts lag w time)
+  pub count_is : (lag : Option ℕ) → count_joined m P lag time ≡ length (times_after ts lag w time)
   unfolding times_after join_times
   count_is None = sym left_long
-  count_is (Of l) = count_of l (is_new_at (length ts) ts time) refl
+  count_is (Some l) = count_of l (is_new_at (length ts) ts time) refl
 
-  pub count_in_law : (lag : Lag) → length (times_after ts lag w time) ≤ most_peaks
+  pub count_in_law : (lag : Option ℕ) → length (times_after ts lag w time) ≤ most_peaks
   unfolding times_after join_times
   count_in_law None = omega (arith, left_long)
-  count_in_law (Of l) = by_new (is_new_at (length ts) ts time) refl where
-    by_new : (b : Bool) → is_new_at (length ts) ts time ≡ b → length (times_after ts (Of l) w time) ≤ most_peaks
+  count_in_law (Some l) = by_new (is_new_at (length ts) ts time) refl where
+    by_new : (b : Bool) → is_new_at (length ts) ts time ≡ b → length (times_after ts (Some l) w time) ≤ most_peaks
     by_new true e = let r : m < most_peaks = room (new_same ts w time least ∙ e) in rw (times_new ts w time least l e) (simp length-append (omega (arith, left_long)))
     by_new false e = rw (times_old ts w time least l e) (omega (arith, left_long))
 
-  times_of : (l : ℕ) (b : Bool) → is_new_at (length ts) ts time ≡ b → times_joined m P (Of l) time ≡ padded most_peaks (times_after ts (Of l) w time)
+  times_of : (l : ℕ) (b : Bool) → is_new_at (length ts) ts time ≡ b → times_joined m P (Some l) time ≡ padded most_peaks (times_after ts (Some l) w time)
   times_of l true e =
       let r : m < most_peaks = room (new_same ts w time least ∙ e) in
       rw (new_same ts w time least, e, times_new ts w time least l e) (ap (λ (j : ℕ). set P j time) (sym left_long) ∙ padded_push most_peaks (drop gone ts) time (omega (arith, left_long)))
   times_of l false e = rw (new_same ts w time least, e, times_old ts w time least l e)
 
-  pub times_is : (lag : Lag) → times_joined m P lag time ≡ padded most_peaks (times_after ts lag w time)
+  pub times_is : (lag : Option ℕ) → times_joined m P lag time ≡ padded most_peaks (times_after ts lag w time)
   unfolding times_after join_times
   times_is None = refl
-  times_is (Of l) = times_of l (is_new_at (length ts) ts time) refl
+  times_is (Some l) = times_of l (is_new_at (length ts) ts time) refl
 
-  lags_of_law : (l : ℕ) (b : Bool) → is_new_at (length ts) ts time ≡ b → lags_joined m P Q (Of l) time ≡ padded most_peaks (lags_after ts ls (Of l) w time)
+  lags_of_law : (l : ℕ) (b : Bool) → is_new_at (length ts) ts time ≡ b → lags_joined m P Q (Some l) time ≡ padded most_peaks (lags_after ts ls (Some l) w time)
   lags_of_law l true e =
       let r : m < most_peaks = room (new_same ts w time least ∙ e) in
       rw (new_same ts w time least, e, lags_new ts w time least l ls same e) (ap (λ (j : ℕ). set Q j l) (sym lags_long) ∙ padded_push most_peaks (drop gone ls) l (omega (arith, lags_long)))
@@ -181,10 +179,10 @@ module _ (ts ls : List ℕ) (w time : ℕ) (same : length ls ≡ length ts) (in6
       rw (new_same ts w time least, e, lags_old ts w time least l ls same e, f, drop-set-add gone ls (m - 1) (max (get_or ls (gone + (m - 1)) 0) l), get_or_padded most_peaks (drop gone ls) (m - 1), get_or-drop gone ls (m - 1) 0)
       (padded_set most_peaks (drop gone ls) (m - 1) (max (get_or ls (gone + (m - 1)) 0) l) (omega (arith, lags_long)))
 
-  pub lags_is : (lag : Lag) → lags_joined m P Q lag time ≡ padded most_peaks (lags_after ts ls lag w time)
+  pub lags_is : (lag : Option ℕ) → lags_joined m P Q lag time ≡ padded most_peaks (lags_after ts ls lag w time)
   unfolding lags_after join_times join_lags
   lags_is None = refl
-  lags_is (Of l) = lags_of_law l (is_new_at (length ts) ts time) refl
+  lags_is (Some l) = lags_of_law l (is_new_at (length ts) ts time) refl
 
 -- ---- the same of the lent lists, as `peaks_next` calls its parts
 module _ (n : ℕ) (ts ls : List ℕ) (w time : ℕ) (ok : Placed n ts ls w) (k : ℕ) (k-is : k ≡ old_count (take n ts) w time) where
@@ -229,7 +227,7 @@ module _ (n : ℕ) (ts ls : List ℕ) (w time : ℕ) (ok : Placed n ts ls w) (k 
       λ e. let r : length T - old_count T w time < most_peaks = room T L w time (l_long ∙ sym t_long) (omega (arith, t_long, ok.count)) ok.window_least ok.window_most spaced_in (rw (m_is, t_pad) at e) in (omega (arith, long.0, m_is), omega (arith, long.1, m_is)),
     )
 
-    module _ (lag : Lag) where
+    module _ (lag : Option ℕ) where
       count_ok : count_joined (n - k) ts₁ lag time ≡ length (times_after T lag w time)
       count_ok = rw (m_is, t_pad) (count_is T L w time (l_long ∙ sym t_long) (omega (arith, t_long, ok.count)) ok.window_least ok.window_most spaced_in lag)
 
@@ -247,7 +245,7 @@ module _ (n : ℕ) (ts ls : List ℕ) (w time : ℕ) (ok : Placed n ts ls w) (k 
       peaks_are = (count_ok, times_ok, lags_ok)
 
 -- ---- and what the caller of `peaks_next` wants of the lists that it leaves
-module _ (n : ℕ) (ts ls : List ℕ) (w time : ℕ) (ok : Placed n ts ls w) (lag : Lag) where
+module _ (n : ℕ) (ts ls : List ℕ) (w time : ℕ) (ok : Placed n ts ls w) (lag : Option ℕ) where
   pub after_in : length (times_after (take n ts) lag w time) ≤ most_peaks
   after_in =
       count_in_law (take n ts) (take n ls) w time (l_long n ts ls w time ok (old_count (take n ts) w time) refl ∙ sym (t_long n ts ls w time ok (old_count (take n ts) w time) refl))

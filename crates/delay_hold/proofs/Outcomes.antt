@@ -1,6 +1,6 @@
 -- What a decision does, as facts on numbers: one constructor for each of the four outcomes of steps 6, 7 and 8. Assumes nothing.
 -- a moment, if there was one, was by t
-use Rattle.std.specs.Prelude.{◌≡◌, ℕ, suc, ◌+◌, ◌-◌, ◌<◌, ◌≤◌, max, Bool, true, false, not, ◌&&◌, ltb, leb}
+use Rattle.std.specs.Prelude.{◌≡◌, ℕ, suc, ◌+◌, ◌-◌, ◌<◌, ◌≤◌, max, Bool, true, false, not, ◌&&◌, ltb, leb, None, Option, Some}
 use mathlib.Core.Path.{refl, ap}
 use native.Mathlib.Nat.{lt_of_not-le}
 use native.Mathlib.Omega.{arith}
@@ -8,24 +8,20 @@ use borrow.Author.Tests.{leb-true, ltb-true, le-leb, lt-ltb}
 use Rattle.base.proofs.Choices.{pick_rule, lt_rule}
 use Rattle.base.proofs.Tests.{not_both}
 use Rattle.policy.specs.declared.DelayPolicy.{DelayPolicy}
-use Rattle.delay_hold.specs.declared.Moment.{Moment}
-use Rattle.delay_hold.specs.declared.Moment.TheVariants.{Never, At}
-use Rattle.delay_hold.specs.declared.Lag.{Lag}
-use Rattle.delay_hold.specs.declared.Lag.TheVariants.{None, Of}
 use Rattle.delay_hold.specs.declared.DelayHold.{DelayHold}
 use Rattle.delay_hold.specs.declared.Next.{Next}
 use Rattle.delay_hold.specs.Step4Peaks.{larger_lag}
 use Rattle.delay_hold.specs.Steps5To8.{timer_off, timer_met, held_since, with_lower, keeps, changes, lowering, weighed, need_for, urgent_at, decide_at, decide_for, decide, missing}
 use Rattle.delay_hold.specs.Checks.{lag_up_to}
 
-abbrev pub Till : ℕ → Moment → Type 0
-Till t Never = Unit {0}
-Till t (At s) = s ≤ t
+abbrev pub Till : ℕ → Option ℕ → Type 0
+Till t None = Unit {0}
+Till t (Some s) = s ≤ t
 
 -- there is a lag, and it is at most e
-abbrev pub AtMost : ℕ → Lag → Type 0
+abbrev pub AtMost : ℕ → Option ℕ → Type 0
 AtMost e None = ⊥
-AtMost e (Of lag) = lag ≤ e
+AtMost e (Some lag) = lag ≤ e
 
 -- ---- tests
 and_both : (a b : Bool) → a ≡ true → b ≡ true → (a && b) ≡ true
@@ -40,9 +36,9 @@ pub and_right : (a b : Bool) → (a && b) ≡ true → b ≡ true
 and_right true b e = e
 and_right false b e = let z : ◌≡◌ {A = ℕ} 0 1 = cc in absurd (omega arith)
 
-held_of : (last : Moment) (t hold time : ℕ) → Till t last → hold ≤ time - t → held_since last hold time ≡ true
-held_of Never t hold time l h = refl
-held_of (At s) t hold time l h = le-leb hold (time - s) (omega arith)
+held_of : (last : Option ℕ) (t hold time : ℕ) → Till t last → hold ≤ time - t → held_since last hold time ≡ true
+held_of None t hold time l h = refl
+held_of (Some s) t hold time l h = le-leb hold (time - s) (omega arith)
 
 -- ---- the four outcomes of a need
 pub data Outcome (millisecond : ℕ) (may_lower : Bool) (h : DelayHold) (need : ℕ) (urgent : Bool) (current hold time : ℕ) : Next → Type 0 where
@@ -109,15 +105,15 @@ module _ (millisecond : ℕ) (may_lower : Bool) (policy : DelayPolicy) (h : Dela
   unfolding decide_at
   decided_at_law worst f = f _ (weighed_outcome millisecond may_lower h _ _ current hold time)
 
-  decided_for_law : (worst : Lag) → Q (keeps h) → ((w : ℕ) → worst ≡ Of w → AtWorst w) → Q (decide_for millisecond may_lower policy h late worst current hold time)
+  decided_for_law : (worst : Option ℕ) → Q (keeps h) → ((w : ℕ) → worst ≡ Some w → AtWorst w) → Q (decide_for millisecond may_lower policy h late worst current hold time)
   decided_for_law None q f = q
-  decided_for_law (Of w) q f = decided_at_law w (f w refl)
+  decided_for_law (Some w) q f = decided_at_law w (f w refl)
 
   -- nothing is decided, or one of the four at the larger of p999 and the greatest peak
   pub decided_rule :
-      (p999 peak : Lag) →
+      (p999 peak : Option ℕ) →
       Q (keeps h) →
-      ((w : ℕ) → larger_lag p999 peak ≡ Of w → AtWorst w) →
+      ((w : ℕ) → larger_lag p999 peak ≡ Some w → AtWorst w) →
       Q (decide millisecond may_lower policy h late p999 peak current hold time)
   unfolding decide
   decided_rule p999 peak q f =
@@ -125,34 +121,34 @@ module _ (millisecond : ℕ) (may_lower : Bool) (policy : DelayPolicy) (h : Dela
 
   -- with a p999, and nothing above e: one of the four, at a lag of at most e
   pub low_rule :
-      (e : ℕ) (p999 peak : Lag) →
+      (e : ℕ) (p999 peak : Option ℕ) →
       AtMost e p999 →
       lag_up_to peak e ≡ true →
       ((w : ℕ) → w ≤ e → AtWorst w) →
       Q (decide millisecond may_lower policy h late p999 peak current hold time)
   unfolding decide
   low_rule e None peak a b f = absurd a
-  low_rule e (Of p) None a b f = decided_at_law p (f p a)
-  low_rule e (Of p) (Of v) a b f = decided_at_law (max p v) (f (max p v) (omega (arith, leb-true v e b)))
+  low_rule e (Some p) None a b f = decided_at_law p (f p a)
+  low_rule e (Some p) (Some v) a b f = decided_at_law (max p v) (f (max p v) (omega (arith, leb-true v e b)))
 
   -- late, or with a p999, and a peak: one of the four, at a lag of at least that peak
   pub high_rule :
-      (p999 : Lag) (v : ℕ) →
+      (p999 : Option ℕ) (v : ℕ) →
       (missing p999 ≡ false) →
       ((w : ℕ) → v ≤ w → AtWorst w) →
-      Q (decide millisecond may_lower policy h late p999 (Of v) current hold time)
+      Q (decide millisecond may_lower policy h late p999 (Some v) current hold time)
   unfolding decide
   high_rule None v m f = let z : ◌≡◌ {A = ℕ} 0 1 = cc in absurd (omega arith)
-  high_rule (Of p) v m f = decided_at_law (max p v) (f (max p v) (omega arith))
+  high_rule (Some p) v m f = decided_at_law (max p v) (f (max p v) (omega arith))
 
   pub late_rule :
-      (p999 : Lag) (v : ℕ) →
+      (p999 : Option ℕ) (v : ℕ) →
       late ≡ true →
       ((w : ℕ) → v ≤ w → AtWorst w) →
-      Q (decide millisecond may_lower policy h late p999 (Of v) current hold time)
+      Q (decide millisecond may_lower policy h late p999 (Some v) current hold time)
   unfolding decide
   late_rule None v e f = pick_rule Q (not late) (keeps h) _ (λ n. absurd (no_late n)) (λ n. decided_at_law v (f v (omega arith)))
     where
       no_late : not late ≡ true → ⊥
       no_late n = not_both n (ap not e)
-  late_rule (Of p) v e f = high_rule (Of p) v refl f
+  late_rule (Some p) v e f = high_rule (Some p) v refl f

@@ -1,6 +1,6 @@
 -- What check 6 says of a hold, as facts, and back. Assumes nothing.
 -- check 6 of the peaks
-use Rattle.std.specs.Prelude.{◌≡◌, ℕ, ◌+◌, ◌-◌, ◌<◌, ◌≤◌, true, length, get_or, take}
+use Rattle.std.specs.Prelude.{◌≡◌, ℕ, ◌+◌, ◌-◌, ◌<◌, ◌≤◌, true, length, get_or, take, None, Option, Some}
 use mathlib.Core.Path.{sym}
 use native.Mathlib.Omega.{arith}
 use borrow.Author.Tests.{leb-true, ltb-true, le-leb, lt-ltb}
@@ -11,7 +11,6 @@ use Rattle.base.proofs.All.{both_yes}
 use Rattle.base.proofs.Points.{both_true}
 use Rattle.policy.specs.declared.DelayPolicy.{DelayPolicy}
 use Rattle.delay_hold.specs.declared.Seed.{Seed}
-use Rattle.delay_hold.specs.declared.Seed.TheVariants.{Nothing, From}
 use Rattle.delay_hold.specs.declared.DelayHold.{DelayHold}
 use Rattle.delay_hold.specs.Step4Peaks.{greatest, most_peaks}
 use Rattle.delay_hold.specs.Step4InPlace.{Placed}
@@ -99,9 +98,9 @@ module _ (policy : DelayPolicy) (width : ℕ) (s : Held) where
   of_whole a b = sym (both_yes _ _ _ (of_peaks policy width s a) (sym (of_times policy s.hold b)))
 
 -- ---- what step 4 and the decision ask
-pub seed_floor : (seed : Seed) (maximum : ℕ) → seed_fits seed maximum ≡ true → floor_of seed ≤ maximum
-seed_floor Nothing maximum h = omega arith
-seed_floor (From t d) maximum h = leb-true d maximum h
+pub seed_floor : (seed : Option Seed) (maximum : ℕ) → seed_fits seed maximum ≡ true → floor_of seed ≤ maximum
+seed_floor None maximum h = omega arith
+seed_floor (Some seed) maximum h = leb-true seed.delay maximum h
 
 module _ {policy : DelayPolicy} {width : ℕ} {s : Held} (w : WholePeaks policy width s) (times_long : length s.times ≡ most_peaks) (lags_long : length s.lags ≡ most_peaks) where
   pub placed_of : (window : ℕ) → nanos ≤ window → window ≤ span_limit → Placed s.hold.peaks s.times s.lags window

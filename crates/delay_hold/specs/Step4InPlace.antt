@@ -1,23 +1,21 @@
 -- Step 4 on the lent lists, as the code goes: the old peaks go first, then the lag joins. `proofs/Order` shows it alike with document 01's order. Assumes nothing.
-use Rattle.std.specs.Prelude.{◌≡◌, ℕ, ◌+◌, ◌-◌, ◌<◌, ◌≤◌, max, List, length, take, slice_index, slice_set}
+use Rattle.std.specs.Prelude.{◌≡◌, ℕ, ◌+◌, ◌-◌, ◌<◌, ◌≤◌, max, List, length, take, slice_index, slice_set, None, Option, Some}
 use Rattle.base.specs.Choice.{pick}
 use Rattle.base.specs.Limits.{nanos, span_limit}
 use Rattle.base.specs.Lists.{padded}
-use Rattle.delay_hold.specs.declared.Lag.{Lag}
-use Rattle.delay_hold.specs.declared.Lag.TheVariants.{None, Of}
 use Rattle.delay_hold.specs.Step4Peaks.{most_peaks, is_new_at}
 
-abbrev pub count_joined : (n : ℕ) (times : List ℕ) → Lag → (time : ℕ) → ℕ
+abbrev pub count_joined : (n : ℕ) (times : List ℕ) → Option ℕ → (time : ℕ) → ℕ
 count_joined n times None time = n
-count_joined n times (Of lag) time = pick (is_new_at n times time) (n + 1) n
+count_joined n times (Some lag) time = pick (is_new_at n times time) (n + 1) n
 
-abbrev pub times_joined : (n : ℕ) (times : List ℕ) → Lag → (time : ℕ) → List ℕ
+abbrev pub times_joined : (n : ℕ) (times : List ℕ) → Option ℕ → (time : ℕ) → List ℕ
 times_joined n times None time = times
-times_joined n times (Of lag) time = pick (is_new_at n times time) (slice_set times n time) times
+times_joined n times (Some lag) time = pick (is_new_at n times time) (slice_set times n time) times
 
-abbrev pub lags_joined : (n : ℕ) (times lags : List ℕ) → Lag → (time : ℕ) → List ℕ
+abbrev pub lags_joined : (n : ℕ) (times lags : List ℕ) → Option ℕ → (time : ℕ) → List ℕ
 lags_joined n times lags None time = lags
-lags_joined n times lags (Of lag) time = pick (is_new_at n times time) (slice_set lags n lag) (slice_set lags (n - 1) (max (slice_index lags (n - 1)) lag))
+lags_joined n times lags (Some lag) time = pick (is_new_at n times time) (slice_set lags n lag) (slice_set lags (n - 1) (max (slice_index lags (n - 1)) lag))
 
 -- what step 4 asks of n peaks in two lists of 600: unused places zero, each at least 1 s after the one before; and a window of 1 to 600 s
 pub record Placed (n : ℕ) (times lags : List ℕ) (window : ℕ) : Type 0 where

@@ -1,19 +1,13 @@
 -- Document 01, "DelayHold", steps 5 to 8: whether the delay changes, and to what. Assumes nothing.
 -- `millisecond` is document 01's 48 samples; `may_lower` says whether a due lowering happens at this call or waits.
-use Rattle.std.specs.Prelude.{ℕ, ◌+◌, ◌-◌, ◌/◌, max, Bool, true, false, not, ◌&&◌, ◌||◌, nat_le, nat_lt}
+use Rattle.std.specs.Prelude.{ℕ, ◌+◌, ◌-◌, ◌/◌, max, Bool, true, false, not, ◌&&◌, ◌||◌, nat_le, nat_lt, None, Option, Some}
 use Rattle.base.specs.Choice.{pick}
 use Rattle.policy.specs.declared.DelayPolicy.{DelayPolicy}
 use Rattle.policy.specs.Need.{need_of}
-use Rattle.delay_hold.specs.declared.Moment.{Moment}
-use Rattle.delay_hold.specs.declared.Moment.TheVariants.{Never, At}
 use Rattle.delay_hold.specs.declared.Seed.{Seed}
-use Rattle.delay_hold.specs.declared.Seed.TheVariants.{Nothing, From}
-use Rattle.delay_hold.specs.declared.Lag.{Lag}
-use Rattle.delay_hold.specs.declared.Lag.TheVariants.{None, Of}
 use Rattle.delay_hold.specs.declared.LowerTimer.{LowerTimer}
 use Rattle.delay_hold.specs.declared.DelayHold.{DelayHold}
 use Rattle.delay_hold.specs.declared.Next.{Next}
-use Rattle.delay_hold.specs.declared.Change.TheVariants.{Keep, To}
 use Rattle.delay_hold.specs.Step4Peaks.{larger_lag}
 
 -- the timer that is off
@@ -38,7 +32,7 @@ abbrev pub after_change : (h : DelayHold) (time : ℕ) → DelayHold
 after_change h time =
     record {
       peaks = h.peaks;
-      last_change = At time;
+      last_change = Some time;
       lower = timer_off;
       started = h.started;
       startup_late = h.startup_late;
@@ -47,18 +41,18 @@ after_change h time =
     }
 
 abbrev pub keeps : DelayHold → Next
-keeps h = record { hold = h; change = Keep }
+keeps h = record { hold = h; change = None }
 
 abbrev pub changes : (h : DelayHold) (delay time : ℕ) → Next
-changes h delay time = record { hold = after_change h time; change = To delay }
+changes h delay time = record { hold = after_change h time; change = Some delay }
 
 -- 5. the seed, as a floor of the need
-abbrev pub floor_of : Seed → ℕ
-floor_of Nothing = 0
-floor_of (From t delay) = delay
+abbrev pub floor_of : Option Seed → ℕ
+floor_of None = 0
+floor_of (Some seed) = seed.delay
 
 -- 5. "need = the larger of need(worst) and the seed"
-abbrev pub need_for : (policy : DelayPolicy) (seed : Seed) (worst : ℕ) → ℕ
+abbrev pub need_for : (policy : DelayPolicy) (seed : Option Seed) (worst : ℕ) → ℕ
 need_for policy seed worst = max (need_of policy worst) (floor_of seed)
 
 -- 6. "half = (need(worst) + offset − worst, or 0) / 2"
@@ -77,9 +71,9 @@ timer_met timer need time =
     (record { on = true; since = time; highest = need })
 
 -- 8. the last change (if any) is at least hold old
-abbrev pub held_since : Moment → (hold time : ℕ) → Bool
-held_since Never hold time = true
-held_since (At t) hold time = nat_le hold (time - t)
+abbrev pub held_since : Option ℕ → (hold time : ℕ) → Bool
+held_since None hold time = true
+held_since (Some t) hold time = nat_le hold (time - t)
 
 -- 8. "Once it and the last change (if any) are at least hold old: timer off, lower to that highest."
 unfoldable pub lowering : (may_lower : Bool) (h : DelayHold) (need hold time : ℕ) → Next
@@ -100,16 +94,16 @@ unfoldable pub decide_at : (millisecond : ℕ) (may_lower : Bool) (policy : Dela
 decide_at millisecond may_lower policy h late worst current hold time =
     weighed millisecond may_lower h (need_for policy h.seeded worst) (urgent_at policy late worst current) current hold time
 
-abbrev pub decide_for : (millisecond : ℕ) (may_lower : Bool) (policy : DelayPolicy) (h : DelayHold) (late : Bool) → Lag → (current hold time : ℕ) → Next
+abbrev pub decide_for : (millisecond : ℕ) (may_lower : Bool) (policy : DelayPolicy) (h : DelayHold) (late : Bool) → Option ℕ → (current hold time : ℕ) → Next
 decide_for millisecond may_lower policy h late None current hold time = keeps h
-decide_for millisecond may_lower policy h late (Of worst) current hold time = decide_at millisecond may_lower policy h late worst current hold time
+decide_for millisecond may_lower policy h late (Some worst) current hold time = decide_at millisecond may_lower policy h late worst current hold time
 
-abbrev pub missing : Lag → Bool
+abbrev pub missing : Option ℕ → Bool
 missing None = true
-missing (Of lag) = false
+missing (Some lag) = false
 
 -- 5. "No p999 and not late: no change, timer kept. worst = the larger of p999 and the greatest peak"
-unfoldable pub decide : (millisecond : ℕ) (may_lower : Bool) (policy : DelayPolicy) (h : DelayHold) (late : Bool) (p999 peak : Lag) (current hold time : ℕ) → Next
+unfoldable pub decide : (millisecond : ℕ) (may_lower : Bool) (policy : DelayPolicy) (h : DelayHold) (late : Bool) (p999 peak : Option ℕ) (current hold time : ℕ) → Next
 decide millisecond may_lower policy h late p999 peak current hold time =
     pick (missing p999 && not late) (keeps h)
     (decide_for millisecond may_lower policy h late (larger_lag p999 peak) current hold time)

@@ -1,13 +1,10 @@
 -- Document 01, check 6, of one hold: "`next` alone sees one hold". Assumes nothing.
-use Rattle.std.specs.Prelude.{ℕ, ◌+◌, ◌-◌, Bool, true, ◌==◌, nat_le, nat_lt}
+use Rattle.std.specs.Prelude.{ℕ, ◌+◌, ◌-◌, Bool, true, ◌==◌, nat_le, nat_lt, None, Option, Some}
 use Rattle.base.specs.Choice.{pick, both}
 use Rattle.base.specs.Limits.{nanos, time_limit, timely, samples_limit, width_limit}
 use Rattle.base.specs.Lists.{blank_from}
 use Rattle.policy.specs.declared.DelayPolicy.{DelayPolicy}
-use Rattle.delay_hold.specs.declared.Moment.{Moment}
-use Rattle.delay_hold.specs.declared.Moment.TheVariants.{Never, At}
 use Rattle.delay_hold.specs.declared.Seed.{Seed}
-use Rattle.delay_hold.specs.declared.Seed.TheVariants.{Nothing, From}
 use Rattle.delay_hold.specs.declared.LowerTimer.{LowerTimer}
 use Rattle.delay_hold.specs.declared.DelayHold.{DelayHold}
 use Rattle.base.specs.Rows.{apart, up_to, span_of}
@@ -15,18 +12,18 @@ use Rattle.delay_hold.specs.Step4Peaks.{most_peaks}
 use Rattle.delay_hold.specs.Next.{Held}
 
 -- "times within 8"
-abbrev pub moment_timely : Moment → Bool
-moment_timely Never = true
-moment_timely (At t) = timely t
+abbrev pub moment_timely : Option ℕ → Bool
+moment_timely None = true
+moment_timely (Some t) = timely t
 
 -- "seeds .. at most maximum", and its time
-abbrev pub seed_fits : Seed → (maximum : ℕ) → Bool
-seed_fits Nothing maximum = true
-seed_fits (From t delay) maximum = nat_le delay maximum
+abbrev pub seed_fits : Option Seed → (maximum : ℕ) → Bool
+seed_fits None maximum = true
+seed_fits (Some seed) maximum = nat_le seed.delay maximum
 
-abbrev pub seed_timely : Seed → Bool
-seed_timely Nothing = true
-seed_timely (From t delay) = timely t
+abbrev pub seed_timely : Option Seed → Bool
+seed_timely None = true
+seed_timely (Some seed) = timely seed.since
 
 -- "timer needs at most maximum"; a timer that is off is an unused place
 unfoldable pub timer_fits : (timer : LowerTimer) (maximum : ℕ) → Bool

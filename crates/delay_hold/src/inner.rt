@@ -8,9 +8,8 @@ ghost use Rattle.delay_hold.specs.Whole.{peak_most, whole_hold};
 ghost use Rattle.delay_hold.specs.Checks.{Asked};
 
 use super::step_4::peaks_next;
-use super::steps_1_to_3::{cap, in_startup};
-use super::{DelayHold, Lag, LowerTimer, Moment, Next, Seed};
-use base::most;
+use super::steps_1_to_3::{cap, in_startup, lag_within, larger_lag, late_at, started_at};
+use super::{DelayHold, LowerTimer, Next, Seed};
 use policy::DelayPolicy;
 
 // One millisecond of samples: the delay goes down only where the need is at least so much lower.
@@ -25,16 +24,16 @@ pub fn fresh() -> DelayHold
 {
     DelayHold {
         peaks: 0,
-        last_change: Moment::Never,
+        last_change: None,
         lower: LowerTimer {
             on: false,
             since: 0,
             highest: 0,
         },
-        started: Moment::Never,
+        started: None,
         startup_late: 0,
         late_before: false,
-        seeded: Seed::Nothing,
+        seeded: None,
     }
 }
 
@@ -42,8 +41,8 @@ pub fn fresh() -> DelayHold
 pub fn cleared(times: &mut [u64], lags: &mut [u32]) -> DelayHold
     ensures { held result times.new lags.new ≡ cleared_hold (held fresh_hold times.old lags.old) }
 {
-    base::zero_u64(times);
-    base::zero_u32(lags);
+    times.fill(0);
+    lags.fill(0);
     fresh()
 }
 
@@ -52,7 +51,7 @@ pub fn seed(hold: DelayHold, delay: u32, time: u64) -> DelayHold
     ensures { result ≡ seeded_hold hold delay time }
 {
     DelayHold {
-        seeded: Seed::From(time, delay),
+        seeded: Some(Seed { since: time, delay }),
         ..hold
     }
 }
@@ -65,20 +64,20 @@ pub fn interrupt(hold: DelayHold) -> DelayHold
 }
 
 // The greatest of the n peaks, if any.
-pub fn worst(lags: &[u32], n: usize) -> Lag
+pub fn worst(lags: &[u32], n: usize) -> Option<u32>
     requires { n ≤ length lags.now }
     ensures { result ≡ worst_of (take n lags.now) }
 {
     if n == 0 {
-        return Lag::None;
+        return None;
     }
-    let mut high = 0;
+    let mut high: u32 = 0;
     let mut i = 0;
     while i < n {
-        high = most(high, lags[i]);
+        high = high.max(lags[i]);
         i += 1;
     }
-    Lag::Of(high)
+    Some(high)
 }
 
 // Check 6 of one hold, in lists of 600.
@@ -106,8 +105,8 @@ pub fn next(
     hold: DelayHold,
     times: &mut [u64],
     lags: &mut [u32],
-    p999: Lag,
-    max_lag: Lag,
+    p999: Option<u32>,
+    max_lag: Option<u32>,
     current: u32,
     policy: DelayPolicy,
     time: u64,
@@ -118,13 +117,12 @@ pub fn next(
     requires millisecond_le_samples_limit { millisecond ≤ samples_limit }
     ensures { decided result times.new lags.new ≡ next_of millisecond may_lower policy (held hold times.old lags.old) p999 max_lag current time }
 {
-    let begun = hold.started;
-    let startup = in_startup(begun.started(time), hold.startup_late, time);
+    let startup = in_startup(started_at(hold.started, time), hold.startup_late, time);
     let hold_now = cap(startup, policy.hold);
     let window = cap(startup, policy.window);
-    let lag = max_lag.within(policy.read_offset + policy.delay_max);
-    let late = lag.late(policy.read_offset + current);
-    let n = peaks_next(times, lags, hold.peaks, lag.larger(p999), window, time);
+    let lag = lag_within(max_lag, policy.read_offset + policy.delay_max);
+    let late = late_at(lag, policy.read_offset + current);
+    let n = peaks_next(times, lags, hold.peaks, larger_lag(lag, p999), window, time);
     let peak = worst(lags, n);
     let before = hold
         .noted(policy, lag, startup, late, time, millisecond)

@@ -4,9 +4,6 @@ ghost use Rattle.base.specs.Lists.{padded};
 ghost use Rattle.delay_hold.specs.Step4Peaks.{is_new_at, old_count, times_after, lags_after, most_peaks};
 ghost use Rattle.delay_hold.specs.Step4InPlace.{count_joined, times_joined, lags_joined, Placed};
 
-use super::Lag;
-use base::{age, most};
-
 // How many of the oldest of the n peaks are at least window old.
 fn count_old(times: &[u64], n: usize, window: u64, time: u64) -> usize
     requires { n ≤ length times.now }
@@ -14,7 +11,7 @@ fn count_old(times: &[u64], n: usize, window: u64, time: u64) -> usize
 {
     let mut k = 0;
     while k < n {
-        if age(time, times[k]) < window {
+        if time.saturating_sub(times[k]) < window {
             return k;
         }
         k += 1;
@@ -30,17 +27,17 @@ fn is_new(times: &[u64], n: usize, time: u64) -> bool
     if n == 0 {
         return true;
     }
-    base::NANOS <= age(time, times[n - 1])
+    base::NANOS <= time.saturating_sub(times[n - 1])
 }
 
 // A lag joins the newest peak if that is under 1 s old, else is a new peak.
-fn join(times: &mut [u64], lags: &mut [u32], n: usize, lag: Lag, time: u64) -> usize
+fn join(times: &mut [u64], lags: &mut [u32], n: usize, lag: Option<u32>, time: u64) -> usize
     requires { (n ≤ length times.old) × (n ≤ length lags.old) × (is_new_at n times.old time ≡ true → (n < length times.old) × (n < length lags.old)) }
     ensures { (result ≡ count_joined n times.old lag time)
         × (times.new ≡ times_joined n times.old lag time)
         × (lags.new ≡ lags_joined n times.old lags.old lag time) }
 {
-    let Lag::Of(l) = lag else {
+    let Some(l) = lag else {
         return n;
     };
     if is_new(times, n, time) {
@@ -49,7 +46,7 @@ fn join(times: &mut [u64], lags: &mut [u32], n: usize, lag: Lag, time: u64) -> u
         return n + 1;
     }
     let last = n - 1;
-    let high = most(lags[last], l);
+    let high = lags[last].max(l);
     lags[last] = high;
     n
 }
@@ -59,7 +56,7 @@ pub(crate) fn peaks_next(
     times: &mut [u64],
     lags: &mut [u32],
     n: usize,
-    lag: Lag,
+    lag: Option<u32>,
     window: u64,
     time: u64,
 ) -> usize
@@ -69,7 +66,7 @@ pub(crate) fn peaks_next(
         × (lags.new ≡ padded most_peaks (lags_after (take n times.old) (take n lags.old) lag window time)) }
 {
     let k = count_old(times, n, window, time);
-    base::shift_u64(times, k);
-    base::shift_u32(lags, k);
+    base::shift(times, k, 0);
+    base::shift(lags, k, 0);
     join(times, lags, n - k, lag, time)
 }

@@ -5,8 +5,7 @@ ghost use Rattle.policy.specs.Settings.{Sound};
 ghost use Rattle.delay_hold.specs.Steps1To3.{started_at, startup_at, capped, seed_left, lag_within, late_at, lates_next, lates_seeded, noted};
 ghost use Rattle.delay_hold.specs.Step4Peaks.{larger_lag};
 
-use super::{DelayHold, Lag, Moment, Seed};
-use base::age;
+use super::{DelayHold, Seed};
 use policy::DelayPolicy;
 use policy::inner::need;
 
@@ -18,21 +17,17 @@ const STARTUP_HOLD: u64 = 5 * base::NANOS;
 // So many late events end it.
 const STARTUP_LATES: u8 = 2;
 
-impl Moment {
-    pub(crate) fn started(self, time: u64) -> u64
-        ensures { result ≡ started_at self time }
-    {
-        let Moment::At(t) = self else {
-            return time;
-        };
-        t
-    }
+// When the first decision was, which may be this one.
+pub(crate) fn started_at(begun: Option<u64>, time: u64) -> u64
+    ensures { result ≡ started_at begun time }
+{
+    begun.unwrap_or(time)
 }
 
 pub(crate) fn in_startup(started: u64, lates: u8, time: u64) -> bool
     ensures { result ≡ startup_at started lates time }
 {
-    if age(time, started) < STARTUP {
+    if time.saturating_sub(started) < STARTUP {
         lates < STARTUP_LATES
     } else {
         false
@@ -42,67 +37,41 @@ pub(crate) fn in_startup(started: u64, lates: u8, time: u64) -> bool
 pub(crate) fn cap(startup: bool, x: u64) -> u64
     ensures { result ≡ capped startup x }
 {
-    if startup {
-        base::least_u64(x, STARTUP_HOLD)
-    } else {
-        x
-    }
+    if startup { x.min(STARTUP_HOLD) } else { x }
 }
 
-impl Seed {
-    // What is left of the seed: it goes at the age of a hold.
-    fn left(self, hold: u64, time: u64) -> Seed
-        ensures { result ≡ seed_left self hold time }
-    {
-        let Seed::From(t, delay) = self else {
-            return Seed::Nothing;
-        };
-        if hold <= age(time, t) {
-            return Seed::Nothing;
-        }
-        Seed::From(t, delay)
-    }
+// What is left of the seed: it goes at the age of a hold.
+fn seed_left(seed: Option<Seed>, hold: u64, time: u64) -> Option<Seed>
+    ensures { result ≡ seed_left seed hold time }
+{
+    seed.filter(|last| time.saturating_sub(last.since) < hold)
 }
 
-impl Lag {
-    // A lag above the limit is a writer catching up, and counts for nothing.
-    pub(crate) fn within(self, limit: u32) -> Lag
-        ensures { result ≡ lag_within self limit }
-    {
-        let Lag::Of(lag) = self else {
-            return Lag::None;
-        };
-        if lag <= limit {
-            Lag::Of(lag)
-        } else {
-            Lag::None
-        }
-    }
+// A lag above the limit is a writer catching up, and counts for nothing.
+pub(crate) fn lag_within(lag: Option<u32>, limit: u32) -> Option<u32>
+    ensures { result ≡ lag_within lag limit }
+{
+    lag.filter(|samples| *samples <= limit)
+}
 
-    pub(crate) fn late(self, limit: u32) -> bool
-        ensures { result ≡ late_at self limit }
-    {
-        let Lag::Of(lag) = self else {
-            return false;
-        };
-        limit < lag
-    }
+pub(crate) fn late_at(lag: Option<u32>, limit: u32) -> bool
+    ensures { result ≡ late_at lag limit }
+{
+    lag.is_some_and(|samples| limit < samples)
+}
 
-    pub(crate) fn larger(self, other: Lag) -> Lag
-        ensures { result ≡ larger_lag self other }
-    {
-        let Lag::Of(x) = self else {
-            return other;
-        };
-        let Lag::Of(y) = other else {
-            return self;
-        };
-        Lag::Of(base::most(x, y))
+pub(crate) fn larger_lag(lag: Option<u32>, other: Option<u32>) -> Option<u32>
+    ensures { result ≡ larger_lag lag other }
+{
+    match (lag, other) {
+        (Some(x), Some(y)) => Some(x.max(y)),
+        (None, y) => y,
+        (x, None) => x,
     }
 }
 
 // A late block after the first change is a startup event.
-fn lates_next(late: bool, before: bool, startup: bool, last: Moment, n: u8) -> u8
+fn lates_next(late: bool, before: bool, startup: bool, last: Option<u64>, n: u8) -> u8
     ensures { result ≡ lates_next late before startup last n }
 {
     if !late {
@@ -114,24 +83,30 @@ fn lates_next(late: bool, before: bool, startup: bool, last: Moment, n: u8) -> u
     if !startup {
         return n;
     }
-    let Moment::At(_) = last else {
+    if last.is_none() {
         return n;
-    };
-    if n < u8::MAX { n + 1 } else { u8::MAX }
+    }
+    n.saturating_add(1)
 }
 
 // So is a lag that needs about the last run's delay: it was no stale value.
-fn lates_seeded(policy: DelayPolicy, lag: Lag, seed: Seed, n: u8, millisecond: u32) -> u8
+fn lates_seeded(
+    policy: DelayPolicy,
+    lag: Option<u32>,
+    seed: Option<Seed>,
+    n: u8,
+    millisecond: u32,
+) -> u8
     requires { Sound policy × (millisecond ≤ samples_limit) }
     ensures { result ≡ lates_seeded millisecond policy lag seed n }
 {
-    let Lag::Of(l) = lag else {
+    let Some(l) = lag else {
         return n;
     };
-    let Seed::From(_, delay) = seed else {
+    let Some(last) = seed else {
         return n;
     };
-    if delay <= need(policy, l) + millisecond {
+    if last.delay <= need(policy, l) + millisecond {
         return STARTUP_LATES;
     }
     n
@@ -141,7 +116,7 @@ impl DelayHold {
     pub(crate) fn noted(
         self,
         policy: DelayPolicy,
-        lag: Lag,
+        lag: Option<u32>,
         startup: bool,
         late: bool,
         time: u64,
@@ -150,12 +125,15 @@ impl DelayHold {
         requires { Sound policy × (millisecond ≤ samples_limit) }
         ensures { result ≡ noted millisecond policy self lag startup late time }
     {
-        let begun = self.started;
-        let seed = self.seeded;
-        let last = self.last_change;
-        let started = Moment::At(begun.started(time));
-        let seeded = seed.left(policy.hold, time);
-        let n = lates_next(late, self.late_before, startup, last, self.startup_late);
+        let started = Some(started_at(self.started, time));
+        let seeded = seed_left(self.seeded, policy.hold, time);
+        let n = lates_next(
+            late,
+            self.late_before,
+            startup,
+            self.last_change,
+            self.startup_late,
+        );
         let startup_late = lates_seeded(policy, lag, seeded, n, millisecond);
         DelayHold {
             started,

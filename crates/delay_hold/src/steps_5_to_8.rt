@@ -6,33 +6,23 @@ ghost use Rattle.delay_hold.specs.Steps5To8.{floor_of, timer_off, timer_met, hel
 ghost use Rattle.delay_hold.specs.Checks.{lag_up_to};
 ghost use Rattle.delay_hold.specs.Whole.{peak_limit};
 
-use super::{Change, DelayHold, Lag, LowerTimer, Moment, Next, Seed};
-use base::{age, less, most};
+use super::steps_1_to_3::larger_lag;
+use super::{DelayHold, LowerTimer, Next, Seed};
 use policy::DelayPolicy;
 use policy::inner::need;
 
-impl Moment {
-    // There was none, or it is at least hold old.
-    pub fn held(self, hold: u64, time: u64) -> bool
-        ensures { result ≡ held_since self hold time }
-    {
-        let Moment::At(t) = self else {
-            return true;
-        };
-        hold <= age(time, t)
-    }
+// There was no such moment, or it is at least hold old.
+pub fn held_since(moment: Option<u64>, hold: u64, time: u64) -> bool
+    ensures { result ≡ held_since moment hold time }
+{
+    moment.is_none_or(|at| hold <= time.saturating_sub(at))
 }
 
-impl Seed {
-    // The last run's delay, a floor of the need.
-    fn floor(self) -> u32
-        ensures { result ≡ floor_of self }
-    {
-        let Seed::From(_, delay) = self else {
-            return 0;
-        };
-        delay
-    }
+// The last run's delay, a floor of the need.
+fn floor_of(seed: Option<Seed>) -> u32
+    ensures { result ≡ floor_of seed }
+{
+    seed.map_or(0, |last| last.delay)
 }
 
 impl LowerTimer {
@@ -50,7 +40,7 @@ impl LowerTimer {
         ensures { result ≡ timer_met self need time }
     {
         if self.on {
-            self.highest = most(self.highest, need);
+            self.highest = self.highest.max(need);
             return self;
         }
         self.on = true;
@@ -75,21 +65,21 @@ fn urgent(policy: DelayPolicy, late: bool, worst: u32, current: u32) -> bool
     if late {
         return true;
     }
-    let half = less(need(policy, worst) + policy.read_offset, worst) / 2;
+    let half = (need(policy, worst) + policy.read_offset).saturating_sub(worst) / 2;
     policy.read_offset + current < worst + half
 }
 
 // A lowering is due: it may happen now, and the timer and the last change are at least hold old.
-fn due(since: u64, last: Moment, hold: u64, time: u64, may_lower: bool) -> bool
+fn due(since: u64, last: Option<u64>, hold: u64, time: u64, may_lower: bool) -> bool
     ensures { result ≡ may_lower && nat_le hold (time - since) && held_since last hold time }
 {
     if !may_lower {
         return false;
     }
-    if age(time, since) < hold {
+    if time.saturating_sub(since) < hold {
         return false;
     }
-    last.held(hold, time)
+    held_since(last, hold, time)
 }
 
 impl DelayHold {
@@ -107,7 +97,7 @@ impl DelayHold {
         self.lower = self.lower.off();
         Next {
             hold: self,
-            change: Change::Keep,
+            change: None,
         }
     }
 
@@ -117,13 +107,13 @@ impl DelayHold {
     {
         let timer = self.lower.off();
         let hold = DelayHold {
-            last_change: Moment::At(time),
+            last_change: Some(time),
             lower: timer,
             ..self
         };
         Next {
             hold,
-            change: Change::To(delay),
+            change: Some(delay),
         }
     }
 
@@ -132,13 +122,12 @@ impl DelayHold {
         ensures { result ≡ lowering may_lower self need hold time }
     {
         let timer = self.lower.met(need, time);
-        let last = self.last_change;
-        if due(timer.since, last, hold, time, may_lower) {
+        if due(timer.since, self.last_change, hold, time, may_lower) {
             return self.changed(timer.highest, time);
         }
         Next {
             hold: self.with_lower(timer),
-            change: Change::Keep,
+            change: None,
         }
     }
 
@@ -180,8 +169,7 @@ impl DelayHold {
         requires { Sound policy × (worst ≤ peak_limit) × (current ≤ samples_limit) × (floor_of self.seeded ≤ samples_limit) × (millisecond ≤ samples_limit) }
         ensures { result ≡ decide_at millisecond may_lower policy self late worst current hold time }
     {
-        let seed = self.seeded;
-        let high = most(need(policy, worst), seed.floor());
+        let high = need(policy, worst).max(floor_of(self.seeded));
         self.weighed(
             high,
             urgent(policy, late, worst, current),
@@ -198,7 +186,7 @@ impl DelayHold {
         self,
         policy: DelayPolicy,
         late: bool,
-        worst: Lag,
+        worst: Option<u32>,
         current: u32,
         hold: u64,
         time: u64,
@@ -208,10 +196,10 @@ impl DelayHold {
         requires { Sound policy × (lag_up_to worst peak_limit ≡ true) × (current ≤ samples_limit) × (floor_of self.seeded ≤ samples_limit) × (millisecond ≤ samples_limit) }
         ensures { result ≡ decide_for millisecond may_lower policy self late worst current hold time }
     {
-        let Lag::Of(w) = worst else {
+        let Some(w) = worst else {
             return Next {
                 hold: self,
-                change: Change::Keep,
+                change: None,
             };
         };
         self.decided_at(policy, late, w, current, hold, time, millisecond, may_lower)
@@ -222,8 +210,8 @@ impl DelayHold {
         self,
         policy: DelayPolicy,
         late: bool,
-        p999: Lag,
-        peak: Lag,
+        p999: Option<u32>,
+        peak: Option<u32>,
         current: u32,
         hold: u64,
         time: u64,
@@ -237,7 +225,7 @@ impl DelayHold {
             return self.decided_for(
                 policy,
                 late,
-                p999.larger(peak),
+                larger_lag(p999, peak),
                 current,
                 hold,
                 time,
@@ -245,16 +233,16 @@ impl DelayHold {
                 may_lower,
             );
         }
-        let Lag::Of(_) = p999 else {
+        let Some(_) = p999 else {
             return Next {
                 hold: self,
-                change: Change::Keep,
+                change: None,
             };
         };
         self.decided_for(
             policy,
             late,
-            p999.larger(peak),
+            larger_lag(p999, peak),
             current,
             hold,
             time,

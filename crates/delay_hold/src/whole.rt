@@ -4,38 +4,26 @@ ghost use Rattle.delay_hold.specs.Next.{held};
 ghost use Rattle.delay_hold.specs.Whole.{moment_timely, seed_fits, seed_timely, timer_fits, peak_most, whole_peaks, whole_times};
 ghost use Rattle.delay_hold.specs.Step4Peaks.{most_peaks};
 
-use super::{DelayHold, LowerTimer, Moment, Seed};
+use super::{DelayHold, LowerTimer, Seed};
 use policy::DelayPolicy;
 
-impl Moment {
-    fn timely(self) -> bool
-        ensures { result ≡ moment_timely self }
-    {
-        let Moment::At(t) = self else {
-            return true;
-        };
-        t <= base::TIME_LIMIT
-    }
+// There was no such moment, or it lies within check 8.
+pub fn moment_timely(moment: Option<u64>) -> bool
+    ensures { result ≡ moment_timely moment }
+{
+    moment.is_none_or(|at| at <= base::TIME_LIMIT)
 }
 
-impl Seed {
-    fn fits(self, maximum: u32) -> bool
-        ensures { result ≡ seed_fits self maximum }
-    {
-        let Seed::From(_, delay) = self else {
-            return true;
-        };
-        delay <= maximum
-    }
+fn seed_fits(seed: Option<Seed>, maximum: u32) -> bool
+    ensures { result ≡ seed_fits seed maximum }
+{
+    seed.is_none_or(|last| last.delay <= maximum)
+}
 
-    fn timely(self) -> bool
-        ensures { result ≡ seed_timely self }
-    {
-        let Seed::From(t, _) = self else {
-            return true;
-        };
-        t <= base::TIME_LIMIT
-    }
+fn seed_timely(seed: Option<Seed>) -> bool
+    ensures { result ≡ seed_timely seed }
+{
+    seed.is_none_or(|last| last.since <= base::TIME_LIMIT)
 }
 
 impl LowerTimer {
@@ -74,41 +62,39 @@ impl DelayHold {
         if policy.window <= base::inner::span(n, times) {
             return false;
         }
-        if !base::blank_u64(times, n) {
+        if !base::blank(times, n) {
             return false;
         }
-        if !base::blank_u32(lags, n) {
+        if !base::blank(lags, n) {
             return false;
         }
-        if !base::inner::up_to_u32(policy.read_offset + policy.delay_max + width, n, lags) {
+        let most = policy.read_offset + policy.delay_max + width;
+        if !lags[..n].iter().all(|lag| *lag <= most) {
             return false;
         }
-        base::inner::up_to_u64(base::TIME_LIMIT, n, times)
+        times[..n].iter().all(|at| *at <= base::TIME_LIMIT)
     }
 
     // The seed, the timer and the other times.
     pub(crate) fn whole_times(self, policy: DelayPolicy) -> bool
         ensures { result ≡ whole_times policy self }
     {
-        let seed = self.seeded;
-        let timer = self.lower;
-        let last = self.last_change;
-        let started = self.started;
-        if !seed.fits(policy.delay_max) {
+        if !seed_fits(self.seeded, policy.delay_max) {
             return false;
         }
+        let timer = self.lower;
         if !timer.fits(policy.delay_max) {
             return false;
         }
-        if !last.timely() {
+        if !moment_timely(self.last_change) {
             return false;
         }
         if base::TIME_LIMIT < timer.since {
             return false;
         }
-        if !started.timely() {
+        if !moment_timely(self.started) {
             return false;
         }
-        seed.timely()
+        seed_timely(self.seeded)
     }
 }

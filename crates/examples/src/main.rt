@@ -1,39 +1,22 @@
 // Document 01's examples and some limits, run on the library; crates/examples/stdout holds what the Rust answers, where it has an answer.
 #![tactic(auto)]
 
-use policy::{DelayPolicy, Need};
+use policy::DelayPolicy;
 use std::io;
 
-// A name, then a number.
-fn number(rt: &impl Print, name: &str, value: u64) -> io::Result<()> {
-    println!(rt; "{name}{value}")
-}
-
-// A name, then the bits of a double.
+// A name, then the bits of a double; nothing for one that is no number.
 fn double(rt: &impl Print, name: &str, value: f64) -> io::Result<()> {
-    print!(rt; "{name}")?;
-    if value == value {
-        print!(rt; "{:016x}", f64::to_bits(value))?;
+    if value.is_nan() {
+        return println!(rt; "{name}");
     }
-    println!(rt)
-}
-
-fn infinity() -> f64 {
-    1.0e300 * 1.0e300
-}
-
-fn nan() -> f64 {
-    infinity() - infinity()
+    println!(rt; "{name}{:016x}", value.to_bits())
 }
 
 // A need, or the number of the refusal.
 fn need(rt: &impl Print, name: &str, policy: DelayPolicy, lag: u32) -> io::Result<()> {
     match policy.need_of(lag) {
-        Need::Of(value) => number(rt, name, value as u64),
-        Need::Refused(check) => {
-            print!(rt; "{name}")?;
-            number(rt, "refused ", check as u64)
-        }
+        Ok(value) => println!(rt; "{name}{value}"),
+        Err(refusal) => println!(rt; "{name}refused {}", refusal.number()),
     }
 }
 
@@ -42,35 +25,21 @@ fn doubles(rt: &impl Print) -> io::Result<()> {
     double(rt, "  ms 0: ", doubles::ms(0))?;
     double(rt, "  ms 48: ", doubles::ms(48))?;
     double(rt, "  ms 4294967295: ", doubles::ms(4294967295))?;
-    number(rt, "  samples 0.03125: ", doubles::samples(0.03125) as u64)?;
-    number(
-        rt,
-        "  samples 0.010416: ",
-        doubles::samples(0.010416) as u64,
+    println!(rt; "  samples 0.03125: {}", doubles::samples(0.03125))?;
+    println!(rt; "  samples 0.010416: {}", doubles::samples(0.010416))?;
+    println!(rt; "  samples 0.010417: {}", doubles::samples(0.010417))?;
+    println!(rt; "  samples -0.0: {}", doubles::samples(-0.0))?;
+    println!(rt; "  samples -5.0: {}", doubles::samples(-5.0))?;
+    println!(rt; "  samples NaN: {}", doubles::samples(f64::NAN))?;
+    println!(rt; "  samples infinity: {}", doubles::samples(f64::INFINITY))?;
+    println!(rt;
+        "  samples 89478485.3125: {}",
+        doubles::samples(89478485.3125)
     )?;
-    number(
-        rt,
-        "  samples 0.010417: ",
-        doubles::samples(0.010417) as u64,
-    )?;
-    number(rt, "  samples -0.0: ", doubles::samples(-0.0) as u64)?;
-    number(rt, "  samples -5.0: ", doubles::samples(-5.0) as u64)?;
-    number(rt, "  samples NaN: ", doubles::samples(nan()) as u64)?;
-    number(
-        rt,
-        "  samples infinity: ",
-        doubles::samples(infinity()) as u64,
-    )?;
-    number(
-        rt,
-        "  samples 89478485.3125: ",
-        doubles::samples(89478485.3125) as u64,
-    )?;
-    number(rt, "  samples 1e300: ", doubles::samples(1.0e300) as u64)?;
-    number(
-        rt,
-        "  samples of the least double: ",
-        doubles::samples(5.0e-324) as u64,
+    println!(rt; "  samples 1e300: {}", doubles::samples(1.0e300))?;
+    println!(rt;
+        "  samples of the least double: {}",
+        doubles::samples(5.0e-324)
     )
 }
 
@@ -103,7 +72,7 @@ fn needs(rt: &impl Print) -> io::Result<()> {
     )?;
     need(rt, "  need 480, share 10: ", policy(10.0), 480)?;
     need(rt, "  need 480, share 10.5: ", policy(10.5), 480)?;
-    need(rt, "  need 480, share NaN: ", policy(nan()), 480)?;
+    need(rt, "  need 480, share NaN: ", policy(f64::NAN), 480)?;
     need(rt, "  need 485, share -0.0: ", policy(-0.0), 485)
 }
 

@@ -1,4 +1,5 @@
 -- An accepted file given to `new`: its flows have room, and stand in the table in the file's order. Assumes nothing.
+use Rattle.std.specs.Prelude.{Some}
 use Prim.Native.Nat.{ℕ, ◌+◌, ◌*◌, ◌/◌, ◌%◌, ◌<◌}
 use mathlib.Core.Path.{◌≡◌, refl, sym, ap, ap₂, ◌∙◌}
 use mathlib.Core.List.{List}
@@ -14,7 +15,6 @@ use Rattle.base.proofs.Tests.{not_both}
 use Rattle.byte_order.specs.Bytes.{AllBytes}
 use Rattle.byte_order.proofs.Inverse.{big_cong}
 use Rattle.rules_record.specs.declared.ExtraDelay.{ExtraDelay}
-use Rattle.rules_record.specs.declared.Remembered.TheVariants.{Delay}
 use Rattle.rules_record.specs.declared.FlowEntry.{FlowEntry}
 use Rattle.rules_record.specs.declared.Inputs.{Inputs}
 use Rattle.rules_record.specs.declared.Output.TheVariants.{Bytes}
@@ -155,7 +155,7 @@ module _ (version head : ℕ) (file : List ℕ) {places delays-lent : ℕ} (r : 
           record {
             most = r.headed.few;
             flow = λ k m. ap (λ (z : Inputs). flow_at z k) rest ∙ in_table.flow k m ∙ flow_given k m;
-            delay = λ k m. ap (λ (z : Inputs). recalled z k) rest ∙ in_table.delay k m ∙ ap Delay (delay_given k m);
+            delay = λ k m. ap (λ (z : Inputs). recalled z k) rest ∙ in_table.delay k m ∙ ap Some (delay_given k m);
             none = λ k m. ap (λ (x : FlowEntry). x.remembered) ((new_checked settings kinds bytes delays time l words h).whole.flows.unused k (omega (arith, count)));
           }
 

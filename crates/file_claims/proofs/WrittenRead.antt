@@ -1,4 +1,5 @@
 -- What the writer writes the reader accepts, and gives exactly the remembered delays. Assumes nothing.
+use Rattle.std.specs.Prelude.{Some}
 use Prim.Native.Nat.{ℕ, ◌+◌, ◌*◌, ◌/◌, ◌%◌, ◌<◌, ◌≤◌}
 use mathlib.Core.Bool.{true}
 use mathlib.Core.Path.{◌≡◌, sym, ap, ap₂, subst, ◌∙◌}
@@ -16,7 +17,6 @@ use Rattle.byte_order.proofs.Inverse.{weight}
 use Rattle.rules_record.specs.declared.FlowEntry.{FlowEntry}
 use Rattle.rules_record.specs.declared.Inputs.{Inputs}
 use Rattle.rules_record.specs.declared.Output.TheVariants.{Bytes}
-use Rattle.rules_record.specs.declared.Remembered.TheVariants.{Delay}
 use Rattle.rules_record.specs.Flows.{empty_entry, entry_in, entry_at, flow_at, recalled, known}
 use Rattle.rules_record.specs.Lent.{Lists}
 use Rattle.rules_record.specs.Facts.{Whole}
@@ -88,7 +88,7 @@ module _ (s : Inputs) (l : Lists) (whole : Whole s l) where
     delay_is : (k : ℕ) → k < count_in file → get_or (delays_read file head) k 0 ≡ sorted_delay table k
     delay_is k m = delay_read file head k m ∙ table_delay k (omega (arith, table_count))
 
-    each : (place delay : ℕ) → recalled s place ≡ Delay delay → Given given (flow_at s place) delay
+    each : (place delay : ℕ) → recalled s place ≡ Some delay → Given given (flow_at s place) delay
     unfolding recalled flow_at entry_at held sorted_flow sorted_delay
     each place delay e =
         let a = sorted_at table places_apart place (ap has_delay e) in
@@ -117,7 +117,7 @@ module _ (s : Inputs) (l : Lists) (whole : Whole s l) where
           place = ranked_below 64 table k;
           known = held_known (ranked_below 64 table k) h;
           holds = sym (flow_is k m);
-          has = delay_held _ h ∙ ap Delay (sym (delay_is k m));
+          has = delay_held _ h ∙ ap Some (sym (delay_is k m));
         }
 
     module _ (flows delays : List ℕ) (flows_long : length flows ≡ 1024) (delays_long : length delays ≡ 64) where

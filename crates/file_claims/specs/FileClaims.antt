@@ -1,12 +1,11 @@
 -- The delay file of version 1 as a whole (document 02, §2), over what `read_delays`, `new` and `write_delays` answer. Assumes nothing.
 -- Two facts are asked of what a call is given, and every call has them by the types of its arguments: the calls promise them, of every file
 -- (`read_delays`: AllBytes) and of every flow table (`write_delays`: TableWidths).
-use Rattle.std.specs.Prelude.{ℕ, ◌*◌, ◌/◌, ◌%◌, ◌≤◌, ◌<◌, true, ◌≡◌, List, length, get_or, take}
+use Rattle.std.specs.Prelude.{ℕ, ◌*◌, ◌/◌, ◌%◌, ◌≤◌, ◌<◌, true, ◌≡◌, List, length, get_or, take, Some}
 use Rattle.base.specs.Lists.{padded, listed}
 use Rattle.byte_order.specs.Bytes.{AllBytes}
 use Rattle.rules_record.specs.declared.ExtraDelay.{ExtraDelay}
 use Rattle.rules_record.specs.declared.Flow.{Flow}
-use Rattle.rules_record.specs.declared.Remembered.TheVariants.{Delay}
 use Rattle.rules_record.specs.declared.Inputs.{Inputs}
 use Rattle.rules_record.specs.Flows.{flow_at, recalled}
 use Rattle.rules_record.specs.Lent.{Lists}
@@ -72,7 +71,7 @@ pub record Given (r : LeftByReader) (flow : Flow) (delay : ℕ) : Type 0 where
 
 -- they are exactly those that the record remembers: each of them, each flow once, and nothing else ("A known flow with no remembered delay is not written.")
 pub record ExactlyRemembered (s : Inputs) (r : LeftByReader) : Type 0 where
-  pub each : (place delay : ℕ) → recalled s place ≡ Delay delay → Given r (flow_at s place) delay
+  pub each : (place delay : ℕ) → recalled s place ≡ Some delay → Given r (flow_at s place) delay
   pub once : (j k : ℕ) → j < r.count → k < r.count → loaded_flow r.flows j ≡ loaded_flow r.flows k → j ≡ k
   pub only : (k : ℕ) → k < r.count → Remembers s (loaded_flow r.flows k) (get_or r.delays k 0)
 

@@ -1,13 +1,12 @@
 -- The third demand of one input, from a fresh input on: floor and ceiling after every list of events whose clock does not go back.
 -- Assumes nothing.
+use Rattle.std.specs.Prelude.{Option, Some}
 use Prim.Native.Nat.{ℕ, ◌+◌, ◌-◌, ◌≤◌}
 use mathlib.Core.Path.{◌≡◌, refl, sym, subst, ◌∙◌}
 use mathlib.Core.List.{List, [], ◌∷◌, ◌++◌}
 use native.Mathlib.Omega.{arith}
 use Rattle.policy.specs.declared.DelayPolicy.{DelayPolicy}
 use Rattle.policy.specs.Need.{need_of}
-use Rattle.delay_hold.specs.declared.Lag.{Lag}
-use Rattle.delay_hold.specs.declared.Lag.TheVariants.{Of}
 use Rattle.delay_hold.specs.Step4Peaks.{worst_of}
 use Rattle.delay_hold.specs.Next.{next_of, delay_after, one_millisecond}
 use Rattle.delay_hold.proofs.Wholes.{in_use}
@@ -63,15 +62,15 @@ module _ (policy : DelayPolicy) (width : ℕ) (allowed : Allowed policy width) (
 
   -- ---- one tick after them, and a stretch after them
   floor_tick :
-      (view : InputView) (tick : Tick) (l : ℕ) → Kept policy width view → worst_of tick.lags ≡ Of l →
+      (view : InputView) (tick : Tick) (l : ℕ) → Kept policy width view → worst_of tick.lags ≡ Some l →
       l ≤ policy.read_offset + policy.delay_max → l ≤ policy.read_offset + (ticked_view rules view tick).delay
   unfolding ticked_view
   floor_tick view tick l k e fits =
-      let p999 : Lag = p999_of policy (pushed_all tick.time tick.lags view.window) in
+      let p999 : Option ℕ = p999_of policy (pushed_all tick.time tick.lags view.window) in
       let u = in_use (kept_peaks policy width allowed view k) k.times_long k.lags_long in
       omega (
         arith,
-        subst (λ (x : Lag). l ≤ policy.read_offset + delay_after view.delay (next_of millisecond tick.may_lower policy view.held p999 x view.delay tick.time).change)
+        subst (λ (x : Option ℕ). l ≤ policy.read_offset + delay_after view.delay (next_of millisecond tick.may_lower policy view.held p999 x view.delay tick.time).change)
             (sym e) (next_covers policy view.held (u.1 ∙ sym u.0) allowed.window_least p999 l fits tick.time millisecond tick.may_lower view.delay),
       )
 

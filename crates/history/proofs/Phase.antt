@@ -5,13 +5,13 @@
 --     clean     a timer started since: its highest need is at most `most`
 --     settled   the delay is at most `most` + a millisecond less one sample
 -- Assumes nothing.
+use Rattle.std.specs.Prelude.{Option}
 use Prim.Native.Nat.{ℕ, ◌+◌, ◌-◌, ◌*◌, ◌≤◌, ◌<◌}
 use mathlib.Core.Bool.{Bool, true, false}
 use mathlib.Core.Path.{◌≡◌, refl}
 use native.Mathlib.Omega.{arith}
 use Rattle.base.specs.Limits.{nanos}
 use Rattle.base.proofs.Choices.{by_bool}
-use Rattle.delay_hold.specs.declared.Moment.{Moment}
 use Rattle.delay_hold.specs.declared.LowerTimer.{LowerTimer}
 use Rattle.delay_hold.specs.declared.DelayHold.{DelayHold}
 use Rattle.delay_hold.specs.declared.Next.{Next}
@@ -21,7 +21,7 @@ use Rattle.delay_hold.proofs.Outcomes.{Till, Outcome, raises, quits, waits, lowe
 use Rattle.delay_hold.proofs.Later.{till_later}
 use Rattle.history.proofs.Timer.{timer_met_law, met_most}
 
-pub data Phase (millisecond calm hold most t delay : ℕ) (last : Moment) (timer : LowerTimer) : Type 0 where
+pub data Phase (millisecond calm hold most t delay : ℕ) (last : Option ℕ) (timer : LowerTimer) : Type 0 where
   early : t < calm → Phase millisecond calm hold most t delay last timer
   old : timer.on ≡ true → t < calm + hold → timer.since ≤ calm → Till calm last → Phase millisecond calm hold most t delay last timer
   dropped : timer.on ≡ false → t ≤ calm + hold + 5 * nanos → Phase millisecond calm hold most t delay last timer
@@ -33,7 +33,7 @@ pub data Phase (millisecond calm hold most t delay : ℕ) (last : Moment) (timer
 
 -- it holds of every smaller delay
 pub phase_lower :
-    (millisecond calm hold most t small delay : ℕ) (last : Moment) (timer : LowerTimer) → small ≤ delay →
+    (millisecond calm hold most t small delay : ℕ) (last : Option ℕ) (timer : LowerTimer) → small ≤ delay →
     Phase millisecond calm hold most t delay last timer → Phase millisecond calm hold most t small last timer
 phase_lower millisecond calm hold most t small delay last timer h (early e) = early e
 phase_lower millisecond calm hold most t small delay last timer h (old on a b c) = old on a b c
@@ -113,7 +113,7 @@ module _
 
 -- long enough after `calm` only `settled` is left
 pub at_last :
-    (millisecond calm hold most t delay : ℕ) (last : Moment) (timer : LowerTimer) →
+    (millisecond calm hold most t delay : ℕ) (last : Option ℕ) (timer : LowerTimer) →
     calm + 2 * hold + 10 * nanos ≤ t → Phase millisecond calm hold most t delay last timer → delay ≤ most + (millisecond - 1)
 at_last millisecond calm hold most t delay last timer h (early e) = absurd (omega arith)
 at_last millisecond calm hold most t delay last timer h (old on a b c) = absurd (omega arith)

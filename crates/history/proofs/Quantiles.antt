@@ -7,7 +7,7 @@ use lib.Ieee.{Float}
 use lib.ListN.{get_or}
 use Rattle.base.proofs.Choices.{by_le}
 use Rattle.base.proofs.Points.{sum_zero, sum_at_le}
-use Rattle.rules_window.specs.declared.Quantile.{Quantile}
+use Rattle.rules_window.specs.Quantile.{Quantile}
 use Rattle.rules_window.specs.Window.{Window}
 use Rattle.rules_window.specs.Quantile.{column, lags_in, quantile_upto, Placeable}
 use Rattle.rules_window.proofs.Laws.{Holds, quantile_at_most, quantile_exists}

@@ -1,4 +1,5 @@
 -- The hold over the ticks of a stretch from `began` on that brings no lag above L, with L at most offset + maximum. Assumes nothing.
+use Rattle.std.specs.Prelude.{None, Option, Some}
 use Prim.Native.Nat.{ℕ, ◌+◌, ◌*◌, ◌/◌, ◌≤◌, ◌<◌, max}
 use mathlib.Core.Path.{◌≡◌, refl}
 use mathlib.Core.Bool.{Bool, true}
@@ -17,10 +18,7 @@ use Rattle.policy.proofs.Laws.{need_grows}
 use Rattle.rules_window.specs.Window.{Window, bucket_of}
 use Rattle.rules_record.specs.Lent.{buckets_for}
 use Rattle.rules_window.specs.WholeWindow.{Sound}
-use Rattle.delay_hold.specs.declared.Lag.{Lag}
-use Rattle.delay_hold.specs.declared.Lag.TheVariants.{None, Of}
 use Rattle.delay_hold.specs.declared.DelayHold.{DelayHold}
-use Rattle.delay_hold.specs.declared.Change.{Change}
 use Rattle.delay_hold.specs.Steps1To3.{in_startup, lag_within, lag_of, noted}
 use Rattle.delay_hold.specs.Step4Peaks.{larger_lag, greatest, worst_of}
 use Rattle.delay_hold.specs.Next.{Held, hold_now, hold_before, next_of, delay_after}
@@ -61,13 +59,13 @@ greatest_above : (L : ℕ) (lags : List ℕ) → NoneAbove L lags → greatest l
 greatest_above L [] h = omega arith
 greatest_above L (lag ∷ lags) h = omega (arith, greatest_above L lags h.1)
 
-within_up : (lag : Lag) (e limit : ℕ) → lag_up_to lag e ≡ true → lag_up_to (lag_within lag limit) e ≡ true
+within_up : (lag : Option ℕ) (e limit : ℕ) → lag_up_to lag e ≡ true → lag_up_to (lag_within lag limit) e ≡ true
 within_up None e limit h = refl
-within_up (Of lag) e limit h = le_rule lag limit (Of lag) None (λ (x : Lag). lag_up_to x e ≡ true) (λ g. h) (λ g. refl)
+within_up (Some lag) e limit h = le_rule lag limit (Some lag) None (λ (x : Option ℕ). lag_up_to x e ≡ true) (λ g. h) (λ g. refl)
 
-at_most_up : (lag : Lag) (e : ℕ) → AtMost e lag → lag_up_to lag e ≡ true
+at_most_up : (lag : Option ℕ) (e : ℕ) → AtMost e lag → lag_up_to lag e ≡ true
 at_most_up None e h = absurd h
-at_most_up (Of lag) e h = le-leb lag e h
+at_most_up (Some lag) e h = le-leb lag e h
 
 -- ---- a stretch
 
@@ -100,10 +98,10 @@ module _
         (s : Held) (whole : WholePeaks policy width s) (times_long : length s.times ≡ 600) (lags_long : length s.lags ≡ 600)
         (current : ℕ) (st : Steady t s current)
       where
-        abbrev p999 : Lag
+        abbrev p999 : Option ℕ
         p999 = p999_of policy w
 
-        abbrev largest : Lag
+        abbrev largest : Option ℕ
         largest = worst_of lags
 
         -- past `began` + 10 s the quantile, and the lag that joins the peaks, are at most `edge`
@@ -121,7 +119,7 @@ module _
         peaked : Each (λ at lag. (at ≤ t) × (began + 10 * nanos < at → lag ≤ edge)) s
         peaked i l = (st.till.peaks i l, st.low i l)
 
-        abbrev Phased : DelayHold → Change → Type 0
+        abbrev Phased : DelayHold → Option ℕ → Type 0
         Phased h change = Phase millisecond calm policy.hold (need_of policy edge) time (delay_after current change) h.last_change h.lower
 
         phased_late : calm ≤ time → Phased (next_of millisecond may_lower policy s p999 largest current time).held.hold (next_of millisecond may_lower policy s p999 largest current time).change

@@ -1,5 +1,6 @@
 -- The window over the ticks of a stretch: each tick keeps what holds of it, and past `began` + 10 s its quantile is at most the end of L's bucket.
 -- Assumes nothing.
+use Rattle.std.specs.Prelude.{None}
 use Prim.Native.Nat.{ℕ, suc, ◌+◌, ◌-◌, ◌*◌, ◌/◌, ◌≤◌, ◌<◌}
 use mathlib.Core.Path.{◌≡◌, ◌∙◌, subst}
 use mathlib.Core.List.{List, [], ◌∷◌}
@@ -9,7 +10,6 @@ use lib.ListN.{length}
 use Rattle.base.specs.Limits.{nanos, time_limit}
 use Rattle.base.proofs.Choices.{le_rule}
 use Rattle.policy.specs.declared.DelayPolicy.{DelayPolicy}
-use Rattle.delay_hold.specs.declared.Lag.TheVariants.{None}
 use Rattle.base.specs.Rows.{span_of}
 use Rattle.rules_window.specs.Window.{Window, bucket_of, pushed, pushed_all}
 use Rattle.rules_window.specs.Quantile.{quantile_upto, thousandths}

@@ -1,9 +1,8 @@
 -- The mission's third demand, of one input: what holds of its delay after every list of events from a fresh input on. Assumes nothing.
-use Rattle.std.specs.Prelude.{ℕ, ◌+◌, ◌*◌, ◌≤◌, ◌≡◌, true, List, [], ◌∷◌, ◌++◌}
+use Rattle.std.specs.Prelude.{ℕ, ◌+◌, ◌*◌, ◌≤◌, ◌≡◌, true, List, [], ◌∷◌, ◌++◌, Some}
 use Rattle.base.specs.Limits.{nanos}
 use Rattle.policy.specs.declared.DelayPolicy.{DelayPolicy}
 use Rattle.policy.specs.Need.{need_of}
-use Rattle.delay_hold.specs.declared.Lag.TheVariants.{Of}
 use Rattle.delay_hold.specs.Step4Peaks.{worst_of}
 use Rattle.history.specs.View.{rules_of, Tick, rules_with}
 use Rattle.delay_hold.specs.Next.{one_millisecond}
@@ -36,7 +35,7 @@ StaysWhole policy width =
 abbrev pub FloorWith : (millisecond : ℕ) → DelayPolicy → ℕ → Type 0
 FloorWith millisecond policy width =
     (events : List Event) (tick : Tick) (lag : ℕ) → AcceptedWith millisecond policy width (events ++ (ticks tick ∷ [])) →
-    worst_of tick.lags ≡ Of lag →
+    worst_of tick.lags ≡ Some lag →
     lag ≤ policy.read_offset + policy.delay_max →
     lag ≤ policy.read_offset + delay_with millisecond policy width (events ++ (ticks tick ∷ []))
 

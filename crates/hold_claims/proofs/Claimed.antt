@@ -2,7 +2,7 @@
 use mathlib.Core.Path.{refl}
 use lib.Ieee.{round, mul, of_int, le}
 use Rattle.base.specs.Choice.{ask, both}
-use Rattle.base.specs.Lists.{all, blank_from}
+use Rattle.base.specs.Lists.{all, each_from}
 use Rattle.base.specs.Rows.{apart, up_to}
 use Rattle.buckets.specs.Ranges.{reaches_allowed, width_allowed, buckets_of, buckets_few, ranges_number}
 use Rattle.doubles.specs.Doubles.{half_away}
@@ -49,19 +49,19 @@ unfolding next_of noted join_times join_lags old_count times_after lags_after de
 lowering_looks_at_the_last_change = refl
 
 pub reaches_width_buckets_checked : ReachesWidthBucketsChecked
-unfolding next_number settings_number held_number lists_fit whole_hold whole_peaks whole_times timer_fits apart up_to all blank_from ask both reaches_allowed width_allowed buckets_of buckets_few ranges_number times_allowed margins_allowed le
+unfolding next_number settings_number held_number lists_fit whole_hold whole_peaks whole_times timer_fits apart up_to all each_from ask both reaches_allowed width_allowed buckets_of buckets_few ranges_number times_allowed margins_allowed le
 reaches_width_buckets_checked = refl
 
 pub current_and_p999_checked : CurrentAndP999Checked
-unfolding next_number settings_number held_number lists_fit whole_hold whole_peaks whole_times timer_fits apart up_to all blank_from ask both reaches_allowed width_allowed buckets_of buckets_few ranges_number times_allowed margins_allowed le
+unfolding next_number settings_number held_number lists_fit whole_hold whole_peaks whole_times timer_fits apart up_to all each_from ask both reaches_allowed width_allowed buckets_of buckets_few ranges_number times_allowed margins_allowed le
 current_and_p999_checked = refl
 
 pub peaks_span_less_than_window : PeaksSpanLessThanWindow
-unfolding next_number settings_number held_number lists_fit whole_hold whole_peaks whole_times timer_fits apart up_to all blank_from ask both reaches_allowed width_allowed buckets_of buckets_few ranges_number times_allowed margins_allowed le
+unfolding next_number settings_number held_number lists_fit whole_hold whole_peaks whole_times timer_fits apart up_to all each_from ask both reaches_allowed width_allowed buckets_of buckets_few ranges_number times_allowed margins_allowed le
 peaks_span_less_than_window = refl
 
 pub refusal_leaves_the_lists : RefusalLeavesTheLists
-unfolding next_reply next_number settings_number held_number lists_fit whole_hold whole_peaks whole_times timer_fits apart up_to all blank_from ask both reaches_allowed width_allowed buckets_of buckets_few ranges_number times_allowed margins_allowed le
+unfolding next_reply next_number settings_number held_number lists_fit whole_hold whole_peaks whole_times timer_fits apart up_to all each_from ask both reaches_allowed width_allowed buckets_of buckets_few ranges_number times_allowed margins_allowed le
 refusal_leaves_the_lists = refl
 
 pub new_zeroes_both_lists : NewZeroesBothLists

@@ -2,77 +2,50 @@
 // Rust reads and writes them. crates/hold_examples/stdout holds what the Rust answers, and after it the refusals, which it has not.
 #![tactic(auto)]
 
-use delay_hold::{Answer, DelayHold, Lag, Moment, Seed};
+use delay_hold::DelayHold;
 use policy::DelayPolicy;
-use std::io;
+use std::{fmt, io};
 
-fn text(rt: &impl Print, words: &str) -> io::Result<()> {
-    print!(rt; "{words}")
-}
+// `-` where there is none.
+#[derive(Clone, Copy)]
+struct OrNone<T>(Option<T>);
 
-fn number(rt: &impl Print, n: u64) -> io::Result<()> {
-    print!(rt; "{n}")
-}
-
-fn number_after(rt: &impl Print, words: &str, n: u64) -> io::Result<()> {
-    text(rt, words)?;
-    number(rt, n)
-}
-
-fn pair_after(rt: &impl Print, words: &str, time: u64, samples: u32) -> io::Result<()> {
-    number_after(rt, words, time)?;
-    number_after(rt, ":", samples as u64)
-}
-
-fn lag_after(rt: &impl Print, lag: Lag) -> io::Result<()> {
-    match lag {
-        Lag::None => text(rt, " -"),
-        Lag::Of(samples) => number_after(rt, " ", samples as u64),
+impl<T: fmt::Display> fmt::Display for OrNone<T> {
+    fn fmt<W: fmt::Write>(&self, f: &mut fmt::Formatter<W>) -> fmt::Result {
+        match &self.0 {
+            Some(x) => write!(f, "{x}"),
+            None => write!(f, "-"),
+        }
     }
 }
 
-fn moment_after(rt: &impl Print, moment: Moment) -> io::Result<()> {
-    match moment {
-        Moment::Never => text(rt, " -"),
-        Moment::At(time) => number_after(rt, " ", time),
-    }
-}
+// A time and samples.
+#[derive(Clone, Copy)]
+struct Pair(u64, u32);
 
-fn seed_after(rt: &impl Print, seed: Seed) -> io::Result<()> {
-    match seed {
-        Seed::Nothing => text(rt, " -"),
-        Seed::From(time, delay) => pair_after(rt, " ", time, delay),
+impl fmt::Display for Pair {
+    fn fmt<W: fmt::Write>(&self, f: &mut fmt::Formatter<W>) -> fmt::Result {
+        let Pair(time, samples) = self;
+        write!(f, "{time}:{samples}")
     }
-}
-
-fn bit_after(rt: &impl Print, yes: bool) -> io::Result<()> {
-    if yes { text(rt, " 1") } else { text(rt, " 0") }
 }
 
 // The hold as it stands: its peaks, last change, timer, start, startup lates, late before and seed.
 fn hold_after(rt: &impl Print, hold: DelayHold, times: &[u64], lags: &[u32]) -> io::Result<()> {
-    let n = hold.peaks;
-    number_after(rt, " H ", n as u64)?;
-    let mut i = 0;
-    while i < n {
-        pair_after(rt, " ", base::place_u64(times, i), base::place_u32(lags, i))?;
-        i += 1;
+    print!(rt; " H {}", hold.peaks)?;
+    for (time, lag) in times.iter().zip(lags.iter()).take(hold.peaks) {
+        print!(rt; " {}", Pair(*time, *lag))?;
     }
-    let last = hold.last_change;
     let timer = hold.lower;
-    let started = hold.started;
-    let seed = hold.seeded;
-    moment_after(rt, last)?;
-    if timer.on {
-        pair_after(rt, " ", timer.since, timer.highest)?;
+    let lower = if timer.on {
+        Some(Pair(timer.since, timer.highest))
     } else {
-        text(rt, " -")?;
-    }
-    moment_after(rt, started)?;
-    number_after(rt, " ", hold.startup_late as u64)?;
-    bit_after(rt, hold.late_before)?;
-    seed_after(rt, seed)?;
-    text(rt, "\n")
+        None
+    };
+    let seeded = hold.seeded.map(|seed| Pair(seed.since, seed.delay));
+    print!(rt; " {} {}", OrNone(hold.last_change), OrNone(lower))?;
+    print!(rt; " {} {}", OrNone(hold.started), hold.startup_late)?;
+    println!(rt; " {} {}", hold.late_before as u8, OrNone(seeded))
 }
 
 // A call of `next` with a share of half, its answer, and what it leaves.
@@ -81,56 +54,43 @@ fn next(
     hold: DelayHold,
     times: &mut [u64],
     lags: &mut [u32],
-    p999: Lag,
-    max_lag: Lag,
+    p999: Option<u32>,
+    max_lag: Option<u32>,
     current: u32,
     policy: DelayPolicy,
     width: u32,
     time: u64,
 ) -> io::Result<DelayHold> {
-    number_after(rt, "next ", policy.read_offset as u64)?;
-    number_after(rt, " ", policy.delay_max as u64)?;
-    number_after(rt, " ", width as u64)?;
-    number_after(rt, " ", policy.hold)?;
-    number_after(rt, " ", policy.window)?;
-    number_after(rt, " ", policy.margin as u64)?;
-    text(rt, " 4049000000000000")?;
-    lag_after(rt, p999)?;
-    lag_after(rt, max_lag)?;
-    number_after(rt, " ", current as u64)?;
-    number_after(rt, " ", time)?;
-    text(rt, "\n")?;
-    let r = hold.decide_next(times, lags, p999, max_lag, current, policy, width, time);
-    let left = r.hold;
-    let answer = r.answer;
-    match answer {
-        Answer::Kept => {
-            text(rt, "ok -")?;
-            hold_after(rt, left, times, lags)?;
+    print!(rt; "next {} {} {width}", policy.read_offset, policy.delay_max)?;
+    print!(rt; " {} {} {}", policy.hold, policy.window, policy.margin)?;
+    print!(rt; " 4049000000000000 {} {}", OrNone(p999), OrNone(max_lag))?;
+    println!(rt; " {current} {time}")?;
+    match hold.decide_next(times, lags, p999, max_lag, current, policy, width, time) {
+        Ok(next) => {
+            print!(rt; "ok {}", OrNone(next.change))?;
+            hold_after(rt, next.hold, times, lags)?;
+            Ok(next.hold)
         }
-        Answer::Changed(delay) => {
-            number_after(rt, "ok ", delay as u64)?;
-            hold_after(rt, left, times, lags)?;
-        }
-        Answer::Refused(check) => {
-            number_after(rt, "refused ", check as u64)?;
-            text(rt, "\n")?;
+        Err(refusal) => {
+            println!(rt; "refused {}", refusal.number())?;
+            Ok(hold)
         }
     }
-    Ok(left)
 }
 
 // A fresh hold.
 fn fresh(rt: &impl Print, times: &mut [u64], lags: &mut [u32]) -> io::Result<DelayHold> {
-    text(rt, "hnew\n")?;
-    let r = DelayHold::new(times, lags);
-    if r.number == 0 {
-        text(rt, "ok\n")?;
-    } else {
-        number_after(rt, "refused ", r.number as u64)?;
-        text(rt, "\n")?;
+    println!(rt; "hnew")?;
+    match DelayHold::new(times, lags) {
+        Ok(hold) => {
+            println!(rt; "ok")?;
+            Ok(hold)
+        }
+        Err(refusal) => {
+            println!(rt; "refused {}", refusal.number())?;
+            Ok(delay_hold::inner::fresh())
+        }
     }
-    Ok(r.hold)
 }
 
 // Offset 480, maximum 4,800, hold 30 s, window 10 s, margin 96, share 0.5.
@@ -146,7 +106,7 @@ fn policy() -> DelayPolicy {
 }
 
 // The first call of a fresh hold.
-fn first(rt: &impl Print, p999: Lag, max_lag: Lag, current: u32) -> io::Result<()> {
+fn first(rt: &impl Print, p999: Option<u32>, max_lag: Option<u32>, current: u32) -> io::Result<()> {
     let mut times = [0u64; 600];
     let mut lags = [0u32; 600];
     let hold = fresh(rt, &mut times, &mut lags)?;
@@ -170,27 +130,16 @@ fn lowers(rt: &impl Print) -> io::Result<()> {
     let mut times = [0u64; 600];
     let mut lags = [0u32; 600];
     let p = policy();
-    let q = Lag::Of(480);
+    let q = Some(480);
     let h0 = fresh(rt, &mut times, &mut lags)?;
-    let h1 = next(
-        rt,
-        h0,
-        &mut times,
-        &mut lags,
-        q,
-        Lag::None,
-        200,
-        p,
-        48,
-        1000,
-    )?;
+    let h1 = next(rt, h0, &mut times, &mut lags, q, None, 200, p, 48, 1000)?;
     let h2 = next(
         rt,
         h1,
         &mut times,
         &mut lags,
         q,
-        Lag::None,
+        None,
         200,
         p,
         48,
@@ -202,7 +151,7 @@ fn lowers(rt: &impl Print) -> io::Result<()> {
         &mut times,
         &mut lags,
         q,
-        Lag::None,
+        None,
         200,
         p,
         48,
@@ -216,7 +165,7 @@ fn session(rt: &impl Print) -> io::Result<()> {
     let mut times = [0u64; 600];
     let mut lags = [0u32; 600];
     let p = policy();
-    let none = Lag::None;
+    let none = None;
     let h0 = fresh(rt, &mut times, &mut lags)?;
     let h1 = next(
         rt,
@@ -224,7 +173,7 @@ fn session(rt: &impl Print) -> io::Result<()> {
         &mut times,
         &mut lags,
         none,
-        Lag::Of(700),
+        Some(700),
         0,
         p,
         48,
@@ -235,8 +184,8 @@ fn session(rt: &impl Print) -> io::Result<()> {
         h1,
         &mut times,
         &mut lags,
-        Lag::Of(720),
-        Lag::Of(600),
+        Some(720),
+        Some(600),
         426,
         p,
         48,
@@ -247,8 +196,8 @@ fn session(rt: &impl Print) -> io::Result<()> {
         h2,
         &mut times,
         &mut lags,
-        Lag::Of(720),
-        Lag::Of(1000),
+        Some(720),
+        Some(1000),
         456,
         p,
         48,
@@ -259,8 +208,8 @@ fn session(rt: &impl Print) -> io::Result<()> {
         h3,
         &mut times,
         &mut lags,
-        Lag::Of(720),
-        Lag::Of(500),
+        Some(720),
+        Some(500),
         876,
         p,
         48,
@@ -271,8 +220,8 @@ fn session(rt: &impl Print) -> io::Result<()> {
         h4,
         &mut times,
         &mut lags,
-        Lag::Of(720),
-        Lag::Of(2000),
+        Some(720),
+        Some(2000),
         876,
         p,
         48,
@@ -283,8 +232,8 @@ fn session(rt: &impl Print) -> io::Result<()> {
         h5,
         &mut times,
         &mut lags,
-        Lag::Of(720),
-        Lag::Of(600),
+        Some(720),
+        Some(600),
         2376,
         p,
         48,
@@ -295,8 +244,8 @@ fn session(rt: &impl Print) -> io::Result<()> {
         h6,
         &mut times,
         &mut lags,
-        Lag::Of(720),
-        Lag::Of(900),
+        Some(720),
+        Some(900),
         2376,
         p,
         48,
@@ -307,8 +256,8 @@ fn session(rt: &impl Print) -> io::Result<()> {
         h7,
         &mut times,
         &mut lags,
-        Lag::Of(720),
-        Lag::Of(600),
+        Some(720),
+        Some(600),
         2376,
         p,
         48,
@@ -319,8 +268,8 @@ fn session(rt: &impl Print) -> io::Result<()> {
         h8,
         &mut times,
         &mut lags,
-        Lag::Of(720),
-        Lag::Of(5300),
+        Some(720),
+        Some(5300),
         2376,
         p,
         48,
@@ -334,7 +283,7 @@ fn refusals(rt: &impl Print) -> io::Result<()> {
     let mut times = [0u64; 600];
     let mut lags = [0u32; 600];
     let p = policy();
-    let q = Lag::Of(480);
+    let q = Some(480);
     let hold = fresh(rt, &mut times, &mut lags)?;
     let far = DelayPolicy {
         delay_max: 96001,
@@ -352,7 +301,7 @@ fn refusals(rt: &impl Print) -> io::Result<()> {
     let wide = DelayPolicy { margin: 96001, ..p };
     next(rt, hold, &mut times, &mut lags, q, q, 0, wide, 48, 1000)?;
     let mut few = [0u64; 599];
-    text(rt, "!5 ")?;
+    print!(rt; "!5 ")?;
     next(rt, hold, &mut few, &mut lags, q, q, 0, p, 48, 1000)?;
     let mut marked = [1u32; 600];
     next(rt, hold, &mut times, &mut marked, q, q, 0, p, 48, 1000)?;
@@ -374,7 +323,7 @@ fn refusals(rt: &impl Print) -> io::Result<()> {
         hold,
         &mut times,
         &mut lags,
-        Lag::Of(5329),
+        Some(5329),
         q,
         0,
         p,
@@ -386,7 +335,7 @@ fn refusals(rt: &impl Print) -> io::Result<()> {
         hold,
         &mut times,
         &mut lags,
-        Lag::Of(5328),
+        Some(5328),
         q,
         4800,
         p,
@@ -397,13 +346,13 @@ fn refusals(rt: &impl Print) -> io::Result<()> {
 }
 
 fn main(rt: HostRuntime) -> io::Result<()> {
-    first(&rt, Lag::None, Lag::Of(485), 0)?;
-    first(&rt, Lag::None, Lag::Of(480), 0)?;
-    first(&rt, Lag::None, Lag::Of(5281), 0)?;
-    first(&rt, Lag::Of(480), Lag::None, 47)?;
-    first(&rt, Lag::Of(480), Lag::None, 48)?;
-    first(&rt, Lag::Of(480), Lag::None, 143)?;
-    first(&rt, Lag::Of(480), Lag::None, 144)?;
+    first(&rt, None, Some(485), 0)?;
+    first(&rt, None, Some(480), 0)?;
+    first(&rt, None, Some(5281), 0)?;
+    first(&rt, Some(480), None, 47)?;
+    first(&rt, Some(480), None, 48)?;
+    first(&rt, Some(480), None, 143)?;
+    first(&rt, Some(480), None, 144)?;
     lowers(&rt)?;
     session(&rt)?;
     refusals(&rt)

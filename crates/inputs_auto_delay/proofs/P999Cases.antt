@@ -1,15 +1,14 @@
 -- The 0.999 quantile of an input, as the code works it out. Assumes nothing.
-use Rattle.std.specs.Prelude.{◌≡◌, ℕ, ◌*◌, ◌<◌, ◌≤◌, List}
+use Rattle.std.specs.Prelude.{◌≡◌, ℕ, ◌*◌, ◌<◌, ◌≤◌, List, None}
 use mathlib.Core.Path.{ap, subst, ◌∙◌}
 use lib.Ieee.{Float}
 use Rattle.base.specs.Limits.{nanos}
 use Rattle.base.specs.Lists.{part}
 use Rattle.lag_window.specs.declared.LagWindow.{LagWindow}
-use Rattle.rules_window.specs.declared.Quantile.{Quantile}
+use Rattle.rules_window.specs.Quantile.{Quantile}
 use Rattle.base.specs.Rows.{span_of}
 use Rattle.rules_window.specs.ColumnSums.{as_one_second}
 use Rattle.rules_window.specs.Quantile.{quantile_upto, thousandths}
-use Rattle.delay_hold.specs.declared.Lag.TheVariants.{None}
 use Rattle.rules_record.specs.declared.Slot.{Slot}
 use Rattle.rules_record.specs.declared.Inputs.{Inputs}
 use Rattle.rules_record.specs.Lent.{lists, buckets_in, window_for}

@@ -10,7 +10,6 @@ ghost use Rattle.rules_tick.specs.AutoDelay.{auto_delayed};
 ghost use Rattle.rules_tick.specs.InputReady.{ArriveAsked, LateAsked, AutoAsked};
 
 use super::steps;
-use delay_hold::Lag;
 use policy::DelayPolicy;
 use rules_record::{Inputs, Sent, Slot};
 
@@ -39,14 +38,14 @@ pub fn arrive(
 }
 
 // The largest of all the lags of a tick, if any.
-pub fn max_lag(lags: &[u32]) -> Lag
+pub fn max_lag(lags: &[u32]) -> Option<u32>
     ensures { result ≡ largest_of lags.now }
 {
     delay_hold::inner::worst(lags, lags.len())
 }
 
 // The slot in which a late event counts, judged by the state before `watch` and the applied delay.
-pub fn late_event(policy: DelayPolicy, slot: Slot, applied: u32, max_lag: Lag) -> Slot
+pub fn late_event(policy: DelayPolicy, slot: Slot, applied: u32, max_lag: Option<u32>) -> Slot
     requires { LateAsked policy slot applied }
     ensures { result ≡ late_slot policy slot applied max_lag }
 {
@@ -58,7 +57,7 @@ pub fn late_event(policy: DelayPolicy, slot: Slot, applied: u32, max_lag: Lag) -
 pub fn auto_delay(
     inputs: Inputs,
     i: usize,
-    max_lag: Lag,
+    max_lag: Option<u32>,
     time: u64,
     starts: &[u64],
     sums: &[u64],

@@ -13,10 +13,9 @@ ghost use Rattle.rules_tick.specs.LateEvents.{late_now, late_events_of};
 ghost use Rattle.rules_tick.specs.AutoDelay.{p999_of, current_of, next_for, Answered, answered};
 ghost use Rattle.rules_tick.specs.InputReady.{P999Asked, AutoAsked};
 
-use delay_hold::{Change, DelayHold, Lag, Next};
+use delay_hold::{DelayHold, Next};
 use policy::DelayPolicy;
-use rules_record::{Inputs, Proposal, Sent, Slot};
-use rules_window::Quantile;
+use rules_record::{Inputs, Sent, Slot};
 
 // How long the seconds of lags must span before the first automatic setting.
 const MIN_LAG_SECONDS: u64 = 1;
@@ -35,7 +34,7 @@ pub(crate) fn last_lag(lags: &[u32], before: u32) -> u32
 }
 
 // Whether a block of a running input was late: above what the applied delay covers, and within what the largest delay would.
-pub(crate) fn late_now(policy: DelayPolicy, slot: Slot, applied: u32, max_lag: Lag) -> bool
+pub(crate) fn late_now(policy: DelayPolicy, slot: Slot, applied: u32, max_lag: Option<u32>) -> bool
     requires { Sound policy × (applied ≤ samples_limit) }
     ensures { result ≡ late_now policy slot applied max_lag }
 {
@@ -43,7 +42,7 @@ pub(crate) fn late_now(policy: DelayPolicy, slot: Slot, applied: u32, max_lag: L
     if inputs_slots::code(state) != inputs_slots::RUNNING {
         return false;
     }
-    let Lag::Of(lag) = max_lag else {
+    let Some(lag) = max_lag else {
         return false;
     };
     if policy.read_offset + policy.delay_max < lag {
@@ -76,21 +75,21 @@ pub(crate) fn interrupted(inputs: Inputs, i: usize, slot: Slot) -> Inputs
 }
 
 // The 0.999 quantile of the lags that the largest delay could cover, after a second of lags: from the row of sums alone; the contract says it of every list of counts that has these sums.
-fn p999(inputs: Inputs, slot: Slot, i: usize, starts: &[u64], sums: &[u64]) -> Lag
+fn p999(inputs: Inputs, slot: Slot, i: usize, starts: &[u64], sums: &[u64]) -> Option<u32>
     requires { P999Asked inputs slot i starts.now sums.now }
     ensures { (totals counts times peaks : List ℕ) → OwnSums inputs (lists starts.now totals counts sums.now times peaks) i slot → result ≡ p999_of inputs.policy (window_for inputs (lists starts.now totals counts sums.now times peaks) i slot) }
 {
     let policy = inputs.policy;
     let window = inputs_window::inner::window_in(policy, inputs.width, slot);
     if inputs_window::inner::span(window, i, starts) < MIN_SPAN {
-        return Lag::None;
+        return None;
     }
     let limit = policy.read_offset + policy.delay_max;
     let quantile = inputs_window::inner::quantile_upto(window, i, 0.999, limit, sums);
-    let Quantile::End(end) = quantile else {
-        return Lag::None;
+    let Some(end) = quantile else {
+        return None;
     };
-    Lag::Of(end)
+    Some(end)
 }
 
 // The proposal, or else the delay.
@@ -98,7 +97,7 @@ fn current(slot: Slot) -> u32
     ensures { result ≡ current_of slot }
 {
     let proposed = slot.proposed;
-    let Proposal::Pending(delay) = proposed else {
+    let Some(delay) = proposed else {
         return slot.delay;
     };
     delay
@@ -109,7 +108,7 @@ pub(crate) fn next_for(
     inputs: Inputs,
     slot: Slot,
     i: usize,
-    max_lag: Lag,
+    max_lag: Option<u32>,
     time: u64,
     starts: &[u64],
     sums: &[u64],
@@ -143,7 +142,7 @@ pub(crate) fn answer(
     inputs: Inputs,
     i: usize,
     slot: Slot,
-    change: Change,
+    change: Option<u32>,
     time: u64,
     commands: &mut [u32],
     used: usize,
@@ -151,14 +150,14 @@ pub(crate) fn answer(
     requires { (used + 3 ≤ length commands.old) × (i < 16) × (slot.delay_changes < counter_limit) }
     ensures { Did 3 (answered change i time slot inputs) result commands.old commands.new used }
 {
-    let Change::To(delay) = change else {
+    let Some(delay) = change else {
         return Sent {
             inputs: inputs_slots::put_slot(inputs, i, slot),
             used,
         };
     };
     if inputs.confirm {
-        let changed = inputs_slots::with_proposed(slot, Proposal::Pending(delay));
+        let changed = inputs_slots::with_proposed(slot, Some(delay));
         return Sent {
             inputs: inputs_slots::put_slot(inputs, i, changed),
             used,

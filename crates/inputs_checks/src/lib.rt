@@ -2,11 +2,13 @@
 #![tactic(auto)]
 
 ghost use Rattle.std.specs.Prelude.{◌≡◌};
+ghost use Rattle.refusals.specs.Numbers.{number_in};
 ghost use Rattle.rules_record.specs.Sized.{Sized};
 ghost use Rattle.rules_record.specs.Lent.{lists};
 ghost use Rattle.rules_record.specs.Checks.{inputs_allowed, pauses_allowed, record_number, timed_number};
 
 use policy::DelayPolicy;
+use refusals::Refusal;
 use rules_record::{Inputs, Output};
 
 // Functions that ask something of their caller; the crates above use them after their checks.
@@ -32,7 +34,7 @@ pub fn pauses_allowed(policy: DelayPolicy, stall: u64) -> bool
     stall <= base::SPAN_LIMIT
 }
 
-fn first_refused(
+fn check_all(
     inputs: Inputs,
     starts: &[u64],
     totals: &[u64],
@@ -41,22 +43,19 @@ fn first_refused(
     times: &[u64],
     peaks: &[u32],
     output: Output,
-) -> u32
-    ensures { result ≡ record_number inputs (lists starts.now totals.now counts.now sums.now times.now peaks.now) output 0 }
+) -> Result<(), Refusal>
+    ensures { number_in result ≡ record_number inputs (lists starts.now totals.now counts.now sums.now times.now peaks.now) output 0 }
 {
     if !inputs_allowed(inputs.count) {
-        return 1;
+        return Err(Refusal::InputCount);
     }
     let policy = inputs.policy;
-    let ranges = buckets::ranges_number(policy.read_offset, policy.delay_max, inputs.width);
-    if ranges != 0 {
-        return ranges;
-    }
+    buckets::check_ranges(policy.read_offset, policy.delay_max, inputs.width)?;
     if !pauses_allowed(policy, inputs.stall) {
-        return 3;
+        return Err(Refusal::Pause);
     }
     if !policy.margins_allowed() {
-        return 4;
+        return Err(Refusal::Margin);
     }
     let buckets = buckets::inner::buckets_of(policy.read_offset, policy.delay_max, inputs.width);
     if !inner::lists_fit(
@@ -69,19 +68,19 @@ fn first_refused(
         times,
         peaks,
     ) {
-        return 5;
+        return Err(Refusal::ListLength);
     }
     if !inner::output_fits(inputs.count, output) {
-        return 5;
+        return Err(Refusal::ListLength);
     }
     if !inner::whole(inputs, starts, totals, counts, sums, times, peaks) {
-        return 6;
+        return Err(Refusal::NotWhole);
     }
-    0
+    Ok(())
 }
 
-// The number of the first of checks 1 to 6 that says no, or 0. The record's tables have their places, as in every value of its type.
-pub fn checks(
+// Checks 1 to 6. The record's tables have their places, as in every value of its type.
+pub fn check_record(
     inputs: Inputs,
     starts: &[u64],
     totals: &[u64],
@@ -90,15 +89,15 @@ pub fn checks(
     times: &[u64],
     peaks: &[u32],
     output: Output,
-) -> u32
-    ensures value { result ≡ record_number inputs (lists starts.now totals.now counts.now sums.now times.now peaks.now) output 0 }
+) -> Result<(), Refusal>
+    ensures value { number_in result ≡ record_number inputs (lists starts.now totals.now counts.now sums.now times.now peaks.now) output 0 }
     ensures sized { Sized inputs }
 {
-    first_refused(inputs, starts, totals, counts, sums, times, peaks, output)
+    check_all(inputs, starts, totals, counts, sums, times, peaks, output)
 }
 
-// The number of the first of checks 1 to 8 that says no, or 0, of a call on one input that takes so many words of commands.
-pub fn input_checks(
+// Checks 1 to 8 of a call on one input that takes so many words of commands.
+pub fn check_input(
     inputs: Inputs,
     input: usize,
     time: u64,
@@ -109,10 +108,10 @@ pub fn input_checks(
     times: &[u64],
     peaks: &[u32],
     words: usize,
-) -> u32
-    ensures { result ≡ timed_number inputs (lists starts.now totals.now counts.now sums.now times.now peaks.now) words input time 0 }
+) -> Result<(), Refusal>
+    ensures { number_in result ≡ timed_number inputs (lists starts.now totals.now counts.now sums.now times.now peaks.now) words input time 0 }
 {
-    let number = checks(
+    check_record(
         inputs,
         starts,
         totals,
@@ -121,15 +120,12 @@ pub fn input_checks(
         times,
         peaks,
         Output::Words(words),
-    );
-    if number != 0 {
-        return number;
-    }
+    )?;
     if inputs.count <= input {
-        return 7;
+        return Err(Refusal::NoInput);
     }
     if base::TIME_LIMIT < time {
-        return 8;
+        return Err(Refusal::Time);
     }
-    0
+    Ok(())
 }

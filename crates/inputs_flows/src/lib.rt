@@ -5,7 +5,7 @@ ghost use Rattle.std.specs.Prelude.{◌≡◌, ◌≤◌, slice_index_or};
 ghost use Rattle.base.specs.First.{first};
 ghost use Rattle.rules_record.specs.Flows.{same_flow, empty_entry, known, flow_place, distinct_flows, admits, flow_at, enrolled, recalled, kept, differs, remembered, remembered_for};
 
-use rules_record::{Flow, FlowEntry, Inputs, Remembered, Routed, Slot};
+use rules_record::{Flow, FlowEntry, Inputs, Slot};
 
 // Functions that ask something of their caller; the crates above use them where the bytes are there.
 pub mod inner;
@@ -109,7 +109,7 @@ pub fn enrol(inputs: Inputs, flow: Flow) -> Inputs
         return inputs;
     }
     let mut all = inputs;
-    let remembered = Remembered::Never;
+    let remembered = None;
     let entry = FlowEntry { flow, remembered };
     all.flows[place] = entry;
     all.flow_count = place + 1;
@@ -117,7 +117,7 @@ pub fn enrol(inputs: Inputs, flow: Flow) -> Inputs
 }
 
 // The delay that the flow had last.
-pub fn recall(inputs: Inputs, place: usize) -> Remembered
+pub fn recall(inputs: Inputs, place: usize) -> Option<u32>
     ensures { result ≡ recalled inputs place }
 {
     if place < 64 {
@@ -125,7 +125,7 @@ pub fn recall(inputs: Inputs, place: usize) -> Remembered
         let remembered = entry.remembered;
         return remembered;
     }
-    Remembered::Never
+    None
 }
 
 // The delay is stored for the flow; the unsaved mark stays.
@@ -134,7 +134,7 @@ pub fn keep(inputs: Inputs, place: usize, delay: u32) -> Inputs
 {
     if place < 64 {
         let flow = flow_at(inputs, place);
-        let remembered = Remembered::Delay(delay);
+        let remembered = Some(delay);
         let entry = FlowEntry { flow, remembered };
         let mut all = inputs;
         all.flows[place] = entry;
@@ -143,12 +143,12 @@ pub fn keep(inputs: Inputs, place: usize, delay: u32) -> Inputs
     inputs
 }
 
-fn other(last: Remembered, delay: u32) -> bool
+fn other(last: Option<u32>, delay: u32) -> bool
     ensures { result ≡ differs last delay }
 {
     match last {
-        Remembered::Never => true,
-        Remembered::Delay(old) => old != delay,
+        None => true,
+        Some(old) => old != delay,
     }
 }
 
@@ -170,7 +170,7 @@ pub fn remember_for(inputs: Inputs, slot: Slot, delay: u32) -> Inputs
     ensures { result ≡ remembered_for inputs slot delay }
 {
     let to = slot.route;
-    let Routed::To(route) = to else {
+    let Some(route) = to else {
         return inputs;
     };
     if inputs_slots::automatic(slot) {

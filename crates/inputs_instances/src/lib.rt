@@ -7,11 +7,10 @@ ghost use Rattle.base.specs.First.{first};
 ghost use Rattle.base.specs.Any.{any};
 ghost use Rattle.rules_record.specs.Inputs.{slot_at};
 ghost use Rattle.rules_record.specs.declared.Instance.{Instance};
-ghost use Rattle.rules_record.specs.declared.Extra.TheVariants.{Nothing};
 ghost use Rattle.rules_record.specs.Instances.{same_key, no_key, keys_held, found_key, distinct_keys, made};
 ghost use Rattle.rules_record.specs.Prune.{uses_key, is_extra, pruned};
 
-use rules_record::{Extra, Inode, Inputs, Instance, Routed, Slot};
+use rules_record::{Inputs, Instance, Slot};
 
 pub fn same(a: Instance, b: Instance) -> bool
     ensures { result ≡ same_key a b }
@@ -89,30 +88,30 @@ pub fn make(inputs: Inputs, key: Instance) -> Inputs
 }
 
 // The generation of a flow that a Running or Stalled input reads.
-fn read_by(slot: Slot) -> Extra
+fn read_by(slot: Slot) -> Option<Instance>
     ensures { (key : Instance) → is_extra result key ≡ uses_key slot key }
 {
     let state = slot.state;
     if inputs_slots::code(state) < inputs_slots::RUNNING {
-        return Extra::Nothing;
+        return None;
     }
     let to = slot.route;
-    let Routed::To(route) = to else {
-        return Extra::Nothing;
+    let Some(route) = to else {
+        return None;
     };
     let seen = slot.inode;
-    let Inode::Of(inode) = seen else {
-        return Extra::Nothing;
+    let Some(inode) = seen else {
+        return None;
     };
     let flow = route.flow;
-    Extra::Key(Instance { flow, inode })
+    Some(Instance { flow, inode })
 }
 
 // The same of each input, read once for all keys.
-fn all_read(inputs: Inputs) -> [Extra; 16]
-    ensures { (i : ℕ) (key : Instance) → i < 16 → is_extra (get_or result i Nothing) key ≡ uses_key (slot_at inputs i) key }
+fn all_read(inputs: Inputs) -> [Option<Instance>; 16]
+    ensures { (i : ℕ) (key : Instance) → i < 16 → is_extra (get_or result i None) key ≡ uses_key (slot_at inputs i) key }
 {
-    let none = Extra::Nothing;
+    let none = None;
     let mut read = [none; 16];
     let mut input: usize = 0;
     while input < 16 {
@@ -123,18 +122,18 @@ fn all_read(inputs: Inputs) -> [Extra; 16]
     read
 }
 
-fn is_extra(extra: Extra, key: Instance) -> bool
+fn is_extra(extra: Option<Instance>, key: Instance) -> bool
     ensures { result ≡ is_extra extra key }
 {
-    let Extra::Key(one) = extra else {
+    let Some(one) = extra else {
         return false;
     };
     same(one, key)
 }
 
 // Is the key among those that the inputs read?
-fn any_reads(read: [Extra; 16], key: Instance) -> bool
-    ensures { result ≡ any (λ i. is_extra (get_or read i Nothing) key) 16 }
+fn any_reads(read: [Option<Instance>; 16], key: Instance) -> bool
+    ensures { result ≡ any (λ i. is_extra (get_or read i None) key) 16 }
 {
     let mut i: usize = 0;
     while i < 16 {
@@ -148,8 +147,8 @@ fn any_reads(read: [Extra; 16], key: Instance) -> bool
 }
 
 // Is it the extra one, or does an input read it?
-fn wanted(read: [Extra; 16], extra: Extra, key: Instance) -> bool
-    ensures { result ≡ pick (is_extra extra key) true (any (λ i. is_extra (get_or read i Nothing) key) 16) }
+fn wanted(read: [Option<Instance>; 16], extra: Option<Instance>, key: Instance) -> bool
+    ensures { result ≡ pick (is_extra extra key) true (any (λ i. is_extra (get_or read i None) key) 16) }
 {
     if is_extra(extra, key) {
         return true;
@@ -158,7 +157,7 @@ fn wanted(read: [Extra; 16], extra: Extra, key: Instance) -> bool
 }
 
 // The keys that are wanted, in their order.
-pub fn prune_instances(inputs: Inputs, extra: Extra) -> Inputs
+pub fn prune_instances(inputs: Inputs, extra: Option<Instance>) -> Inputs
     ensures { result ≡ pruned inputs extra }
 {
     let none = Instance { flow: 0, inode: 0 };

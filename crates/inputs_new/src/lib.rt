@@ -2,6 +2,7 @@
 #![tactic(auto)]
 
 ghost use Rattle.std.specs.Prelude.{◌≡◌, ◌*◌, ◌==◌};
+ghost use Rattle.refusals.specs.Numbers.{number_in};
 ghost use Rattle.rules_record.specs.Lent.{lists};
 ghost use Rattle.rules_record.specs.Reply.{left_inputs};
 ghost use Rattle.rules_calls.specs.NewRecord.{policy_of, blank, blank_for, no_inputs};
@@ -10,10 +11,9 @@ ghost use Rattle.rules_calls.specs.NewChecks.{margin_fits, settings_number};
 ghost use Rattle.rules_calls.specs.NewReply.{new_reply};
 
 use policy::DelayPolicy;
+use refusals::Refusal;
 use rules_calls::Settings;
-use rules_record::{
-    ExtraDelay, Flow, FlowEntry, Inputs, InputsAnswer, Instance, Output, Remembered,
-};
+use rules_record::{ExtraDelay, Flow, FlowEntry, Inputs, Instance, Output};
 
 mod loading;
 mod start;
@@ -39,7 +39,7 @@ fn blank(count: usize, policy: DelayPolicy, width: u32, stall: u64, confirm: boo
     let slot = inputs_slots::empty_slot();
     let slots = [slot; 16];
     let flow = Flow { high: 0, low: 0 };
-    let remembered = Remembered::Never;
+    let remembered = None;
     let entry = FlowEntry { flow, remembered };
     let flows = [entry; 64];
     let key = Instance { flow: 0, inode: 0 };
@@ -72,21 +72,6 @@ fn blank_for(settings: Settings) -> Inputs
     )
 }
 
-// The zero value of a refusal.
-fn no_inputs() -> Inputs
-    ensures { result ≡ no_inputs }
-{
-    let policy = DelayPolicy {
-        read_offset: 0,
-        delay_max: 0,
-        hold: 0,
-        window: 0,
-        margin: 0,
-        margin_share: 0.0,
-    };
-    blank(0, policy, 0, 0, false)
-}
-
 // ---- the checks
 // Is margin at most 96,000, percent 0 to 1,000 and no NaN (check 4)?
 fn margin_fits(settings: Settings) -> bool
@@ -111,8 +96,8 @@ fn bytes_fit(bytes: usize, delays: usize) -> bool
     bytes / 16 == delays
 }
 
-// The number of the first of checks 1 to 5 that says no, or 0.
-fn settings_number(
+// Checks 1 to 5.
+fn check_settings(
     settings: Settings,
     bytes: usize,
     delays: usize,
@@ -123,22 +108,19 @@ fn settings_number(
     times: &[u64],
     peaks: &[u32],
     words: usize,
-) -> u32
-    ensures { result ≡ settings_number settings bytes delays (lists starts.now totals.now counts.now sums.now times.now peaks.now) words 0 }
+) -> Result<(), Refusal>
+    ensures { number_in result ≡ settings_number settings bytes delays (lists starts.now totals.now counts.now sums.now times.now peaks.now) words 0 }
 {
     if !inputs_checks::inputs_allowed(settings.count) {
-        return 1;
+        return Err(Refusal::InputCount);
     }
-    let ranges = buckets::ranges_number(settings.read_offset, settings.delay_max, settings.width);
-    if ranges != 0 {
-        return ranges;
-    }
+    buckets::check_ranges(settings.read_offset, settings.delay_max, settings.width)?;
     let policy = policy_of(settings);
     if !inputs_checks::pauses_allowed(policy, settings.stall) {
-        return 3;
+        return Err(Refusal::Pause);
     }
     if !margin_fits(settings) {
-        return 4;
+        return Err(Refusal::Margin);
     }
     let buckets = buckets::inner::buckets_of(
         settings.read_offset,
@@ -155,15 +137,15 @@ fn settings_number(
         times,
         peaks,
     ) {
-        return 5;
+        return Err(Refusal::ListLength);
     }
     if !inputs_checks::inner::output_fits(settings.count, Output::Words(words)) {
-        return 5;
+        return Err(Refusal::ListLength);
     }
     if !bytes_fit(bytes, delays) {
-        return 5;
+        return Err(Refusal::ListLength);
     }
-    0
+    Ok(())
 }
 
 // ---- the call
@@ -177,12 +159,12 @@ fn zero_lists(
 )
     ensures { lists starts.new totals.new counts.new sums.new times.new peaks.new ≡ zeroed_lists (lists starts.old totals.old counts.old sums.old times.old peaks.old) }
 {
-    base::zero_u64(starts);
-    base::zero_u64(totals);
-    base::zero_u32(counts);
-    base::zero_u64(sums);
-    base::zero_u64(times);
-    base::zero_u32(peaks);
+    starts.fill(0);
+    totals.fill(0);
+    counts.fill(0);
+    sums.fill(0);
+    times.fill(0);
+    peaks.fill(0);
 }
 
 // A supervisor with these settings, a delay kind for each input, and the remembered delays that the host loaded: 16 flow bytes to each.
@@ -199,10 +181,10 @@ pub fn new(
     times: &mut [u64],
     peaks: &mut [u32],
     commands: &mut [u32],
-) -> InputsAnswer
-    ensures { left_inputs result (lists starts.new totals.new counts.new sums.new times.new peaks.new) commands.new ≡ new_reply settings kinds flows.now delays.now time (lists starts.old totals.old counts.old sums.old times.old peaks.old) commands.old }
+) -> Result<Inputs, Refusal>
+    ensures { left_inputs no_inputs result (lists starts.new totals.new counts.new sums.new times.new peaks.new) commands.new ≡ new_reply settings kinds flows.now delays.now time (lists starts.old totals.old counts.old sums.old times.old peaks.old) commands.old }
 {
-    let number = settings_number(
+    check_settings(
         settings,
         flows.len(),
         delays.len(),
@@ -213,33 +195,15 @@ pub fn new(
         times,
         peaks,
         commands.len(),
-    );
-    if number != 0 {
-        let none = no_inputs();
-        return InputsAnswer {
-            number,
-            inputs: none,
-        };
-    }
+    )?;
     if base::TIME_LIMIT < time {
-        let none = no_inputs();
-        return InputsAnswer {
-            number: 8,
-            inputs: none,
-        };
+        return Err(Refusal::Time);
     }
-    let loaded = loading::load(blank_for(settings), flows, delays);
-    if !loaded.fits {
-        let none = no_inputs();
-        return InputsAnswer {
-            number: 9,
-            inputs: none,
-        };
-    }
-    let all = loaded.inputs;
+    let Some(all) = loading::load(blank_for(settings), flows, delays) else {
+        return Err(Refusal::FlowTable);
+    };
     zero_lists(starts, totals, counts, sums, times, peaks);
-    base::zero_u32(commands);
+    commands.fill(0);
     let sent = start::started(all, settings.count, kinds, time, commands);
-    let inputs = sent.inputs;
-    InputsAnswer { number, inputs }
+    Ok(sent.inputs)
 }

@@ -1,15 +1,10 @@
 // The remembered delays that the host loaded: 16 flow bytes to each, a flow named twice keeps the last.
 ghost use Rattle.std.specs.Prelude.{◌≡◌, ◌+◌, ◌*◌, ◌<◌, ◌≤◌, true, length};
+ghost use Rattle.std.specs.Option.{is_some};
+ghost use Rattle.rules_record.specs.declared.Inputs.{Inputs};
 ghost use Rattle.rules_calls.specs.NewLoading.{loaded_flow, loaded_one, loaded_below, load_fits};
 
 use rules_record::{Flow, Inputs};
-
-// The record with the loaded delays, where each flow had room.
-#[derive(Clone, Copy)]
-pub(crate) struct Loaded {
-    pub fits: bool,
-    pub inputs: Inputs,
-}
 
 // The flow of loaded delay k.
 fn flow_of(bytes: &[u8], k: usize) -> Flow
@@ -29,26 +24,20 @@ fn load_one(inputs: Inputs, flow: Flow, delay: u32) -> Inputs
 }
 
 // Each flow in its turn, until one has no room (check 9).
-pub(crate) fn load(inputs: Inputs, bytes: &[u8], delays: &[u32]) -> Loaded
+pub(crate) fn load(inputs: Inputs, bytes: &[u8], delays: &[u32]) -> Option<Inputs>
     requires { length bytes.now ≡ length delays.now * 16 }
-    ensures fits_value { result.fits ≡ load_fits (length delays.now) bytes.now delays.now inputs }
-    ensures inputs_value { (result.fits ≡ true) → (result.inputs ≡ loaded_below (length delays.now) bytes.now delays.now inputs) }
+    ensures fits_value { is_some result ≡ load_fits (length delays.now) bytes.now delays.now inputs }
+    ensures inputs_value { (all : Inputs) → result ≡ Some all → all ≡ loaded_below (length delays.now) bytes.now delays.now inputs }
 {
     let mut all = inputs;
     let mut k: usize = 0;
     while k < delays.len() {
         let flow = flow_of(bytes, k);
         if !inputs_flows::has_room(all, flow) {
-            return Loaded {
-                fits: false,
-                inputs,
-            };
+            return None;
         }
         all = load_one(all, flow, delays[k]);
         k += 1;
     }
-    Loaded {
-        fits: true,
-        inputs: all,
-    }
+    Some(all)
 }

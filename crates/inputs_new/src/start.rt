@@ -39,7 +39,7 @@ fn started_one(
         return Sent { inputs: all, used };
     };
     let policy = inputs.policy;
-    let samples = base::least(doubles::samples(delay), policy.delay_max);
+    let samples = doubles::samples(delay).min(policy.delay_max);
     inputs_set_delay::inner::set_delay(all, i, samples, time, commands, used)
 }
 

@@ -3,45 +3,34 @@
 
 ghost use Rattle.std.specs.Prelude.{◌≡◌, true, ltb};
 ghost use Rattle.base.specs.Choice.{pick};
-ghost use Rattle.delay_hold.specs.Whole.{moment_timely};
 ghost use Rattle.rules_record.specs.WholePlaces.{proposal_fits, route_fits, whole_slot, never_yet, no_seed, no_route, no_inode, no_proposal, no_delay, unused_timer, unused_hold, unused_parts, unused_numbers, unused_slot, unused_entry, entries_fit, whole_flows, unused_key, keys_fit, whole_instances};
 
-use delay_hold::{DelayHold, LowerTimer, Moment, Seed};
-use rules_record::{FlowEntry, Inode, Inputs, Instance, Proposal, Remembered, Routed, Slot, State};
+use delay_hold::{DelayHold, LowerTimer, Seed, moment_timely};
+use rules_record::{FlowEntry, Inputs, Instance, Route, Slot, State};
 
 // Counters stay below this: 2^63.
 const COUNTER_LIMIT: u64 = 9_223_372_036_854_775_808;
 
-fn proposal_fits(proposed: Proposal, maximum: u32) -> bool
+fn proposal_fits(proposed: Option<u32>, maximum: u32) -> bool
     ensures { result ≡ proposal_fits proposed maximum }
 {
-    let Proposal::Pending(delay) = proposed else {
+    let Some(delay) = proposed else {
         return true;
     };
     delay <= maximum
 }
 
 // Unrouted exactly if there is no route, and a route to one of the n flows that are known.
-fn route_fits(to: Routed, state: State, n: usize) -> bool
+fn route_fits(to: Option<Route>, state: State, n: usize) -> bool
     ensures { result ≡ route_fits to state n }
 {
-    let Routed::To(route) = to else {
+    let Some(route) = to else {
         return inputs_slots::code(state) == inputs_slots::UNROUTED;
     };
     if n <= route.flow {
         return false;
     }
     1 <= inputs_slots::code(state)
-}
-
-// No time, or one within check 8.
-fn moment_fits(moment: Moment) -> bool
-    ensures { result ≡ moment_timely moment }
-{
-    let Moment::At(time) = moment else {
-        return true;
-    };
-    time <= base::TIME_LIMIT
 }
 
 pub fn whole_slot(maximum: u32, n: usize, slot: Slot) -> bool
@@ -71,66 +60,46 @@ pub fn whole_slot(maximum: u32, n: usize, slot: Slot) -> bool
     if base::TIME_LIMIT < slot.head_changed {
         return false;
     }
-    let last_set = slot.last_set;
-    if !moment_fits(last_set) {
+    if !moment_timely(slot.last_set) {
         return false;
     }
-    let last_input = slot.last_input;
-    moment_fits(last_input)
+    moment_timely(slot.last_input)
 }
 
-fn never_yet(moment: Moment) -> bool
+fn never_yet(moment: Option<u64>) -> bool
     ensures { result ≡ never_yet moment }
 {
-    match moment {
-        Moment::Never => true,
-        Moment::At(_) => false,
-    }
+    moment.is_none()
 }
 
-fn no_seed(seed: Seed) -> bool
+fn no_seed(seed: Option<Seed>) -> bool
     ensures { result ≡ no_seed seed }
 {
-    match seed {
-        Seed::Nothing => true,
-        Seed::From(_, _) => false,
-    }
+    seed.is_none()
 }
 
-fn no_route(to: Routed) -> bool
+fn no_route(to: Option<Route>) -> bool
     ensures { result ≡ no_route to }
 {
-    match to {
-        Routed::Nowhere => true,
-        Routed::To(_) => false,
-    }
+    to.is_none()
 }
 
-fn no_inode(inode: Inode) -> bool
+fn no_inode(inode: Option<u64>) -> bool
     ensures { result ≡ no_inode inode }
 {
-    match inode {
-        Inode::Gone => true,
-        Inode::Of(_) => false,
-    }
+    inode.is_none()
 }
 
-fn no_proposal(proposed: Proposal) -> bool
+fn no_proposal(proposed: Option<u32>) -> bool
     ensures { result ≡ no_proposal proposed }
 {
-    match proposed {
-        Proposal::Nothing => true,
-        Proposal::Pending(_) => false,
-    }
+    proposed.is_none()
 }
 
-fn no_delay(last: Remembered) -> bool
+fn no_delay(last: Option<u32>) -> bool
     ensures { result ≡ no_delay last }
 {
-    match last {
-        Remembered::Never => true,
-        Remembered::Delay(_) => false,
-    }
+    last.is_none()
 }
 
 fn unused_timer(timer: LowerTimer) -> bool

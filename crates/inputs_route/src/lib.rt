@@ -2,33 +2,35 @@
 #![tactic(auto)]
 
 ghost use Rattle.std.specs.Prelude.{◌≡◌};
+ghost use Rattle.refusals.specs.Numbers.{number_in};
 ghost use Rattle.rules_record.specs.Lent.{lists};
 ghost use Rattle.rules_record.specs.Reply.{left_inputs};
 ghost use Rattle.rules_calls.specs.RouteChecks.{wanted_fits, route_number};
 ghost use Rattle.rules_calls.specs.RouteReply.{route_reply};
 
-use rules_calls::Wanted;
-use rules_record::{Inputs, InputsAnswer};
+use refusals::Refusal;
+use rules_calls::Source;
+use rules_record::Inputs;
 use rules_routing::World;
 
 mod steps;
 
 // ---- the checks
 // Is the flow known, or is there room for it (check 9), where one is given?
-fn wanted_fits(inputs: Inputs, wanted: Wanted) -> bool
+fn wanted_fits(inputs: Inputs, wanted: Option<Source>) -> bool
     ensures { result ≡ wanted_fits inputs wanted }
 {
-    let Wanted::From(source) = wanted else {
+    let Some(source) = wanted else {
         return true;
     };
     let flow = source.flow;
     inputs_flows::has_room(inputs, flow)
 }
 
-fn route_number(
+fn check_route(
     inputs: Inputs,
     input: usize,
-    wanted: Wanted,
+    wanted: Option<Source>,
     time: u64,
     world: World,
     starts: &[u64],
@@ -38,23 +40,20 @@ fn route_number(
     times: &[u64],
     peaks: &[u32],
     words: usize,
-) -> u32
-    ensures { result ≡ route_number inputs (lists starts.now totals.now counts.now sums.now times.now peaks.now) words input wanted time world }
+) -> Result<(), Refusal>
+    ensures { number_in result ≡ route_number inputs (lists starts.now totals.now counts.now sums.now times.now peaks.now) words input wanted time world }
 {
-    let number = inputs_checks::input_checks(
+    inputs_checks::check_input(
         inputs, input, time, starts, totals, counts, sums, times, peaks, words,
-    );
-    if number != 0 {
-        return number;
-    }
+    )?;
     if !wanted_fits(inputs, wanted) {
-        return 9;
+        return Err(Refusal::FlowTable);
     }
     let reader = world.reader;
     if !inputs_try_open::reader_fits(reader) {
-        return 10;
+        return Err(Refusal::Shown);
     }
-    0
+    Ok(())
 }
 
 // ---- the call
@@ -62,7 +61,7 @@ fn route_number(
 pub fn route(
     inputs: Inputs,
     input: usize,
-    wanted: Wanted,
+    wanted: Option<Source>,
     time: u64,
     world: World,
     starts: &mut [u64],
@@ -72,10 +71,10 @@ pub fn route(
     times: &mut [u64],
     peaks: &mut [u32],
     commands: &mut [u32],
-) -> InputsAnswer
-    ensures { left_inputs result (lists starts.new totals.new counts.new sums.new times.new peaks.new) commands.new ≡ route_reply inputs (lists starts.old totals.old counts.old sums.old times.old peaks.old) commands.old input wanted time world }
+) -> Result<Inputs, Refusal>
+    ensures { left_inputs inputs result (lists starts.new totals.new counts.new sums.new times.new peaks.new) commands.new ≡ route_reply inputs (lists starts.old totals.old counts.old sums.old times.old peaks.old) commands.old input wanted time world }
 {
-    let number = route_number(
+    check_route(
         inputs,
         input,
         wanted,
@@ -88,20 +87,14 @@ pub fn route(
         times,
         peaks,
         commands.len(),
-    );
-    if number != 0 {
-        return InputsAnswer { number, inputs };
-    }
+    )?;
     let known = steps::enrolled_for(inputs, wanted);
     let new = steps::route_for(known, wanted);
     let slot = inputs_slots::slot_at(known, input);
-    base::zero_u32(commands);
+    commands.fill(0);
     let old = slot.route;
     if steps::equal_route(new, old) {
-        return InputsAnswer {
-            number,
-            inputs: known,
-        };
+        return Ok(known);
     }
     let used = steps::announce(input, new, slot, commands);
     let changed = steps::routed_slot(new, time, slot);
@@ -109,9 +102,5 @@ pub fn route(
         known, input, changed, starts, totals, counts, sums, times, peaks,
     );
     let sent = steps::open_for(new, input, time, world, all, commands, used);
-    let routed = sent.inputs;
-    InputsAnswer {
-        number,
-        inputs: routed,
-    }
+    Ok(sent.inputs)
 }

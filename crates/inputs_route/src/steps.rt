@@ -2,50 +2,49 @@
 ghost use Rattle.std.specs.Prelude.{◌≡◌, ◌+◌, ◌<◌, ◌≤◌, ◌++◌, length};
 ghost use Rattle.std.proofs.lemmas.List.Edits.{sets};
 ghost use Rattle.base.specs.Limits.{counter_limit};
-ghost use Rattle.rules_record.specs.declared.Routed.TheVariants.{Nowhere};
 ghost use Rattle.rules_record.specs.Inputs.{slot_at};
 ghost use Rattle.rules_record.specs.Commands.{Did};
 ghost use Rattle.rules_calls.specs.Route.{enrolled_for, route_for, equal_route, other_flow, starts_over, forgetting, zeroing, started_over, state_for, routed_slot, opened_for};
 
-use rules_calls::Wanted;
-use rules_record::{Inode, Inputs, Proposal, Route, Routed, Sent, Slot, State};
+use rules_calls::Source;
+use rules_record::{Inputs, Route, Sent, Slot, State};
 use rules_routing::World;
 
 // ---- the route that is wanted
 // The flow is enrolled, where one is given.
-pub(crate) fn enrolled_for(inputs: Inputs, wanted: Wanted) -> Inputs
+pub(crate) fn enrolled_for(inputs: Inputs, wanted: Option<Source>) -> Inputs
     ensures { result ≡ enrolled_for inputs wanted }
 {
-    let Wanted::From(source) = wanted else {
+    let Some(source) = wanted else {
         return inputs;
     };
     let flow = source.flow;
     inputs_flows::enrol(inputs, flow)
 }
 
-pub(crate) fn route_for(inputs: Inputs, wanted: Wanted) -> Routed
+pub(crate) fn route_for(inputs: Inputs, wanted: Option<Source>) -> Option<Route>
     ensures { result ≡ route_for inputs wanted }
 {
-    let Wanted::From(source) = wanted else {
-        return Routed::Nowhere;
+    let Some(source) = wanted else {
+        return None;
     };
     let flow = source.flow;
     let route = Route {
         domain: source.domain,
         flow: inputs_flows::find(inputs, flow),
     };
-    Routed::To(route)
+    Some(route)
 }
 
 // ---- beside the route that was
 // Is this the route that a routed input has?
-pub(crate) fn equal_route(new: Routed, old: Routed) -> bool
+pub(crate) fn equal_route(new: Option<Route>, old: Option<Route>) -> bool
     ensures { result ≡ equal_route new old }
 {
-    let Routed::To(to) = new else {
+    let Some(to) = new else {
         return false;
     };
-    let Routed::To(from) = old else {
+    let Some(from) = old else {
         return false;
     };
     if to.domain != from.domain {
@@ -55,30 +54,30 @@ pub(crate) fn equal_route(new: Routed, old: Routed) -> bool
 }
 
 // Does a route to nothing take a flow away?
-fn flow_leaves(old: Routed) -> bool
-    ensures { result ≡ other_flow Nowhere old }
+fn flow_leaves(old: Option<Route>) -> bool
+    ensures { result ≡ other_flow None old }
 {
     match old {
-        Routed::Nowhere => false,
-        Routed::To(_) => true,
+        None => false,
+        Some(_) => true,
     }
 }
 
 // Is it another flow? The same one in another domain is not.
-fn other_flow(new: Routed, old: Routed) -> bool
+fn other_flow(new: Option<Route>, old: Option<Route>) -> bool
     ensures { result ≡ other_flow new old }
 {
-    let Routed::To(to) = new else {
+    let Some(to) = new else {
         return flow_leaves(old);
     };
-    let Routed::To(from) = old else {
+    let Some(from) = old else {
         return true;
     };
     to.flow != from.flow
 }
 
 // Does an automatic delay start over at 0?
-fn starts_over(new: Routed, slot: Slot) -> bool
+fn starts_over(new: Option<Route>, slot: Slot) -> bool
     ensures { result ≡ starts_over new slot }
 {
     let old = slot.route;
@@ -92,49 +91,49 @@ fn starts_over(new: Routed, slot: Slot) -> bool
 }
 
 // ---- the slot
-fn started_over(new: Routed, time: u64, slot: Slot) -> Slot
+fn started_over(new: Option<Route>, time: u64, slot: Slot) -> Slot
     ensures { result ≡ started_over new time slot }
 {
     if starts_over(new, slot) {
         let zero = inputs_slots::with_delay(slot, 0, time);
-        return inputs_slots::with_proposed(zero, Proposal::Nothing);
+        return inputs_slots::with_proposed(zero, None);
     }
     slot
 }
 
-fn state_for(new: Routed) -> State
+fn state_for(new: Option<Route>) -> State
     ensures { result ≡ state_for new }
 {
     match new {
-        Routed::Nowhere => State::Unrouted,
-        Routed::To(_) => State::Waiting,
+        None => State::Unrouted,
+        Some(_) => State::Waiting,
     }
 }
 
 // The slot with its new route, before it opens.
-pub(crate) fn routed_slot(new: Routed, time: u64, slot: Slot) -> Slot
+pub(crate) fn routed_slot(new: Option<Route>, time: u64, slot: Slot) -> Slot
     ensures { result ≡ routed_slot new time slot }
 {
     let over = started_over(new, time, slot);
     let there = inputs_slots::with_route(over, new);
-    let placed = inputs_slots::with_inode(there, Inode::Gone);
+    let placed = inputs_slots::with_inode(there, None);
     inputs_slots::with_state(placed, state_for(new))
 }
 
 // ---- the commands
 // What an old route read is forgotten.
-fn forget(i: usize, old: Routed, commands: &mut [u32]) -> usize
+fn forget(i: usize, old: Option<Route>, commands: &mut [u32]) -> usize
     requires { (3 ≤ length commands.old) × (i < 16) }
     ensures { (result ≡ length (forgetting i old)) × (commands.new ≡ sets commands.old 0 (forgetting i old)) × (length (forgetting i old) ≤ 3) }
 {
-    let Routed::To(_) = old else {
+    let Some(_) = old else {
         return 0;
     };
     inputs_commands::inner::send(commands, 0, inputs_commands::inner::CLEAR_INPUT, i, 1)
 }
 
 // What is sent before the new flow opens; answers how many words.
-pub(crate) fn announce(i: usize, new: Routed, slot: Slot, commands: &mut [u32]) -> usize
+pub(crate) fn announce(i: usize, new: Option<Route>, slot: Slot, commands: &mut [u32]) -> usize
     requires { (6 ≤ length commands.old) × (i < 16) }
     ensures { (result ≡ length (forgetting i slot.route ++ zeroing i new slot)) × (commands.new ≡ sets commands.old 0 (forgetting i slot.route ++ zeroing i new slot)) × (length (forgetting i slot.route ++ zeroing i new slot) ≤ 6) }
 {
@@ -154,7 +153,7 @@ pub(crate) fn announce(i: usize, new: Routed, slot: Slot, commands: &mut [u32]) 
 
 // The new flow opens, where there is one.
 pub(crate) fn open_for(
-    new: Routed,
+    new: Option<Route>,
     i: usize,
     time: u64,
     world: World,
@@ -165,7 +164,7 @@ pub(crate) fn open_for(
     requires { (used + 6 ≤ length commands.old) × (i < 16) × ((slot_at inputs i).reopens < counter_limit) }
     ensures { Did 6 (opened_for new i time world inputs) result commands.old commands.new used }
 {
-    let Routed::To(_) = new else {
+    let Some(_) = new else {
         return Sent { inputs, used };
     };
     inputs_try_open::inner::try_open(inputs, i, time, world, commands, used)

@@ -6,10 +6,8 @@ ghost use Rattle.rules_record.specs.Slots.{with_config, with_state, with_route, 
 ghost use Rattle.rules_record.specs.States.{state_number};
 ghost use Rattle.rules_record.specs.Inputs.{slot_at, put_slot};
 
-use delay_hold::{DelayHold, Moment};
-use rules_record::{
-    AutoTag, ExtraDelay, Inode, InputConfig, Inputs, Proposal, Routed, Slot, State,
-};
+use delay_hold::DelayHold;
+use rules_record::{AutoTag, ExtraDelay, InputConfig, Inputs, Route, Slot, State};
 
 // The states' numbers, as document 01 gives them.
 pub const UNROUTED: u32 = 0;
@@ -54,21 +52,21 @@ pub fn empty_slot() -> Slot
     Slot {
         config,
         state: State::Unrouted,
-        route: Routed::Nowhere,
-        inode: Inode::Gone,
+        route: None,
+        inode: None,
         last_head: 0,
         head_changed: 0,
         reopens: 0,
         lag_seconds: 0,
         last_lag: 0,
         delay: 0,
-        proposed: Proposal::Nothing,
+        proposed: None,
         hold,
         delay_changes: 0,
         late_events: 0,
         late_before: false,
-        last_set: Moment::Never,
-        last_input: Moment::Never,
+        last_set: None,
+        last_input: None,
     }
 }
 
@@ -107,13 +105,13 @@ pub fn with_state(slot: Slot, state: State) -> Slot
     Slot { state, ..slot }
 }
 
-pub fn with_route(slot: Slot, route: Routed) -> Slot
+pub fn with_route(slot: Slot, route: Option<Route>) -> Slot
     ensures { result ≡ with_route slot route }
 {
     Slot { route, ..slot }
 }
 
-pub fn with_inode(slot: Slot, inode: Inode) -> Slot
+pub fn with_inode(slot: Slot, inode: Option<u64>) -> Slot
     ensures { result ≡ with_inode slot inode }
 {
     Slot { inode, ..slot }
@@ -156,7 +154,7 @@ pub fn with_last_lag(slot: Slot, last_lag: u32) -> Slot
 pub fn with_delay(slot: Slot, delay: u32, time: u64) -> Slot
     ensures { result ≡ with_delay slot delay time }
 {
-    let last_set = Moment::At(time);
+    let last_set = Some(time);
     Slot {
         delay,
         last_set,
@@ -164,7 +162,7 @@ pub fn with_delay(slot: Slot, delay: u32, time: u64) -> Slot
     }
 }
 
-pub fn with_proposed(slot: Slot, proposed: Proposal) -> Slot
+pub fn with_proposed(slot: Slot, proposed: Option<u32>) -> Slot
     ensures { result ≡ with_proposed slot proposed }
 {
     Slot { proposed, ..slot }
@@ -199,6 +197,6 @@ pub fn with_late(slot: Slot, late_events: u64, late_before: bool) -> Slot
 pub fn with_last_input(slot: Slot, time: u64) -> Slot
     ensures { result ≡ with_last_input slot time }
 {
-    let last_input = Moment::At(time);
+    let last_input = Some(time);
     Slot { last_input, ..slot }
 }

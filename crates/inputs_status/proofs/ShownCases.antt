@@ -1,5 +1,5 @@
 -- What the functions of a status ask of a record that was checked, and the whole status. Assumes nothing.
-use Rattle.std.specs.Prelude.{◌≡◌, ℕ, ◌+◌, ◌-◌, ◌*◌, ◌<◌, ◌≤◌, List, length}
+use Rattle.std.specs.Prelude.{◌≡◌, ℕ, ◌+◌, ◌-◌, ◌*◌, ◌<◌, ◌≤◌, List, length, Option}
 use mathlib.Core.Path.{sym, ap, subst, ◌∙◌}
 use native.Mathlib.Omega.{arith}
 use lib.Ieee.{Float}
@@ -23,13 +23,12 @@ use Rattle.base.proofs.Blocks.{block_within}
 use Rattle.base.specs.Limits.{width_limit, buckets_limit}
 use Rattle.rules_record.specs.Facts.{OwnSums, Checked}
 use Rattle.rules_record.proofs.Shapes.{window_sound, window_sums, sums_within, held_lags}
-use Rattle.rules_calls.specs.declared.Sourced.{Sourced}
-use Rattle.rules_calls.specs.declared.Milliseconds.{Milliseconds}
-use Rattle.rules_calls.specs.declared.Arrival.{Arrival}
-use Rattle.rules_calls.specs.declared.InputStatus.{InputStatus}
+use Rattle.rules_calls.specs.Status.{StatusReply}
 use Rattle.rules_calls.specs.Status.{source_of, channels_shown, proposed_ms, arrival_in, worst_ms, status_for, status_of}
 use Rattle.rules_calls.proofs.StatusShows.{arrival_row}
 use Rattle.inputs_status.specs.StatusAsked.{Countable}
+use Rattle.rules_calls.specs.declared.ArrivalLag.{ArrivalLag}
+use Rattle.rules_calls.specs.declared.Source.{Source}
 
 pub quantile_asks : {w : LagWindow} {i : ℕ} {sums : List ℕ} → Countable w i sums → {q : Float} (k : ℕ) → q ≡ thousandths k → k ≤ 1000 →
     ((w.buckets ≤ buckets_limit) × (1 ≤ w.width) × (w.width ≤ width_limit))
@@ -70,7 +69,7 @@ module _ (s : Inputs) (l : Lists) (c : Checked s l) (i : ℕ) (h : i < s.count) 
 
 -- ---- the whole status
 module _ (s : Inputs) (l : Lists) (i applied channels : ℕ) {slot : Slot} (is-slot : slot ≡ slot_at s i) where
-  pub status_by_law : {code shown k : ℕ} {source : Sourced} {w : LagWindow} {arrival : Arrival} {worst proposed : Milliseconds} {extra effective last : Float}
+  pub status_by_law : {code shown k : ℕ} {source : Option Source} {w : LagWindow} {arrival : Option ArrivalLag} {worst proposed : Option Float} {extra effective last : Float}
       → source ≡ source_of s slot.route
       → w ≡ window_in s.policy s.width slot
       → arrival ≡ arrival_in (as_one_second w.buckets w.width (part (i * w.buckets) w.buckets l.sums))
@@ -83,7 +82,7 @@ module _ (s : Inputs) (l : Lists) (i applied channels : ℕ) {slot : Slot} (is-s
       → extra ≡ ms_of applied
       → effective ≡ ms_of (s.policy.read_offset + applied)
       → last ≡ ms_of slot.last_lag
-      → ◌≡◌ {A = InputStatus}
+      → ◌≡◌ {A = StatusReply}
       (record {
         number = 0;
         state = code;

@@ -2,17 +2,19 @@
 #![tactic(auto)]
 
 ghost use Rattle.std.specs.Prelude.{◌≡◌};
+ghost use Rattle.refusals.specs.Numbers.{number_in};
 ghost use Rattle.rules_record.specs.Sized.{Sized};
 ghost use Rattle.rules_record.specs.Lent.{lists};
 ghost use Rattle.rules_record.specs.declared.Output.TheVariants.{Absent};
 ghost use Rattle.rules_record.specs.Checks.{input_number};
 ghost use Rattle.rules_calls.specs.StatusChecks.{status_number, channels_number, settled_number};
-ghost use Rattle.rules_calls.specs.Status.{no_status, status_reply};
-ghost use Rattle.rules_calls.specs.HasChannels.{has_channels_reply};
+ghost use Rattle.rules_calls.specs.Status.{told, status_reply};
+ghost use Rattle.rules_calls.specs.HasChannels.{told as answer_told, has_channels_reply};
 ghost use Rattle.rules_calls.specs.Settled.{settled_slot, settled_reply};
 
-use rules_calls::{Answer, Arrival, InputStatus, Milliseconds, Sourced};
-use rules_record::{AutoTag, ExtraDelay, Inputs, Output, Slot};
+use refusals::Refusal;
+use rules_calls::InputStatus;
+use rules_record::{Inputs, Output, Slot};
 
 mod shown;
 
@@ -21,7 +23,7 @@ const CHANNELS: u32 = 64;
 
 // ---- the checks
 // 1 to 7, which all three calls make.
-fn input_number(
+fn check_input(
     inputs: Inputs,
     input: usize,
     starts: &[u64],
@@ -30,11 +32,11 @@ fn input_number(
     sums: &[u64],
     times: &[u64],
     peaks: &[u32],
-) -> u32
-    ensures value { result ≡ input_number inputs (lists starts.now totals.now counts.now sums.now times.now peaks.now) Absent input 0 }
+) -> Result<(), Refusal>
+    ensures value { number_in result ≡ input_number inputs (lists starts.now totals.now counts.now sums.now times.now peaks.now) Absent input 0 }
     ensures sized { Sized inputs }
 {
-    let number = inputs_checks::checks(
+    inputs_checks::check_record(
         inputs,
         starts,
         totals,
@@ -43,17 +45,14 @@ fn input_number(
         times,
         peaks,
         Output::Absent,
-    );
-    if number != 0 {
-        return number;
-    }
+    )?;
     if inputs.count <= input {
-        return 7;
+        return Err(Refusal::NoInput);
     }
-    0
+    Ok(())
 }
 
-fn status_number(
+fn check_status(
     inputs: Inputs,
     input: usize,
     applied: u32,
@@ -64,25 +63,22 @@ fn status_number(
     sums: &[u64],
     times: &[u64],
     peaks: &[u32],
-) -> u32
-    ensures value { result ≡ status_number inputs (lists starts.now totals.now counts.now sums.now times.now peaks.now) input applied channels }
+) -> Result<(), Refusal>
+    ensures value { number_in result ≡ status_number inputs (lists starts.now totals.now counts.now sums.now times.now peaks.now) input applied channels }
     ensures sized { Sized inputs }
 {
-    let number = input_number(inputs, input, starts, totals, counts, sums, times, peaks);
-    if number != 0 {
-        return number;
-    }
+    check_input(inputs, input, starts, totals, counts, sums, times, peaks)?;
     let policy = inputs.policy;
     if policy.delay_max < applied {
-        return 10;
+        return Err(Refusal::Shown);
     }
     if CHANNELS < channels {
-        return 10;
+        return Err(Refusal::Shown);
     }
-    0
+    Ok(())
 }
 
-fn channels_number(
+fn check_channels(
     inputs: Inputs,
     input: usize,
     channels: u32,
@@ -92,20 +88,17 @@ fn channels_number(
     sums: &[u64],
     times: &[u64],
     peaks: &[u32],
-) -> u32
-    ensures { result ≡ channels_number inputs (lists starts.now totals.now counts.now sums.now times.now peaks.now) input channels }
+) -> Result<(), Refusal>
+    ensures { number_in result ≡ channels_number inputs (lists starts.now totals.now counts.now sums.now times.now peaks.now) input channels }
 {
-    let number = input_number(inputs, input, starts, totals, counts, sums, times, peaks);
-    if number != 0 {
-        return number;
-    }
+    check_input(inputs, input, starts, totals, counts, sums, times, peaks)?;
     if CHANNELS < channels {
-        return 10;
+        return Err(Refusal::Shown);
     }
-    0
+    Ok(())
 }
 
-fn settled_number(
+fn check_settled(
     inputs: Inputs,
     input: usize,
     time: u64,
@@ -115,42 +108,17 @@ fn settled_number(
     sums: &[u64],
     times: &[u64],
     peaks: &[u32],
-) -> u32
-    ensures { result ≡ settled_number inputs (lists starts.now totals.now counts.now sums.now times.now peaks.now) input time }
+) -> Result<(), Refusal>
+    ensures { number_in result ≡ settled_number inputs (lists starts.now totals.now counts.now sums.now times.now peaks.now) input time }
 {
-    let number = input_number(inputs, input, starts, totals, counts, sums, times, peaks);
-    if number != 0 {
-        return number;
-    }
+    check_input(inputs, input, starts, totals, counts, sums, times, peaks)?;
     if base::TIME_LIMIT < time {
-        return 8;
+        return Err(Refusal::Time);
     }
-    0
+    Ok(())
 }
 
 // ---- the calls
-// The zero status of a refused call.
-fn no_status(number: u32) -> InputStatus
-    ensures { result ≡ no_status number }
-{
-    InputStatus {
-        number,
-        state: 0,
-        source: Sourced::Nowhere,
-        channels: 0,
-        extra_delay: ExtraDelay::Auto(AutoTag::Auto),
-        extra_delay_ms: 0.0,
-        effective_delay_ms: 0.0,
-        proposed_delay_ms: Milliseconds::None,
-        lag_ms: 0.0,
-        arrival_lag_ms: Arrival::None,
-        worst_lag_ms: Milliseconds::None,
-        delay_changes: 0,
-        late_events: 0,
-        reopens: 0,
-    }
-}
-
 // What the host shows of an input, given the delay that the engine applies and the channels of its reader. Nothing is dropped.
 pub fn status(
     inputs: Inputs,
@@ -163,16 +131,13 @@ pub fn status(
     sums: &[u64],
     times: &[u64],
     peaks: &[u32],
-) -> InputStatus
-    ensures { result ≡ status_reply inputs (lists starts.now totals.now counts.now sums.now times.now peaks.now) input applied channels }
+) -> Result<InputStatus, Refusal>
+    ensures { told result ≡ status_reply inputs (lists starts.now totals.now counts.now sums.now times.now peaks.now) input applied channels }
 {
-    let number = status_number(
+    check_status(
         inputs, input, applied, channels, starts, totals, counts, sums, times, peaks,
-    );
-    if number != 0 {
-        return no_status(number);
-    }
-    shown::status(inputs, input, applied, channels, sums, peaks)
+    )?;
+    Ok(shown::status(inputs, input, applied, channels, sums, peaks))
 }
 
 // Is the input running with at least the wanted channels?
@@ -187,30 +152,18 @@ pub fn has_channels(
     sums: &[u64],
     times: &[u64],
     peaks: &[u32],
-) -> Answer
-    ensures { result ≡ has_channels_reply inputs (lists starts.now totals.now counts.now sums.now times.now peaks.now) input channels wanted }
+) -> Result<bool, Refusal>
+    ensures { answer_told result ≡ has_channels_reply inputs (lists starts.now totals.now counts.now sums.now times.now peaks.now) input channels wanted }
 {
-    let number = channels_number(
+    check_channels(
         inputs, input, channels, starts, totals, counts, sums, times, peaks,
-    );
-    if number != 0 {
-        return Answer {
-            number,
-            value: false,
-        };
-    }
+    )?;
     let slot = inputs_slots::slot_at(inputs, input);
     let state = slot.state;
     if inputs_slots::code(state) != inputs_slots::RUNNING {
-        return Answer {
-            number,
-            value: false,
-        };
+        return Ok(false);
     }
-    Answer {
-        number,
-        value: wanted <= channels as usize,
-    }
+    Ok(wanted <= channels as usize)
 }
 
 // Running, and neither a SetDelay nor a SetInput within the last hold: the last of each is at least hold old, or there never was one.
@@ -222,11 +175,11 @@ fn settled_slot(slot: Slot, hold: u64, time: u64) -> bool
         return false;
     }
     let last_set = slot.last_set;
-    if !last_set.held(hold, time) {
+    if !delay_hold::held_since(last_set, hold, time) {
         return false;
     }
     let last_input = slot.last_input;
-    last_input.held(hold, time)
+    delay_hold::held_since(last_input, hold, time)
 }
 
 // Is the input running, with neither a SetDelay nor a SetInput sent to it within the last hold?
@@ -240,22 +193,13 @@ pub fn settled(
     sums: &[u64],
     times: &[u64],
     peaks: &[u32],
-) -> Answer
-    ensures { result ≡ settled_reply inputs (lists starts.now totals.now counts.now sums.now times.now peaks.now) input time }
+) -> Result<bool, Refusal>
+    ensures { answer_told result ≡ settled_reply inputs (lists starts.now totals.now counts.now sums.now times.now peaks.now) input time }
 {
-    let number = settled_number(
+    check_settled(
         inputs, input, time, starts, totals, counts, sums, times, peaks,
-    );
-    if number != 0 {
-        return Answer {
-            number,
-            value: false,
-        };
-    }
+    )?;
     let slot = inputs_slots::slot_at(inputs, input);
     let policy = inputs.policy;
-    Answer {
-        number,
-        value: settled_slot(slot, policy.hold, time),
-    }
+    Ok(settled_slot(slot, policy.hold, time))
 }

@@ -1,35 +1,35 @@
 // What a status shows of one input, for a record and lists that the checks let through.
 ghost use Rattle.std.specs.Prelude.{◌≡◌, ℕ, ◌*◌, ◌≤◌, List, length};
 ghost use Rattle.base.specs.Lists.{part};
+ghost use Rattle.rules_window.specs.Quantile.{found};
 ghost use Rattle.rules_window.specs.ColumnSums.{as_one_second};
 ghost use Rattle.rules_record.specs.Inputs.{slot_at};
 ghost use Rattle.rules_record.specs.Lent.{lists};
 ghost use Rattle.rules_record.specs.Facts.{OwnSums};
-ghost use Rattle.rules_calls.specs.Status.{source_of, channels_shown, proposed_ms, lag_in_ms, worst_ms, arrival_of, arrival_in, status_of};
+ghost use Rattle.rules_calls.specs.Status.{source_of, channels_shown, proposed_ms, lag_in_ms, worst_ms, arrival_of, arrival_in, shown, status_of};
 ghost use Rattle.inputs_status.specs.StatusAsked.{Countable, Showable};
 
-use delay_hold::{DelayHold, Lag};
+use delay_hold::DelayHold;
 use doubles::ms;
 use lag_window::LagWindow;
-use rules_calls::{Arrival, ArrivalLag, InputStatus, Milliseconds, Source, Sourced};
-use rules_record::{Inputs, Proposal, Routed, Slot, State};
-use rules_window::Quantile;
+use rules_calls::{ArrivalLag, InputStatus, Source};
+use rules_record::{Inputs, Route, Slot, State};
 
 // No lag is above this: a quantile without a limit.
 const NO_LIMIT: u32 = 4_294_967_295;
 
-fn source_of(inputs: Inputs, to: Routed) -> Sourced
+fn source_of(inputs: Inputs, to: Option<Route>) -> Option<Source>
     ensures { result ≡ source_of inputs to }
 {
-    let Routed::To(route) = to else {
-        return Sourced::Nowhere;
+    let Some(route) = to else {
+        return None;
     };
     let flow = inputs_flows::flow_at(inputs, route.flow);
     let source = Source {
         flow,
         domain: route.domain,
     };
-    Sourced::From(source)
+    Some(source)
 }
 
 // 0 where the input is Unrouted.
@@ -42,59 +42,49 @@ fn channels_shown(state: State, channels: u32) -> u32
     channels
 }
 
-fn proposed_ms(proposed: Proposal) -> Milliseconds
+fn proposed_ms(proposed: Option<u32>) -> Option<f64>
     ensures { result ≡ proposed_ms proposed }
 {
-    let Proposal::Pending(delay) = proposed else {
-        return Milliseconds::None;
+    let Some(delay) = proposed else {
+        return None;
     };
-    Milliseconds::Of(ms(delay))
+    Some(ms(delay))
 }
 
-fn lag_ms(lag: Lag) -> Milliseconds
+fn lag_ms(lag: Option<u32>) -> Option<f64>
     ensures { result ≡ lag_in_ms lag }
 {
-    let Lag::Of(samples) = lag else {
-        return Milliseconds::None;
+    let Some(samples) = lag else {
+        return None;
     };
-    Milliseconds::Of(ms(samples))
+    Some(ms(samples))
 }
 
 // The greatest of an automatic input's peaks, which stand first in its lags.
-fn worst_ms(slot: Slot, peaks: &[u32]) -> Milliseconds
+fn worst_ms(slot: Slot, peaks: &[u32]) -> Option<f64>
     requires { slot.hold.peaks ≤ length peaks.now }
     ensures { result ≡ worst_ms slot peaks.now }
 {
     if !inputs_slots::automatic(slot) {
-        return Milliseconds::None;
+        return None;
     }
     let hold = slot.hold;
     lag_ms(delay_hold::inner::worst(peaks, hold.peaks))
 }
 
 // The quantiles, where all three are there.
-fn arrival_of(half: Quantile, high: Quantile, highest: Quantile) -> Arrival
-    ensures { result ≡ arrival_of half high highest }
+fn arrival_of(half: Option<u32>, high: Option<u32>, highest: Option<u32>) -> Option<ArrivalLag>
+    ensures { result ≡ arrival_of (found half) (found high) (found highest) }
 {
-    let Quantile::End(p50) = half else {
-        return Arrival::None;
-    };
-    let Quantile::End(p99) = high else {
-        return Arrival::None;
-    };
-    let Quantile::End(p999) = highest else {
-        return Arrival::None;
-    };
-    let lag = ArrivalLag {
-        p50: ms(p50),
-        p99: ms(p99),
-        p999: ms(p999),
-    };
-    Arrival::Of(lag)
+    Some(ArrivalLag {
+        p50: ms(half?),
+        p99: ms(high?),
+        p999: ms(highest?),
+    })
 }
 
 // The quantiles of the lags of input i, without a limit, by its row of sums alone.
-fn arrival(window: LagWindow, i: usize, sums: &[u64]) -> Arrival
+fn arrival(window: LagWindow, i: usize, sums: &[u64]) -> Option<ArrivalLag>
     requires { Countable window i sums.now }
     ensures { result ≡ arrival_in (as_one_second window.buckets window.width (part (i * window.buckets) window.buckets sums.now)) }
 {
@@ -114,7 +104,7 @@ pub(crate) fn status(
     peaks: &[u32],
 ) -> InputStatus
     requires { Showable inputs i applied sums.now peaks.now }
-    ensures { (starts totals counts times : List ℕ) → OwnSums inputs (lists starts totals counts sums.now times peaks.now) i (slot_at inputs i) → result ≡ status_of inputs (lists starts totals counts sums.now times peaks.now) i applied channels }
+    ensures { (starts totals counts times : List ℕ) → OwnSums inputs (lists starts totals counts sums.now times peaks.now) i (slot_at inputs i) → shown result ≡ status_of inputs (lists starts totals counts sums.now times peaks.now) i applied channels }
 {
     let slot = inputs_slots::slot_at(inputs, i);
     let policy = inputs.policy;
@@ -131,8 +121,7 @@ pub(crate) fn status(
     let worst_lag_ms = worst_ms(slot, &peaks[from..end]);
     let proposed_delay_ms = proposed_ms(proposed);
     InputStatus {
-        number: 0,
-        state: inputs_slots::code(state),
+        state,
         source,
         channels: channels_shown(state, channels),
         extra_delay,

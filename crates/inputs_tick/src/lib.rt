@@ -2,20 +2,22 @@
 #![tactic(auto)]
 
 ghost use Rattle.std.specs.Prelude.{◌≡◌};
+ghost use Rattle.refusals.specs.Numbers.{number_in};
 ghost use Rattle.rules_record.specs.Sized.{Sized};
 ghost use Rattle.rules_record.specs.Lent.{lists};
 ghost use Rattle.rules_tick.specs.TickChecks.{tick_number};
 ghost use Rattle.rules_tick.specs.TickAnswer.{told};
 ghost use Rattle.rules_tick.specs.TickLeaves.{tick_leaves};
 
-use rules_record::{Extra, Inputs, Output};
-pub use rules_tick::{Look, TickAnswer};
+use refusals::Refusal;
+use rules_record::{Inputs, Output};
+pub use rules_tick::{Look, Ticked};
 
 mod each;
 mod fits;
 
-// The number of the first of checks 1 to 6, 8, 10 and 11 that says no, or 0. The record's tables have their places, as in every value of its type.
-fn tick_number(
+// Checks 1 to 6, 8, 10 and 11. The record's tables have their places, as in every value of its type.
+fn check_tick(
     inputs: Inputs,
     looks: [Look; 16],
     lags: &[u32],
@@ -27,11 +29,11 @@ fn tick_number(
     times: &[u64],
     peaks: &[u32],
     words: usize,
-) -> u32
-    ensures value { result ≡ tick_number inputs (lists starts.now totals.now counts.now sums.now times.now peaks.now) words looks lags.now time }
+) -> Result<(), Refusal>
+    ensures value { number_in result ≡ tick_number inputs (lists starts.now totals.now counts.now sums.now times.now peaks.now) words looks lags.now time }
     ensures sized { Sized inputs }
 {
-    let number = inputs_checks::checks(
+    inputs_checks::check_record(
         inputs,
         starts,
         totals,
@@ -40,23 +42,20 @@ fn tick_number(
         times,
         peaks,
         Output::Words(words),
-    );
-    if number != 0 {
-        return number;
-    }
+    )?;
     if base::TIME_LIMIT < time {
-        return 8;
+        return Err(Refusal::Time);
     }
     if !fits::looks_fit(inputs, looks) {
-        return 10;
+        return Err(Refusal::Shown);
     }
     if !fits::lags_fit(inputs, looks, lags) {
-        return 10;
+        return Err(Refusal::Shown);
     }
     if !fits::rooms_fit(inputs, looks, time, starts, totals) {
-        return 11;
+        return Err(Refusal::SecondFull);
     }
-    0
+    Ok(())
 }
 
 // All inputs in order: their lags arrive, they open or watch, and their automatic delays decide. Then the instances that no input reads go, and the unsaved mark is reported and cleared. The lags of input 0 stand first.
@@ -72,10 +71,10 @@ pub fn tick(
     times: &mut [u64],
     peaks: &mut [u32],
     commands: &mut [u32],
-) -> TickAnswer
-    ensures { told result (lists starts.new totals.new counts.new sums.new times.new peaks.new) commands.new ≡ tick_leaves inputs (lists starts.old totals.old counts.old sums.old times.old peaks.old) commands.old looks lags.now time }
+) -> Result<Ticked, Refusal>
+    ensures { told inputs result (lists starts.new totals.new counts.new sums.new times.new peaks.new) commands.new ≡ tick_leaves inputs (lists starts.old totals.old counts.old sums.old times.old peaks.old) commands.old looks lags.now time }
 {
-    let number = tick_number(
+    check_tick(
         inputs,
         looks,
         lags,
@@ -87,24 +86,16 @@ pub fn tick(
         times,
         peaks,
         commands.len(),
-    );
-    if number != 0 {
-        return TickAnswer {
-            number,
-            inputs,
-            unsaved: false,
-        };
-    }
-    base::zero_u32(commands);
+    )?;
+    commands.fill(0);
     let sent = each::tick_inputs(
         inputs, looks, lags, time, starts, totals, counts, sums, times, peaks, commands,
     );
     let all = sent.inputs;
-    let kept = inputs_instances::prune_instances(all, Extra::Nothing);
+    let kept = inputs_instances::prune_instances(all, None);
     let done = each::saved(kept);
-    TickAnswer {
-        number: 0,
+    Ok(Ticked {
         inputs: done,
         unsaved: all.unsaved,
-    }
+    })
 }

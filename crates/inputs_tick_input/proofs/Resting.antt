@@ -1,5 +1,5 @@
 -- An input that rests, is not marked late and has no lags: its whole tick leaves everything as it was. Assumes nothing.
-use Rattle.std.specs.Prelude.{◌≡◌, ℕ, ◌+◌, ◌*◌, ◌<◌, Bool, true, false, ltb, List, [], ◌++◌, get_or, take, drop, set}
+use Rattle.std.specs.Prelude.{◌≡◌, ℕ, ◌+◌, ◌*◌, ◌<◌, Bool, true, false, ltb, List, [], ◌++◌, get_or, take, drop, set, None, Option}
 use mathlib.Core.Path.{refl, sym, ap, subst, ◌∙◌}
 use native.Mathlib.Omega.{arith}
 use lib.ListN.{take-append-drop}
@@ -8,8 +8,6 @@ use Rattle.base.specs.Lists.{part, patched}
 use Rattle.base.specs.Choice.{pick}
 use Rattle.policy.specs.declared.DelayPolicy.{DelayPolicy}
 use Rattle.rules_window.specs.Window.{pushed_all}
-use Rattle.delay_hold.specs.declared.Lag.{Lag}
-use Rattle.delay_hold.specs.declared.Lag.TheVariants.{None}
 use Rattle.rules_record.specs.declared.Slot.{Slot}
 use Rattle.rules_record.specs.declared.Inputs.{Inputs}
 use Rattle.rules_record.specs.Slots.{empty_slot, with_late}
@@ -47,7 +45,7 @@ put_same s i = go (ltb i 16)
     go false = refl
 
 -- an input that does not run is not late
-late_same : (policy : DelayPolicy) (slot : Slot) (applied : ℕ) (largest : Lag) → (state_number slot.state ≡ 2 → ⊥) → slot.late_before ≡ false → late_slot policy slot applied largest ≡ slot
+late_same : (policy : DelayPolicy) (slot : Slot) (applied : ℕ) (largest : Option ℕ) → (state_number slot.state ≡ 2 → ⊥) → slot.late_before ≡ false → late_slot policy slot applied largest ≡ slot
 late_same policy slot applied largest idle before =
     ap (λ (b : Bool). with_late slot (late_events_of slot b) b) (sym (late_not_running policy slot applied largest idle))
     ∙ (λ t. with_late slot (sym (events_none slot false refl) t) (sym before t))

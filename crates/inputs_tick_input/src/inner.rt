@@ -14,7 +14,7 @@ ghost use Rattle.rules_tick.specs.Tick.{looked, ticked_input};
 ghost use Rattle.rules_tick.specs.TickAsked.{InputAsked};
 
 use inputs_watch::Found;
-use rules_record::{Inode, Inputs, Sent, Slot, State};
+use rules_record::{Inputs, Sent, Slot, State};
 use rules_tick::Look;
 
 // A waiting input opens, a running or stalled one watches.
@@ -58,7 +58,7 @@ fn rests(slot: Slot, look: Look) -> bool
     }
     let world = look.world;
     let found = world.inode;
-    let Inode::Of(_) = found else {
+    let Some(_) = found else {
         return true;
     };
     false

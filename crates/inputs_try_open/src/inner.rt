@@ -5,8 +5,8 @@ ghost use Rattle.rules_record.specs.Inputs.{slot_at};
 ghost use Rattle.rules_record.specs.Commands.{Did};
 ghost use Rattle.rules_routing.specs.TryOpen.{opened_slot, start_of, recall_of, open_reader, try_open_of};
 
-use rules_record::{Extra, Inode, Inputs, Instance, Remembered, Routed, Sent, Slot};
-use rules_routing::{Reader, World};
+use rules_record::{Inputs, Instance, Sent, Slot};
+use rules_routing::World;
 
 // The slot once its reader is open.
 fn opened(slot: Slot, inode: u64, head: u64, time: u64) -> Slot
@@ -27,7 +27,7 @@ fn start(inputs: Inputs, i: usize, last: u32, time: u64, commands: &mut [u32], u
     ensures { Did 3 (start_of inputs i last time) result commands.old commands.new used }
 {
     let policy = inputs.policy;
-    let delay = base::least(last, policy.delay_max);
+    let delay = last.min(policy.delay_max);
     let sent = inputs_set_delay::inner::set_delay(inputs, i, delay, time, commands, used);
     let set = sent.inputs;
     let seeded = crate::seed(set, i, delay, time);
@@ -54,7 +54,7 @@ fn recall(
         return Sent { inputs, used };
     }
     let remembered = inputs_flows::recall(inputs, place);
-    let Remembered::Delay(last) = remembered else {
+    let Some(last) = remembered else {
         return Sent { inputs, used };
     };
     start(inputs, i, last, time, commands, used)
@@ -75,7 +75,7 @@ fn open_reader(
     ensures { Did 6 (open_reader world.reader place inode inputs i time world) result commands.old commands.new used }
 {
     let reader = world.reader;
-    let Reader::Open(channels) = reader else {
+    let Some(channels) = reader else {
         return Sent { inputs, used };
     };
     let slot = inputs_slots::slot_at(inputs, i);
@@ -105,23 +105,23 @@ pub fn try_open(
 {
     let slot = inputs_slots::slot_at(inputs, i);
     let to = slot.route;
-    let Routed::To(route) = to else {
+    let Some(route) = to else {
         return Sent { inputs, used };
     };
     let found = world.inode;
-    let Inode::Of(inode) = found else {
+    let Some(inode) = found else {
         return Sent { inputs, used };
     };
     let flow = route.flow;
     let key = Instance { flow, inode };
     if inputs_instances::found(inputs, key) {
-        let kept = inputs_instances::prune_instances(inputs, Extra::Key(key));
+        let kept = inputs_instances::prune_instances(inputs, Some(key));
         return open_reader(kept, i, flow, inode, time, world, commands, used);
     }
     if !world.made {
         return Sent { inputs, used };
     }
     let more = inputs_instances::make(inputs, key);
-    let kept = inputs_instances::prune_instances(more, Extra::Key(key));
+    let kept = inputs_instances::prune_instances(more, Some(key));
     open_reader(kept, i, flow, inode, time, world, commands, used)
 }

@@ -5,16 +5,15 @@ ghost use Rattle.std.specs.Prelude.{◌≡◌};
 ghost use Rattle.rules_routing.specs.ReaderCheck.{reader_fits};
 ghost use Rattle.rules_routing.specs.TryOpen.{running_slot, starts_anew, seeded_at};
 
-use rules_record::{Inode, Inputs, Slot, State};
-use rules_routing::Reader;
+use rules_record::{Inputs, Slot, State};
 
 pub mod inner;
 
 // Has a reader that opens at most 64 channels (check 10)?
-pub fn reader_fits(reader: Reader) -> bool
+pub fn reader_fits(reader: Option<u32>) -> bool
     ensures { result ≡ reader_fits reader }
 {
-    let Reader::Open(channels) = reader else {
+    let Some(channels) = reader else {
         return true;
     };
     channels <= 64
@@ -25,7 +24,7 @@ fn running(slot: Slot, inode: u64, head: u64, time: u64) -> Slot
     ensures { result ≡ running_slot slot inode head time }
 {
     let told = inputs_slots::with_last_input(slot, time);
-    let placed = inputs_slots::with_inode(told, Inode::Of(inode));
+    let placed = inputs_slots::with_inode(told, Some(inode));
     let state = slot.state;
     if inputs_slots::code(state) == inputs_slots::STALLED {
         return inputs_slots::with_head(placed, head, slot.head_changed);

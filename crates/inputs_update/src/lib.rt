@@ -2,14 +2,16 @@
 #![tactic(auto)]
 
 ghost use Rattle.std.specs.Prelude.{◌≡◌};
+ghost use Rattle.refusals.specs.Numbers.{number_in};
 ghost use Rattle.rules_record.specs.Lent.{lists};
 ghost use Rattle.rules_calls.specs.Update.{kind_of};
 ghost use Rattle.rules_calls.specs.UpdateChecks.{manual_fits, kind_fits, desk_limit, desk_fits, manual_number, update_number};
 ghost use Rattle.rules_record.specs.Reply.{left_inputs};
 ghost use Rattle.rules_calls.specs.UpdateReply.{update_reply, confirm_reply};
 
+use refusals::Refusal;
 use rules_calls::DelaySetting;
-use rules_record::{ExtraDelay, Inputs, InputsAnswer, Proposal};
+use rules_record::{ExtraDelay, Inputs};
 
 mod steps;
 
@@ -39,7 +41,7 @@ fn kind_fits(kind: ExtraDelay, maximum: u32) -> bool
 fn desk_limit(maximum: u32) -> u32
     ensures { result ≡ desk_limit maximum }
 {
-    base::least(DESK_REACH, maximum)
+    DESK_REACH.min(maximum)
 }
 
 // Is a delay of the desk at most its limit (check 21)?
@@ -65,19 +67,19 @@ fn kind_of(setting: DelaySetting) -> ExtraDelay
 }
 
 // Checks 12 and 21.
-fn manual_number(setting: DelaySetting, maximum: u32) -> u32
-    ensures { result ≡ manual_number setting maximum }
+fn check_manual(setting: DelaySetting, maximum: u32) -> Result<(), Refusal>
+    ensures { number_in result ≡ manual_number setting maximum }
 {
     if !kind_fits(kind_of(setting), maximum) {
-        return 12;
+        return Err(Refusal::ManualDelay);
     }
     if !desk_fits(setting, maximum) {
-        return 21;
+        return Err(Refusal::DeskDelay);
     }
-    0
+    Ok(())
 }
 
-fn update_number(
+fn check_update(
     inputs: Inputs,
     input: usize,
     setting: DelaySetting,
@@ -89,17 +91,14 @@ fn update_number(
     times: &[u64],
     peaks: &[u32],
     words: usize,
-) -> u32
-    ensures { result ≡ update_number inputs (lists starts.now totals.now counts.now sums.now times.now peaks.now) words input setting time }
+) -> Result<(), Refusal>
+    ensures { number_in result ≡ update_number inputs (lists starts.now totals.now counts.now sums.now times.now peaks.now) words input setting time }
 {
-    let number = inputs_checks::input_checks(
+    inputs_checks::check_input(
         inputs, input, time, starts, totals, counts, sums, times, peaks, words,
-    );
-    if number != 0 {
-        return number;
-    }
+    )?;
     let policy = inputs.policy;
-    manual_number(setting, policy.delay_max)
+    check_manual(setting, policy.delay_max)
 }
 
 // ---- the calls
@@ -116,10 +115,10 @@ pub fn update(
     times: &mut [u64],
     peaks: &mut [u32],
     commands: &mut [u32],
-) -> InputsAnswer
-    ensures { left_inputs result (lists starts.new totals.new counts.new sums.new times.new peaks.new) commands.new ≡ update_reply inputs (lists starts.old totals.old counts.old sums.old times.old peaks.old) commands.old input setting time }
+) -> Result<Inputs, Refusal>
+    ensures { left_inputs inputs result (lists starts.new totals.new counts.new sums.new times.new peaks.new) commands.new ≡ update_reply inputs (lists starts.old totals.old counts.old sums.old times.old peaks.old) commands.old input setting time }
 {
-    let number = update_number(
+    check_update(
         inputs,
         input,
         setting,
@@ -131,27 +130,16 @@ pub fn update(
         times,
         peaks,
         commands.len(),
-    );
-    if number != 0 {
-        return InputsAnswer { number, inputs };
-    }
+    )?;
     let kind = kind_of(setting);
     let slot = steps::with_kind(inputs_slots::slot_at(inputs, input), kind);
     let ExtraDelay::Ms(delay) = kind else {
-        base::zero_u32(commands);
-        let all = inputs_clear::inner::clear(
+        commands.fill(0);
+        return Ok(inputs_clear::inner::clear(
             inputs, input, slot, starts, totals, counts, sums, times, peaks,
-        );
-        return InputsAnswer {
-            number,
-            inputs: all,
-        };
+        ));
     };
-    let all = steps::delay_set(inputs, input, slot, doubles::samples(delay), time, commands);
-    InputsAnswer {
-        number,
-        inputs: all,
-    }
+    Ok(steps::delay_set(inputs, input, slot, doubles::samples(delay), time, commands))
 }
 
 // The proposed delay of an input is set.
@@ -166,10 +154,10 @@ pub fn confirm_delay(
     times: &[u64],
     peaks: &[u32],
     commands: &mut [u32],
-) -> InputsAnswer
-    ensures { left_inputs result (lists starts.now totals.now counts.now sums.now times.now peaks.now) commands.new ≡ confirm_reply inputs (lists starts.now totals.now counts.now sums.now times.now peaks.now) commands.old input time }
+) -> Result<Inputs, Refusal>
+    ensures { left_inputs inputs result (lists starts.now totals.now counts.now sums.now times.now peaks.now) commands.new ≡ confirm_reply inputs (lists starts.now totals.now counts.now sums.now times.now peaks.now) commands.old input time }
 {
-    let number = inputs_checks::input_checks(
+    inputs_checks::check_input(
         inputs,
         input,
         time,
@@ -180,18 +168,11 @@ pub fn confirm_delay(
         times,
         peaks,
         commands.len(),
-    );
-    if number != 0 {
-        return InputsAnswer { number, inputs };
-    }
+    )?;
     let slot = inputs_slots::slot_at(inputs, input);
     let proposed = slot.proposed;
-    let Proposal::Pending(delay) = proposed else {
-        return InputsAnswer { number: 13, inputs };
+    let Some(delay) = proposed else {
+        return Err(Refusal::NoProposal);
     };
-    let all = steps::delay_set(inputs, input, steps::taken(slot), delay, time, commands);
-    InputsAnswer {
-        number,
-        inputs: all,
-    }
+    Ok(steps::delay_set(inputs, input, steps::taken(slot), delay, time, commands))
 }

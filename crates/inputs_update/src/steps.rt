@@ -5,7 +5,7 @@ ghost use Rattle.base.specs.Lists.{padded};
 ghost use Rattle.rules_calls.specs.Update.{kind_stored, delay_set};
 ghost use Rattle.rules_calls.specs.ConfirmDelay.{taken};
 
-use rules_record::{ExtraDelay, InputConfig, Inputs, Proposal, Slot};
+use rules_record::{ExtraDelay, InputConfig, Inputs, Slot};
 
 // The kind is stored, the proposal goes.
 pub(crate) fn with_kind(slot: Slot, kind: ExtraDelay) -> Slot
@@ -13,7 +13,7 @@ pub(crate) fn with_kind(slot: Slot, kind: ExtraDelay) -> Slot
 {
     let config = InputConfig { extra_delay: kind };
     let stored = inputs_slots::with_config(slot, config);
-    inputs_slots::with_proposed(stored, Proposal::Nothing)
+    inputs_slots::with_proposed(stored, None)
 }
 
 // The proposal is taken: one delay change more.
@@ -21,7 +21,7 @@ pub(crate) fn taken(slot: Slot) -> Slot
     requires { slot.delay_changes < counter_limit }
     ensures { result ≡ taken slot }
 {
-    let rest = inputs_slots::with_proposed(slot, Proposal::Nothing);
+    let rest = inputs_slots::with_proposed(slot, None);
     inputs_slots::with_delay_changes(rest, slot.delay_changes + 1)
 }
 
@@ -37,7 +37,7 @@ pub(crate) fn delay_set(
     requires { (3 ≤ length commands.old) × (i < 16) }
     ensures { (result ≡ (delay_set i slot delay time inputs).inputs) × (commands.new ≡ padded (length commands.old) (delay_set i slot delay time inputs).words) }
 {
-    base::zero_u32(commands);
+    commands.fill(0);
     let all = inputs_slots::put_slot(inputs, i, slot);
     let sent = inputs_set_delay::inner::set_delay(all, i, delay, time, commands, 0);
     sent.inputs

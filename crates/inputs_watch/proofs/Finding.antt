@@ -1,5 +1,5 @@
 -- What `watch` does by what it finds is `watch_of`. Assumes nothing.
-use Rattle.std.specs.Prelude.{◌≡◌, ℕ, Bool, true, false, eqb}
+use Rattle.std.specs.Prelude.{◌≡◌, ℕ, Bool, true, false, eqb, None, Option, Some}
 use mathlib.Core.Path.{refl, sym, ap, ◌∙◌}
 use borrow.Author.Tests.{eq-eqb, ne_eqb}
 use Rattle.base.specs.Choice.{pick}
@@ -8,10 +8,6 @@ use Rattle.rules_record.specs.declared.Slot.{Slot}
 use Rattle.rules_record.specs.declared.Route.{Route}
 use Rattle.rules_record.specs.declared.Inputs.{Inputs}
 use Rattle.rules_record.specs.declared.State.TheVariants.{Stalled}
-use Rattle.rules_record.specs.declared.Routed.{Routed}
-use Rattle.rules_record.specs.declared.Routed.TheVariants.{Nowhere, To}
-use Rattle.rules_record.specs.declared.Inode.{Inode}
-use Rattle.rules_record.specs.declared.Inode.TheVariants.{Gone, Of}
 use Rattle.rules_record.specs.Slots.{with_state}
 use Rattle.rules_record.specs.Inputs.{slot_at, put_slot}
 use Rattle.rules_record.specs.Commands.{clear_input, quiet, send_first}
@@ -23,7 +19,7 @@ use Rattle.inputs_watch.specs.declared.Found.TheVariants.{Lost, Created, Moved, 
 use Rattle.inputs_watch.specs.WatchInPlace.{found_by, watch_found}
 
 -- ---- what is found, by the tests
-module _ (last head : ℕ) {to : Routed} {seen stored : Inode} {route : Route} {inode mine : ℕ} (is-to : to ≡ To route) (is_seen : seen ≡ Of inode) (is-stored : stored ≡ Of mine) where
+module _ (last head : ℕ) {to : Option Route} {seen stored : Option ℕ} {route : Route} {inode mine : ℕ} (is-to : to ≡ Some route) (is_seen : seen ≡ Some inode) (is-stored : stored ≡ Some mine) where
   tested : found_by to seen stored last head ≡ pick (eqb mine inode) (pick (eqb head last) Still Moved) Created
   tested = λ t. found_by (is-to t) (is_seen t) (is-stored t) last head
 
@@ -61,23 +57,23 @@ module _ (slot : Slot) (s : Inputs) (i time : ℕ) (world : World) where
   by_inode true = by_head (eqb world.head slot.last_head)
   by_inode false = refl
 
-  by_stored : (route : Route) (inode : ℕ) (stored : Inode) → watch_stored stored inode slot s i time world ≡ watch_found (found_by (To route) (Of inode) stored slot.last_head world.head) slot s i time world
+  by_stored : (route : Route) (inode : ℕ) (stored : Option ℕ) → watch_stored stored inode slot s i time world ≡ watch_found (found_by (Some route) (Some inode) stored slot.last_head world.head) slot s i time world
   unfolding watch_stored
-  by_stored route inode Gone = refl
-  by_stored route inode (Of mine) = by_inode (eqb mine inode)
+  by_stored route inode None = refl
+  by_stored route inode (Some mine) = by_inode (eqb mine inode)
 
-  by_seen : (route : Route) (seen : Inode) → watch_seen seen slot s i time world ≡ watch_found (found_by (To route) seen slot.inode slot.last_head world.head) slot s i time world
+  by_seen : (route : Route) (seen : Option ℕ) → watch_seen seen slot s i time world ≡ watch_found (found_by (Some route) seen slot.inode slot.last_head world.head) slot s i time world
   unfolding watch_seen
-  by_seen route Gone = refl
-  by_seen route (Of inode) = by_stored route inode slot.inode
+  by_seen route None = refl
+  by_seen route (Some inode) = by_stored route inode slot.inode
 
-  by_route : (to : Routed) (seen : Inode) → watch_routed to seen slot s i time world ≡ watch_found (found_by to seen slot.inode slot.last_head world.head) slot s i time world
+  by_route : (to : Option Route) (seen : Option ℕ) → watch_routed to seen slot s i time world ≡ watch_found (found_by to seen slot.inode slot.last_head world.head) slot s i time world
   unfolding watch_routed
-  by_route Nowhere seen = refl
-  by_route (To route) seen = by_seen route seen
+  by_route None seen = refl
+  by_route (Some route) seen = by_seen route seen
 
   -- what is found, and what that comes to
-  module _ (seen : Inode) (is-slot : slot ≡ slot_at s i) {found : Found} (is_found : found ≡ found_by slot.route seen slot.inode slot.last_head world.head) where
+  module _ (seen : Option ℕ) (is-slot : slot ≡ slot_at s i) {found : Found} (is_found : found ≡ found_by slot.route seen slot.inode slot.last_head world.head) where
     pub watch_by : {answer : Found} → found ≡ answer → watch_of s i time seen world ≡ watch_found answer slot s i time world
     unfolding watch_of watch_slot
     watch_by e =

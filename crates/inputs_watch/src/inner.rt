@@ -8,7 +8,7 @@ ghost use Rattle.inputs_watch.specs.declared.Found.TheVariants.{Still};
 ghost use Rattle.inputs_watch.specs.WatchInPlace.{watch_found};
 
 use super::Found;
-use rules_record::{Inode, Inputs, Sent, Slot, State};
+use rules_record::{Inputs, Sent, Slot, State};
 use rules_routing::World;
 
 // The flow is gone: the input waits for it.
@@ -46,7 +46,7 @@ pub fn watch(
     inputs: Inputs,
     i: usize,
     time: u64,
-    seen: Inode,
+    seen: Option<u64>,
     world: World,
     commands: &mut [u32],
     used: usize,

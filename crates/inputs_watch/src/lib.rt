@@ -5,7 +5,7 @@ ghost use Rattle.std.specs.Prelude.{◌≡◌};
 ghost use Rattle.rules_routing.specs.Watch.{moved_slot, stalls_now};
 ghost use Rattle.inputs_watch.specs.WatchInPlace.{found_by};
 
-use rules_record::{Inode, Routed, Slot, State};
+use rules_record::{Route, Slot, State};
 
 pub mod inner;
 
@@ -20,16 +20,22 @@ pub enum Found {
 }
 
 // What is found of a flow, by the inode and the head that are seen and those that are stored.
-pub fn finds(to: Routed, seen: Inode, stored: Inode, last_head: u64, head: u64) -> Found
+pub fn finds(
+    to: Option<Route>,
+    seen: Option<u64>,
+    stored: Option<u64>,
+    last_head: u64,
+    head: u64,
+) -> Found
     ensures { result ≡ found_by to seen stored last_head head }
 {
-    let Routed::To(_) = to else {
+    let Some(_) = to else {
         return Found::Unwatched;
     };
-    let Inode::Of(inode) = seen else {
+    let Some(inode) = seen else {
         return Found::Lost;
     };
-    let Inode::Of(mine) = stored else {
+    let Some(mine) = stored else {
         return Found::Created;
     };
     if mine != inode {
@@ -61,5 +67,5 @@ fn stalls(slot: Slot, time: u64, stall: u64) -> bool
     if inputs_slots::code(state) != inputs_slots::RUNNING {
         return false;
     }
-    stall <= base::age(time, slot.head_changed)
+    stall <= time.saturating_sub(slot.head_changed)
 }

@@ -6,7 +6,7 @@ use Rattle.base.specs.Lists.{part, patched}
 use Rattle.base.proofs.Patch.{part_long}
 use Rattle.base.specs.Limits.{time_limit, width_limit, buckets_limit}
 use Rattle.lag_window.specs.declared.LagWindow.{LagWindow}
-use Rattle.rules_window.specs.declared.Quantile.{Quantile}
+use Rattle.rules_window.specs.Quantile.{Quantile}
 use Rattle.rules_window.specs.Window.{Window}
 use Rattle.lag_window.specs.Lent.{lent}
 use Rattle.rules_window.specs.WholeWindow.{whole_window, Shaped, Sound, whole_with_sums}

@@ -9,14 +9,13 @@ ghost use Rattle.lag_window.specs.Lent.{lent};
 ghost use Rattle.inputs_window.specs.Windows.{window_in};
 ghost use Rattle.rules_window.specs.WholeWindow.{whole_window, whole_with_sums};
 ghost use Rattle.rules_window.specs.Checks.{room_for};
-ghost use Rattle.rules_window.specs.Quantile.{quantile_upto, Placeable};
+ghost use Rattle.rules_window.specs.Quantile.{found, quantile_upto, Placeable};
 ghost use Rattle.rules_window.specs.ColumnSums.{column_sums, as_one_second};
 ghost use Rattle.rules_window.specs.Parts.{part_of, placed, PartsIn};
 
 use lag_window::LagWindow;
 use policy::DelayPolicy;
 use rules_record::Slot;
-use rules_window::Quantile;
 
 // The window of the input with this slot. The record itself is not handed on: it would be copied for each input.
 pub fn window_in(policy: DelayPolicy, width: u32, slot: Slot) -> LagWindow
@@ -159,11 +158,11 @@ pub fn span(window: LagWindow, j: usize, starts: &[u64]) -> u64
 }
 
 // The quantile q of the lags of input j up to limit: it reads the row of sums and nothing else.
-pub fn quantile_upto(window: LagWindow, j: usize, q: f64, limit: u32, sums: &[u64]) -> Quantile
+pub fn quantile_upto(window: LagWindow, j: usize, q: f64, limit: u32, sums: &[u64]) -> Option<u32>
     requires buckets_le_buckets_limit { (window.buckets ≤ buckets_limit) × (1 ≤ window.width) × (window.width ≤ width_limit) }
     requires buckets_in_bounds { j * window.buckets + window.buckets ≤ length sums.now }
     requires placeable { Placeable q limit (as_one_second window.buckets window.width (part (j * window.buckets) window.buckets sums.now)) }
-    ensures { result ≡ quantile_upto q limit (as_one_second window.buckets window.width (part (j * window.buckets) window.buckets sums.now)) }
+    ensures { found result ≡ quantile_upto q limit (as_one_second window.buckets window.width (part (j * window.buckets) window.buckets sums.now)) }
 {
     let buckets = window.buckets;
     let first = j * buckets;

@@ -1,7 +1,9 @@
 -- A row summed by blocks of 64 buckets, whose sums are kept. Assumes nothing.
-use Rattle.std.proofs.Common.{◌≡◌, ℕ, ◌+◌, ◌-◌, ◌*◌, ◌<◌, ◌≤◌, List, length, get_or, set, sym, refl, ap, ◌∙◌, ⊎_elim, eq-or-lt_of_le, zero-add, arith, get_or-set_other, get_or-set_same}
+use Rattle.std.proofs.Common.{◌≡◌, ℕ, ◌+◌, ◌-◌, ◌*◌, ◌/◌, ◌<◌, ◌≤◌, List, length, take, drop, get_or, set, sum, le_antisymm, sym, refl, ap, ◌∙◌, ⊎_elim, eq-or-lt_of_le, zero-add, arith, get_or-set_other, get_or-set_same, length-take}
+use lib.Seq.{get_or-take}
 use Rattle.base.specs.Lists.{sum_from}
 use Rattle.rules_window.proofs.Sums.{from_split}
+use Rattle.lag_rows.proofs.Parts.{part_sum}
 use Rattle.lag_rows.specs.Blocks.{Blocks}
 
 -- the first i blocks
@@ -12,21 +14,32 @@ module _ (us : List ℕ) where
   pub kept_none : (xs : List ℕ) → Kept 0 us xs
   kept_none xs = record { at = λ j l. absurd (omega arith) }
 
-  pub kept_more : (i b v : ℕ) (xs : List ℕ) → Kept i us xs → b ≡ 64 * i → i < length xs → v ≡ sum_from b 64 us → Kept (i + 1) us (set xs i v)
-  kept_more i b v xs h e l ev =
+  pub kept_more : (i v : ℕ) (xs : List ℕ) → Kept i us xs → i < length xs → v ≡ sum_from (64 * i) 64 us → Kept (i + 1) us (set xs i v)
+  kept_more i v xs h l ev =
       record {
         at = λ j k. ⊎_elim
-            (λ (z : j ≡ i). ap (λ (y : ℕ). get_or (set xs i v) y 0) z ∙ (get_or-set_same xs i v 0 l ∙ (ev ∙ ap (λ (y : ℕ). sum_from y 64 us) (e ∙ ap (λ (y : ℕ). 64 * y) (sym z)))))
+            (λ (z : j ≡ i). ap (λ (y : ℕ). get_or (set xs i v) y 0) z ∙ (get_or-set_same xs i v 0 l ∙ (ev ∙ ap (λ (y : ℕ). sum_from (64 * y) 64 us) (sym z))))
             (λ g. get_or-set_other xs i j v 0 (λ z. omega arith) ∙ h.at j g)
             (eq-or-lt_of_le (omega arith));
       }
 
-  pub kept_end : (i b m : ℕ) (xs : List ℕ) → Kept i us xs → b ≡ 64 * i → m < b + 64 → Blocks m us xs
-  kept_end i b m xs h e l = record { at = λ j k. h.at j (omega arith) }
+  pub kept_end : (i m : ℕ) (xs : List ℕ) → Kept i us xs → m / 64 ≤ i → Blocks m us xs
+  kept_end i m xs h l = record { at = λ j k. h.at j (omega arith) }
 
-  -- a block that was kept
-  pub kept_at : (i b m n : ℕ) (xs : List ℕ) → Blocks n us xs → m ≡ n → b ≡ 64 * i → b + 64 ≤ m → get_or xs i 0 ≡ sum_from b 64 us
-  kept_at i b m n xs h em e l = h.at i (omega arith) ∙ ap (λ (y : ℕ). sum_from y 64 us) (sym e)
+  -- a block that was kept, of the whole ones among the first m numbers
+  module _ (i b m n : ℕ) (xs : List ℕ) (h : Blocks n us xs) (em : m ≡ n) (e : b ≡ 64 * i) (l : i < length (take (m / 64) xs)) where
+    pub kept_in : b + 64 ≤ m
+    kept_in = omega (arith, length-take (m / 64) xs)
+
+    pub kept_at : get_or (take (m / 64) xs) i 0 ≡ sum_from b 64 us
+    kept_at = get_or-take (m / 64) xs i 0 (omega (arith, length-take (m / 64) xs)) ∙ (h.at i (omega (arith, kept_in)) ∙ ap (λ (y : ℕ). sum_from y 64 us) (sym e))
+
+  -- ---- the sum of a block, of the numbers after the whole blocks, and of all up to there
+  pub block_sum : (i m : ℕ) → i < m / 64 → m ≤ length us → sum (take (64 * i + 64 - 64 * i) (drop (64 * i) us)) ≡ sum_from (64 * i) 64 us
+  block_sum i m l h = part_sum (64 * i) 64 (64 * i + 64 - 64 * i) us (omega arith) (omega arith)
+
+  pub left_sum : (m : ℕ) → m ≤ length us → sum (take (m - 64 * (m / 64)) (drop (64 * (m / 64)) us)) ≡ sum_from (64 * (m / 64)) (m - 64 * (m / 64)) us
+  left_sum m h = part_sum (64 * (m / 64)) (m - 64 * (m / 64)) (m - 64 * (m / 64)) us refl (omega arith)
 
   pub total_more : (b k s v : ℕ) → s ≡ sum_from 0 b us → v ≡ sum_from b k us → s + v ≡ sum_from 0 (b + k) us
   total_more b k s v e h = omega (arith, from_split 0 b k us, ap (λ (y : ℕ). sum_from y k us) (zero-add b))
@@ -39,3 +52,9 @@ module _ (us : List ℕ) where
   total_few b k m s most e l g =
       let q : b + k + (m - (b + k)) ≡ m = omega arith in
       omega (arith, total_more b k s (sum_from b k us) e refl, rw q at (from_split 0 (b + k) (m - (b + k)) us))
+
+  pub block_more : (i s v : ℕ) → s ≡ sum_from 0 (64 * i) us → v ≡ sum_from (64 * i) 64 us → s + v ≡ sum_from 0 (64 * (i + 1)) us
+  block_more i s v e h = let q : 64 * i + 64 ≡ 64 * (i + 1) = omega arith in rw q at (total_more (64 * i) 64 s v e h)
+
+  pub blocks_all : (i m s v : ℕ) → s ≡ sum_from 0 (64 * i) us → i ≤ m / 64 → m / 64 ≤ i → v ≡ sum_from (64 * (m / 64)) (m - 64 * (m / 64)) us → s + v ≡ sum_from 0 m us
+  blocks_all i m s v e l g h = total_end (64 * (m / 64)) m s v (rw (← le_antisymm l g) e) h (omega arith)

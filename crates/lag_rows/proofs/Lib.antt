@@ -1,5 +1,5 @@
--- Laws of sums and divisions that the code makes.
-pub mod Divisions
+-- Laws of the sums that the code makes.
+pub mod Parts
 pub mod Tallies
 pub mod Taken
 pub mod BlockSums

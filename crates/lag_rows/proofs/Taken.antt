@@ -18,9 +18,6 @@ module _ (B r : ℕ) (cs us : List ℕ) (long : length us ≡ B) where
     ahead : get_or xs b 0 ≡ get_or us b 0
     ahead = ap (λ (y : List ℕ). get_or y b 0) e ∙ toward_ahead (less_row B r cs us) us same b b (omega arith) (omega arith)
 
-    pub take_fits : ((i : ℕ) → i < B → get_or cs (r * B + i) 0 ≤ get_or us i 0) → (x : ℕ) → x ≡ get_or cs (r * B + b) 0 → x ≤ get_or xs b 0
-    take_fits h x ex = omega (arith, h b l, ahead)
-
     pub take_next : (x : ℕ) → x ≡ get_or cs (r * B + b) 0 → set xs b (get_or xs b 0 - x) ≡ toward (less_row B r cs us) us (b + 1)
     unfolding less_row
     take_next x ex = rw (ahead, e) (toward_more (less_row B r cs us) us same b (get_or us b 0 - x) (omega arith) (listed_at _ B b l ∙ ap (λ (y : ℕ). get_or us b 0 - y) (sym ex)))

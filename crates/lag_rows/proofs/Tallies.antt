@@ -1,5 +1,5 @@
 -- Sums of all rows and columns at once in 32 bits, as the loops go, and where they are the sums themselves. Assumes nothing.
-use Rattle.std.proofs.Common.{◌≡◌, ℕ, ◌+◌, ◌*◌, ◌%◌, ◌<◌, ◌≤◌, Bool, true, false, eqb, leb, List, [], length, get_or, set, replicate, sym, refl, ap, ◌∙◌, ⊎_elim, le_antisymm, eq-or-lt_of_le, add-one, arith, get_or-set_other, get_or-set_same, w64, Fits, eq-eqb, ne_eqb, le-leb}
+use Rattle.std.proofs.Common.{◌≡◌, ℕ, ◌+◌, ◌*◌, ◌%◌, ◌<◌, ◌≤◌, Bool, true, false, ◌&&◌, eqb, leb, List, [], length, get_or, set, replicate, sym, refl, ap, ◌∙◌, ⊎_elim, le_antisymm, eq-or-lt_of_le, add-one, arith, get_or-set_other, get_or-set_same, w64, Fits, eq-eqb, ne_eqb, le-leb}
 use borrow.Author.Tests.{lt-leb}
 use lib.Bits.{bit_or, bit_xor}
 use Rattle.base.specs.Choice.{pick, both}
@@ -143,14 +143,12 @@ module _ (from : ℕ) (xs us : List ℕ) where
 
   pub alike_next : (i wrong bits x y : ℕ) → eqb bits 0 ≡ both (eqb wrong 0) (alike from i xs us) → x ≡ get_or us (from + i) 0 → y ≡ get_or xs i 0 → eqb (bit_or bits (bit_xor x y)) 0 ≡ both (eqb wrong 0) (alike from (i + 1) xs us)
   unfolding alike all both
-  alike_next i wrong bits x y e h g = or_zero bits (bit_xor x y) ∙ rw (xor_same x y, e, h, g, add-one) (nested (eqb wrong 0))
+  alike_next i wrong bits x y e h g = or_zero bits (bit_xor x y) ∙ rw (xor_same x y, e, h, g, add-one) (nested (eqb wrong 0) (all (λ j. eqb (get_or us (from + j) 0) (get_or xs j 0)) i))
     where
-      rest : Bool
-      rest = all (λ j. eqb (get_or us (from + j) 0) (get_or xs j 0)) i
-
-      nested : (a : Bool) → pick (pick a rest false) (eqb (get_or us (from + i) 0) (get_or xs i 0)) false ≡ pick a (pick rest (eqb (get_or us (from + i) 0) (get_or xs i 0)) false) false
-      nested true = refl
-      nested false = refl
+      nested : (a rest : Bool) → (pick a rest false && eqb (get_or us (from + i) 0) (get_or xs i 0)) ≡ pick a (pick rest (eqb (get_or us (from + i) 0) (get_or xs i 0)) false) false
+      nested true true = refl
+      nested true false = refl
+      nested false rest = refl
 
   pub alike_end : (k i wrong bits : ℕ) → eqb bits 0 ≡ both (eqb wrong 0) (alike from i xs us) → i ≤ k → k ≤ i → eqb bits 0 ≡ both (eqb wrong 0) (alike from k xs us)
   alike_end k i wrong bits e l m = rw (← le_antisymm l m) e

@@ -1,18 +1,17 @@
 // Whether totals and sums are right (check 6), the sums when seconds go, and the quantile that a row of sums tells. These functions ask something of their caller; the crates above use them after their checks.
-ghost use Rattle.std.specs.Prelude.{◌≡◌, ℕ, ◌+◌, ◌-◌, ◌*◌, ◌/◌, ◌%◌, ◌<◌, ◌≤◌, min, [], length, ◌==◌, slice_index};
+ghost use Rattle.std.specs.Prelude.{◌≡◌, ℕ, ◌+◌, ◌-◌, ◌*◌, ◌/◌, ◌%◌, ◌<◌, ◌≤◌, min, [], length, ◌==◌, slice_index, sum};
 ghost use Rattle.base.specs.Choice.{both};
 ghost use Rattle.base.specs.Limits.{buckets_limit, width_limit};
 ghost use Rattle.base.specs.Lists.{sum_from};
 ghost use Rattle.rules_window.specs.Window.{windowed};
 ghost use Rattle.rules_window.specs.WholeWindow.{summed, tallies_right};
 ghost use Rattle.rules_window.specs.InPlace.{less_row, less_rows};
-ghost use Rattle.rules_window.specs.Quantile.{column, running, reach, quantile_upto, Placeable};
+ghost use Rattle.rules_window.specs.Quantile.{column, running, reach, found, quantile_upto, Placeable};
 ghost use Rattle.rules_window.specs.ColumnSums.{right_sums, as_one_second};
 ghost use Rattle.lag_rows.specs.Tallies.{row_places, rows_to, Covered, Columns, alike, totals_are};
 ghost use Rattle.lag_rows.specs.Blocks.{Blocks};
 
-use base::{blank_u32, blank_u64, least_usize};
-use rules_window::{Found, Quantile};
+use base::blank;
 
 // The seconds that a window has room for, and the most lags that one of them counts.
 pub const SECONDS: usize = 11;
@@ -22,12 +21,6 @@ pub const MOST: u64 = 4_294_967_295;
 // How many columns are summed before they are compared.
 const BLOCK: usize = 512;
 
-fn wide(x: u32) -> u64
-    ensures { (result ≡ x) × (result ≤ 4294967295) }
-{
-    x as u64
-}
-
 // ---- rows and columns one by one, in 64 bits
 // The sum of n counts from a on.
 fn long_sum(s: &[u32], a: usize, n: usize) -> u64
@@ -35,10 +28,8 @@ fn long_sum(s: &[u32], a: usize, n: usize) -> u64
     ensures { (result ≡ sum_from a n s.now) × (result ≤ n * 4294967295) }
 {
     let mut total: u64 = 0;
-    let mut b = 0;
-    while b < n {
-        total += wide(s[a + b]);
-        b += 1;
+    for x in &s[a..a + n] {
+        total += u64::from(*x);
     }
     total
 }
@@ -48,15 +39,10 @@ fn long_rows(buckets: usize, totals: &[u64], counts: &[u32]) -> bool
     requires { (buckets ≤ buckets_limit) × (length totals.now ≡ 11) × (length counts.now ≡ 11 * buckets) }
     ensures { result ≡ summed 11 buckets totals.now counts.now }
 {
-    let mut i = 0;
-    while i < SECONDS {
-        if MOST < totals[i] {
+    for (i, total) in totals.iter().enumerate() {
+        if MOST < *total || long_sum(counts, i * buckets, buckets) != *total {
             return false;
         }
-        if long_sum(counts, i * buckets, buckets) != totals[i] {
-            return false;
-        }
-        i += 1;
     }
     true
 }
@@ -67,10 +53,8 @@ fn long_column(counts: &[u32], buckets: usize, b: usize) -> u64
     ensures { (result ≡ column buckets b 11 counts.now) × (result ≤ 47244640245) }
 {
     let mut total: u64 = 0;
-    let mut r = 0;
-    while r < SECONDS {
-        total += wide(counts[r * buckets + b]);
-        r += 1;
+    for r in 0..SECONDS {
+        total += u64::from(counts[r * buckets + b]);
     }
     total
 }
@@ -80,12 +64,10 @@ fn long_columns(buckets: usize, counts: &[u32], sums: &[u64]) -> bool
     requires { (length counts.now ≡ 11 * buckets) × (length sums.now ≡ buckets) }
     ensures { result ≡ right_sums (windowed 11 buckets 0 [] [] counts.now) sums.now }
 {
-    let mut b = 0;
-    while b < buckets {
-        if long_column(counts, buckets, b) != sums[b] {
+    for (b, sum) in sums.iter().enumerate() {
+        if long_column(counts, buckets, b) != *sum {
             return false;
         }
-        b += 1;
     }
     true
 }
@@ -96,10 +78,8 @@ pub fn row_places(buckets: usize, places: &mut [usize])
     requires { (buckets ≤ buckets_limit) × (length places.old ≡ 11) }
     ensures { places.new ≡ row_places buckets }
 {
-    let mut r = 0;
-    while r < SECONDS {
-        places[r] = r * buckets;
-        r += 1;
+    for (r, place) in places.iter_mut().enumerate() {
+        *place = r * buckets;
     }
 }
 
@@ -138,14 +118,11 @@ fn add_column(
 {
     let mut sum: u32 = 0;
     let mut joined = bits;
-    let mut r = 0;
-    while r < SECONDS {
-        let at = place(places, buckets, r, b);
-        let x = counts[at];
-        rows[r] = std::num::wrapping_add_u32(rows[r], x);
-        sum = std::num::wrapping_add_u32(sum, x);
-        joined = joined | x;
-        r += 1;
+    for r in 0..SECONDS {
+        let x = counts[place(places, buckets, r, b)];
+        rows[r] = rows[r].wrapping_add(x);
+        sum = sum.wrapping_add(x);
+        joined |= x;
     }
     Column { sum, bits: joined }
 }
@@ -170,12 +147,10 @@ fn add_columns(
     ensures columns { Columns buckets from k counts.now columns.new }
 {
     let mut joined = bits;
-    let mut i = 0;
-    while i < k {
+    for i in 0..k {
         let column = add_column(rows, joined, places, buckets, from + i, counts);
         columns[i] = column.sum;
         joined = column.bits;
-        i += 1;
     }
     joined
 }
@@ -186,10 +161,8 @@ fn differing(columns: &[u32], from: usize, k: usize, wrong: u64, sums: &[u64]) -
     ensures { (result == 0) ≡ both (wrong == 0) (alike from k columns.now sums.now) }
 {
     let mut joined = wrong;
-    let mut i = 0;
-    while i < k {
-        joined = joined | (sums[from + i] ^ wide(columns[i]));
-        i += 1;
+    for (i, column) in columns[..k].iter().enumerate() {
+        joined |= sums[from + i] ^ u64::from(*column);
     }
     joined
 }
@@ -199,12 +172,10 @@ fn totals_are(rows: &[u32], totals: &[u64]) -> bool
     requires { (length rows.now ≡ 11) × (length totals.now ≡ 11) }
     ensures { result ≡ totals_are 11 rows.now totals.now }
 {
-    let mut i = 0;
-    while i < SECONDS {
-        if wide(rows[i]) != totals[i] {
+    for (i, total) in totals.iter().enumerate() {
+        if u64::from(rows[i]) != *total {
             return false;
         }
-        i += 1;
     }
     true
 }
@@ -228,21 +199,15 @@ fn sums_right(
     let mut wrong: u64 = 0;
     let mut b = 0;
     while b < buckets {
-        let k = least_usize(BLOCK, buckets - b);
+        let k = BLOCK.min(buckets - b);
         bits = add_columns(&mut rows, &mut columns, bits, places, buckets, b, k, counts);
         wrong = differing(&columns, b, k, wrong, sums);
         b += k;
     }
     if bits < 1_048_576 {
-        if wrong != 0 {
-            return false;
-        }
-        return totals_are(&rows, totals);
+        return wrong == 0 && totals_are(&rows, totals);
     }
-    if !long_rows(buckets, totals, counts) {
-        return false;
-    }
-    long_columns(buckets, counts, sums)
+    long_rows(buckets, totals, counts) && long_columns(buckets, counts, sums)
 }
 
 // Row sums equal to totals up to 4,294,967,295, and each sum that of its bucket, over all 11 rows. Where all totals are zero nothing is added.
@@ -251,11 +216,8 @@ pub fn right(buckets: usize, places: &[usize], totals: &[u64], counts: &[u32], s
     requires places_len { (length places.now ≡ 11) × (places.now ≡ row_places buckets) }
     ensures { result ≡ tallies_right buckets totals.now counts.now sums.now }
 {
-    if blank_u64(totals, 0) {
-        if !blank_u32(counts, 0) {
-            return false;
-        }
-        return blank_u64(sums, 0);
+    if blank(totals, 0) {
+        return blank(counts, 0) && blank(sums, 0);
     }
     sums_right(buckets, places, totals, counts, sums)
 }
@@ -267,11 +229,9 @@ fn take_row(buckets: usize, r: usize, counts: &[u32], sums: &mut [u64])
     requires by_index { (b : ℕ) → b < buckets → slice_index counts.now (r * buckets + b) ≤ slice_index sums.old b }
     ensures { sums.new ≡ less_row buckets r counts.now sums.old }
 {
-    let a = r * buckets;
-    let mut b = 0;
-    while b < buckets {
-        sums[b] = sums[b] - wide(counts[a + b]);
-        b += 1;
+    let row = r * buckets;
+    for (b, sum) in sums.iter_mut().enumerate() {
+        *sum -= u64::from(counts[row + b]);
     }
 }
 
@@ -281,26 +241,17 @@ pub fn take_rows(buckets: usize, k: usize, counts: &[u32], sums: &mut [u64])
     requires by_index { (b : ℕ) → b < buckets → column buckets b k counts.now ≤ slice_index sums.old b }
     ensures { sums.new ≡ less_rows buckets k counts.now sums.old }
 {
-    let mut r = 0;
-    while r < k {
+    for r in 0..k {
         take_row(buckets, r, counts, sums);
-        r += 1;
     }
 }
 
 // ---- the quantile that a row of sums tells: nothing else is read
-// The sum of n numbers from a on.
-fn sum_from(s: &[u64], a: usize, n: usize) -> u64
-    requires { (a + n ≤ length s.now) × (sum_from a n s.now ≤ 47244640245) }
-    ensures { result ≡ sum_from a n s.now }
+fn total(xs: &[u64]) -> u64
+    requires { sum xs.now ≤ 47244640245 }
+    ensures { result ≡ sum xs.now }
 {
-    let mut total: u64 = 0;
-    let mut b = 0;
-    while b < n {
-        total += s[a + b];
-        b += 1;
-    }
-    total
+    xs.iter().sum()
 }
 
 // b times the width.
@@ -316,8 +267,7 @@ fn shown(buckets: usize, width: u32, limit: u32) -> usize
     requires { 1 ≤ width }
     ensures { result ≡ min buckets (limit / width + 1) }
 {
-    let m = (limit / width) as usize + 1;
-    if m < buckets { m } else { buckets }
+    buckets.min((limit / width) as usize + 1)
 }
 
 // The sum of the first m numbers, of which there are at most 4,096: 64 blocks of 64. The sums of the whole blocks are kept, for the search.
@@ -327,17 +277,14 @@ fn add_blocks(m: usize, sums: &[u64], blocks: &mut [u64]) -> u64
     ensures value { result ≡ sum_from 0 m sums.now }
     ensures blocks { Blocks m sums.now blocks.new }
 {
-    let mut total: u64 = 0;
-    let mut i = 0;
-    let mut b = 0;
-    while b + 64 <= m {
-        let more = sum_from(sums, b, 64);
+    let whole = m / 64;
+    let mut all: u64 = 0;
+    for i in 0..whole {
+        let more = total(&sums[64 * i..64 * i + 64]);
         blocks[i] = more;
-        total += more;
-        i += 1;
-        b += 64;
+        all += more;
     }
-    total + sum_from(sums, b, m - b)
+    all + total(&sums[64 * whole..m])
 }
 
 // The lags in buckets that start at most at limit, and their blocks.
@@ -360,24 +307,21 @@ fn reached_from(
     from: usize,
     before: u64,
     sums: &[u64],
-) -> Found
+) -> Option<usize>
     requires le_width { (1 ≤ width) × (length sums.now ≡ buckets) }
     requires buckets_bound { running limit width buckets 1 sums.now buckets ≤ 47244640245 }
     requires from_bound { (from ≤ min buckets (limit / width + 1)) × (1 ≤ from → before < target) }
     requires before_value { before ≡ running limit width buckets 1 sums.now from }
     ensures { result ≡ reach target limit width buckets 1 sums.now (buckets - from) from }
 {
-    let m = shown(buckets, width, limit);
     let mut seen: u64 = before;
-    let mut b = from;
-    while b < m {
+    for b in from..shown(buckets, width, limit) {
         seen += sums[b];
         if target <= seen {
-            return Found::At(b);
+            return Some(b);
         }
-        b += 1;
     }
-    Found::Nowhere
+    None
 }
 
 // The first bucket where the running count reaches target: only the block of 64 buckets that reaches it is walked bucket by bucket.
@@ -388,43 +332,39 @@ fn reached(
     target: u64,
     sums: &[u64],
     blocks: &[u64],
-) -> Found
+) -> Option<usize>
     requires le_width { (1 ≤ width) × (buckets ≤ buckets_limit) × (length sums.now ≡ buckets) × (length blocks.now ≡ 64) }
     requires buckets_bound { running limit width buckets 1 sums.now buckets ≤ 47244640245 }
     requires blocks { Blocks (min buckets (limit / width + 1)) sums.now blocks.now }
     ensures { result ≡ reach target limit width buckets 1 sums.now buckets 0 }
 {
-    let m = shown(buckets, width, limit);
     let mut seen: u64 = 0;
-    let mut i = 0;
     let mut b = 0;
-    while b + 64 <= m {
-        let more = blocks[i];
+    for more in &blocks[..shown(buckets, width, limit) / 64] {
         if target <= seen + more {
             return reached_from(buckets, width, limit, target, b, seen, sums);
         }
         seen += more;
-        i += 1;
         b += 64;
     }
     reached_from(buckets, width, limit, target, b, seen, sums)
 }
 
 // The quantile q of the lags up to limit: one pass sums the row, and the sums of its blocks lead to the bucket.
-pub fn quantile_upto(buckets: usize, width: u32, q: f64, limit: u32, sums: &[u64]) -> Quantile
+pub fn quantile_upto(buckets: usize, width: u32, q: f64, limit: u32, sums: &[u64]) -> Option<u32>
     requires buckets_le_buckets_limit { (buckets ≤ buckets_limit) × (1 ≤ width) × (width ≤ width_limit) }
     requires sums_len { length sums.now ≡ buckets }
     requires placeable { Placeable q limit (as_one_second buckets width sums.now) }
-    ensures { result ≡ quantile_upto q limit (as_one_second buckets width sums.now) }
+    ensures { found result ≡ quantile_upto q limit (as_one_second buckets width sums.now) }
 {
     let mut blocks = [0u64; 64];
     let total = total_upto(buckets, width, limit, sums, &mut blocks);
     if total == 0 {
-        return Quantile::None;
+        return None;
     }
     let target = doubles::inner::quantile_place(total, q);
-    let Found::At(b) = reached(buckets, width, limit, target, sums, &blocks) else {
-        return Quantile::None;
+    let Some(b) = reached(buckets, width, limit, target, sums, &blocks) else {
+        return None;
     };
-    Quantile::End(edge(b + 1, width))
+    Some(edge(b + 1, width))
 }

@@ -1,14 +1,12 @@
 -- The steps of a push and the room check, as the code makes them. Assumes nothing.
-use Rattle.std.specs.Prelude.{◌≡◌, ℕ, zero, suc, ◌+◌, ◌-◌, ◌*◌, ◌^◌, ◌<◌, ◌≤◌, Bool, true, false, leb, List, length, get_or, set}
-use mathlib.Core.Path.{refl, sym, ap, ◌∙◌}
+use Rattle.std.specs.Prelude.{◌≡◌, ℕ, ◌+◌, ◌-◌, ◌*◌, ◌^◌, ◌<◌, ◌≤◌, Bool, true, false, List, length, get_or, set}
+use mathlib.Core.Path.{sym, ap, ◌∙◌}
 use native.Mathlib.Omega.{arith}
 use native.Mathlib.Nat.{sub-zero, zero-mul}
-use borrow.Author.Tests.{le-leb, lt-leb}
 use mir.Syntax.{w32, w64}
 use mir.Val.{Fits}
 use Rattle.base.specs.Lists.{shifted, bumped}
-use Rattle.base.specs.Limits.{nanos, buckets_limit}
-use Rattle.base.proofs.Choices.{by_le}
+use Rattle.base.specs.Limits.{buckets_limit}
 use Rattle.base.proofs.Flat.{row_le, flat_lt}
 use Rattle.base.proofs.Toward.{shifted_zero}
 use Rattle.lag_window.specs.declared.LagWindow.{LagWindow}
@@ -17,7 +15,7 @@ use Rattle.lag_window.specs.Lent.{lent}
 use Rattle.rules_window.specs.Quantile.{column}
 use Rattle.rules_window.specs.ColumnSums.{column_sums}
 use Rattle.rules_window.specs.InPlace.{less_rows, dropped_in_place, opened_in_place}
-use Rattle.rules_window.specs.Checks.{newest_of, room_of}
+use Rattle.rules_window.specs.Checks.{newest_of}
 use Rattle.rules_window.proofs.ColumnSums.{sums_length}
 use Rattle.rules_window.proofs.Stales.{stale_le, opens_used}
 use Rattle.rules_window.proofs.SumsKept.{dropped_sums, rows_in_sums}
@@ -53,10 +51,6 @@ module _ (w : LagWindow) (time k : ℕ) (s t c us : List ℕ) (own : us ≡ colu
   dropped_sums_none z = own ∙ ap column_sums (dropped_none w time k s t c e z)
 
 -- ---- a second opens
-pub opens_some : (time n : ℕ) (xs : List ℕ) (a : ℕ) → (n ≡ 0 → ⊥) → a ≡ time - get_or xs (n - 1) 0 → leb nanos a ≡ opens time n xs
-opens_some time zero xs a h e = absurd (h refl)
-opens_some time (suc n) xs a h e = let q : suc n - 1 ≡ n = omega arith in ap (leb nanos) (rw q at e)
-
 pub open_room : (r o : Bool) (n l : ℕ) → (o ≡ true → n < l) → r ≡ o → r ≡ true → n < l
 open_room r o n l f e h = f (sym e ∙ h)
 
@@ -106,12 +100,3 @@ newest_opens t n xs ts r e h = rw (← e, h)
 pub newest_stays : (t n : ℕ) (xs ts : List ℕ) (r : Bool) → r ≡ opens t n xs → r ≡ false → get_or ts (n - 1) 0 ≡ newest_of t n xs ts
 unfolding newest_of
 newest_stays t n xs ts r e h = rw (← e, h)
-
--- ---- room for the lags (check 11)
-pub room_none : (time lags n : ℕ) (starts totals : List ℕ) (total : ℕ) → total ≡ newest_of time n starts totals → 4294967295 < total → false ≡ room_of time lags n starts totals
-room_none time lags n starts totals total e h = sym (lt-leb (newest_of time n starts totals + lags) 4294967295 (omega arith))
-
-pub room_some : (time lags n : ℕ) (starts totals : List ℕ) (total : ℕ) → total ≡ newest_of time n starts totals → total ≤ 4294967295 → leb lags (4294967295 - total) ≡ room_of time lags n starts totals
-room_some time lags n starts totals total e h = by_le lags (4294967295 - total)
-    (λ l. le-leb lags (4294967295 - total) l ∙ sym (le-leb (newest_of time n starts totals + lags) 4294967295 (omega arith)))
-    (λ l. lt-leb lags (4294967295 - total) l ∙ sym (lt-leb (newest_of time n starts totals + lags) 4294967295 (omega arith)))

@@ -1,12 +1,19 @@
 -- A `LagWindow` with the lists lent for it, and what a call leaves of them. Assumes nothing.
-use Rattle.std.specs.Prelude.{ℕ, List}
+use Rattle.std.specs.Prelude.{ℕ, List, Result}
 use Rattle.rules_window.specs.Window.{Window, windowed}
 use Rattle.rules_window.specs.Checks.{Reply}
 use Rattle.lag_window.specs.declared.LagWindow.{LagWindow}
-use Rattle.lag_window.specs.declared.WindowAnswer.{WindowAnswer}
+use Rattle.refusals.specs.declared.Refusal.{Refusal}
+use Rattle.refusals.specs.Numbers.{number_in, value_in}
 
 abbrev pub lent : (w : LagWindow) (starts totals counts : List ℕ) → Window
 lent w starts totals counts = windowed w.seconds w.buckets w.width starts totals counts
 
-abbrev pub left_window : (r : WindowAnswer) (starts totals counts sums : List ℕ) → Reply
-left_window r starts totals counts sums = record { number = r.number; window = lent r.window starts totals counts; sums = sums }
+-- the zero window, which a refused `new` leaves
+abbrev pub no_window : LagWindow
+no_window = record { seconds = 0; buckets = 0; width = 0 }
+
+-- of each case of what a call gives, with the lists as they are after it; refused, the window as it came
+abbrev pub left_window : (came : LagWindow) → Result LagWindow Refusal → (starts totals counts sums : List ℕ) → Reply
+left_window came result starts totals counts sums =
+    record { number = number_in result; window = lent (value_in came result) starts totals counts; sums = sums }

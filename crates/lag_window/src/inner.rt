@@ -10,8 +10,8 @@ ghost use Rattle.rules_window.specs.InPlace.{dropped_in_place, opened_in_place};
 ghost use Rattle.lag_window.specs.Lent.{lent};
 
 use super::LagWindow;
-use base::inner::{spaced, span, up_to_u64};
-use base::{NANOS, TIME_LIMIT, age, blank_u64, shift_u32, shift_u64, zero_u32, zero_u64};
+use base::inner::{spaced, span};
+use base::{NANOS, TIME_LIMIT, blank, shift};
 use lag_rows::inner::{right, row_places, take_rows};
 
 // ---- a push
@@ -20,14 +20,10 @@ fn stale(n: usize, time: u64, starts: &[u64]) -> usize
     requires { n ≤ length starts.now }
     ensures { result ≡ stale time n starts.now }
 {
-    let mut k = 0;
-    while k < n {
-        if age(time, starts[k]) <= LagWindow::LAG_WINDOW {
-            return k;
-        }
-        k += 1;
-    }
-    k
+    starts[..n]
+        .iter()
+        .position(|start| time.saturating_sub(*start) <= LagWindow::LAG_WINDOW)
+        .unwrap_or(n)
 }
 
 // Seconds more than 10 s old go, and their lags come off the sums. Most often there is none, and nothing is moved.
@@ -51,9 +47,9 @@ fn drop_old(
         return window;
     }
     take_rows(buckets, k, counts, sums);
-    shift_u64(starts, k);
-    shift_u64(totals, k);
-    shift_u32(counts, k * buckets);
+    shift(starts, k, 0);
+    shift(totals, k, 0);
+    shift(counts, k * buckets, 0);
     LagWindow {
         seconds: n - k,
         buckets,
@@ -66,10 +62,7 @@ fn opens(n: usize, time: u64, starts: &[u64]) -> bool
     requires { n ≤ length starts.now }
     ensures { result ≡ opens time n starts.now }
 {
-    if n == 0 {
-        return true;
-    }
-    age(time, starts[n - 1]) >= LagWindow::SECOND
+    n == 0 || time.saturating_sub(starts[n - 1]) >= LagWindow::SECOND
 }
 
 // A second opens where it is time.
@@ -95,9 +88,7 @@ fn bucket(lag: u32, width: u32, buckets: usize) -> usize
     requires { (0 < width) × (0 < buckets) }
     ensures { (result ≡ bucket_of lag width buckets) × (result < buckets) }
 {
-    let b = (lag / width) as usize;
-    let last = buckets - 1;
-    if b < last { b } else { last }
+    ((lag / width) as usize).min(buckets - 1)
 }
 
 // Where bucket b of row r stands.
@@ -125,9 +116,9 @@ fn count(window: LagWindow, lag: u32, totals: &mut [u64], counts: &mut [u32], su
     let width = window.width;
     let b = bucket(lag, width, buckets);
     let at = place(r, b, buckets);
-    totals[r] = totals[r] + 1;
-    counts[at] = counts[at] + 1;
-    sums[b] = sums[b] + 1;
+    totals[r] += 1;
+    counts[at] += 1;
+    sums[b] += 1;
 }
 
 // A push: with 11 places, seconds more than 10 s old go before a second opens; then the lag counts.
@@ -170,12 +161,9 @@ pub fn push_all(
     ensures counts_after { lent result starts.new totals.new counts.new ≡ pushed_all time lags.now (lent window starts.old totals.old counts.old) }
     ensures sums_after { sums.new ≡ column_sums (pushed_all time lags.now (lent window starts.old totals.old counts.old)) }
 {
-    let n = lags.len();
     let mut w = window;
-    let mut i = 0;
-    while i < n {
-        w = push(w, lags[i], time, starts, totals, counts, sums);
-        i += 1;
+    for lag in lags {
+        w = push(w, *lag, time, starts, totals, counts, sums);
     }
     w
 }
@@ -197,10 +185,7 @@ pub fn room(n: usize, time: u64, lags: usize, starts: &[u64], totals: &[u64]) ->
     ensures { result ≡ room_of time lags n starts.now totals.now }
 {
     let total = newest(n, time, starts, totals);
-    if LagWindow::MOST < total {
-        return false;
-    }
-    lags as u64 <= LagWindow::MOST - total
+    total <= LagWindow::MOST && lags as u64 <= LagWindow::MOST - total
 }
 
 // ---- whether a window is whole and its sums are right (check 6)
@@ -227,13 +212,13 @@ pub fn whole(
     if LagWindow::LAG_WINDOW < span(n, starts) {
         return false;
     }
-    if !up_to_u64(TIME_LIMIT, n, starts) {
+    if !starts[..n].iter().all(|at| *at <= TIME_LIMIT) {
         return false;
     }
-    if !blank_u64(starts, n) {
+    if !blank(starts, n) {
         return false;
     }
-    if !blank_u64(totals, n) {
+    if !blank(totals, n) {
         return false;
     }
     let mut places = [0usize; LagWindow::SECONDS];
@@ -255,10 +240,10 @@ pub fn emptied(
     ensures counts_after { lent result starts.new totals.new counts.new ≡ cleared (lent window starts.old totals.old counts.old) }
     ensures sums_after { sums.new ≡ column_sums (cleared (lent window starts.old totals.old counts.old)) }
 {
-    zero_u64(starts);
-    zero_u64(totals);
-    zero_u32(counts);
-    zero_u64(sums);
+    starts.fill(0);
+    totals.fill(0);
+    counts.fill(0);
+    sums.fill(0);
     LagWindow {
         seconds: 0,
         buckets: window.buckets,

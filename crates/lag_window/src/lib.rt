@@ -2,28 +2,23 @@
 #![tactic(auto)]
 
 ghost use Rattle.std.specs.Prelude.{◌≡◌, ◌*◌};
-ghost use Rattle.lag_window.specs.Lent.{lent, left_window};
-ghost use Rattle.rules_window.specs.Checks.{checked, from_zero_to_one, new_number, push_number, quantile_number, new_reply, push_reply, clear_reply, span_reply, quantile_upto_reply, quantile_reply};
+ghost use Rattle.refusals.specs.Numbers.{number_in};
+ghost use Rattle.lag_window.specs.Lent.{lent, no_window, left_window};
+ghost use Rattle.rules_window.specs.Quantile.{told};
+ghost use Rattle.rules_window.specs.Checks.{told_span, checked, from_zero_to_one, new_number, push_number, quantile_number, new_reply, push_reply, clear_reply, span_reply, quantile_upto_reply, quantile_reply};
 
-use rules_window::{Quantile, SpanAnswer};
+use refusals::Refusal;
 
 // Functions that ask something of their caller; the crates above use them after their checks.
 pub mod inner;
 
 // How many seconds are in use, how many buckets a second has, and a bucket's width in samples.
 // The lent lists hold, oldest first, the starts and totals of 11 seconds and 11 rows of counts, unused places zero, and for each bucket the sum of its counts.
-#[derive(Clone, Copy)]
+#[derive(Clone, Copy, Debug, PartialEq, Eq)]
 pub struct LagWindow {
     pub seconds: usize,
     pub buckets: usize,
     pub width: u32,
-}
-
-// The number of the check that refuses, or 0, and the window.
-#[derive(Clone, Copy)]
-pub struct WindowAnswer {
-    pub number: u32,
-    pub window: LagWindow,
 }
 
 impl LagWindow {
@@ -41,8 +36,8 @@ impl LagWindow {
     // The most lags that one second counts (check 11).
     pub(crate) const MOST: u64 = lag_rows::inner::MOST;
 
-    // The checks of `new`, 2, 17, 18 and 5: the number of the first that says no, or 0.
-    fn new_number(
+    // The checks of `new`: 2, 17, 18 and 5.
+    fn check_new(
         offset: u32,
         maximum: u32,
         width: u32,
@@ -50,27 +45,24 @@ impl LagWindow {
         totals: usize,
         counts: usize,
         sums: usize,
-    ) -> u32
-        ensures { result ≡ new_number offset maximum width starts totals counts sums }
+    ) -> Result<(), Refusal>
+        ensures { number_in result ≡ new_number offset maximum width starts totals counts sums }
     {
-        let number = buckets::ranges_number(offset, maximum, width);
-        if number != 0 {
-            return number;
-        }
+        buckets::check_ranges(offset, maximum, width)?;
         if starts != LagWindow::SECONDS {
-            return 5;
+            return Err(Refusal::ListLength);
         }
         if totals != LagWindow::SECONDS {
-            return 5;
+            return Err(Refusal::ListLength);
         }
         let buckets = buckets::inner::buckets_of(offset, maximum, width);
         if counts != LagWindow::SECONDS * buckets {
-            return 5;
+            return Err(Refusal::ListLength);
         }
         if sums != buckets {
-            return 5;
+            return Err(Refusal::ListLength);
         }
-        0
+        Ok(())
     }
 
     // A fresh window for these settings; every lent place is written.
@@ -82,10 +74,10 @@ impl LagWindow {
         totals: &mut [u64],
         counts: &mut [u32],
         sums: &mut [u64],
-    ) -> WindowAnswer
-        ensures { left_window result starts.new totals.new counts.new sums.new ≡ new_reply offset maximum width starts.old totals.old counts.old sums.old }
+    ) -> Result<LagWindow, Refusal>
+        ensures { left_window no_window result starts.new totals.new counts.new sums.new ≡ new_reply offset maximum width starts.old totals.old counts.old sums.old }
     {
-        let number = LagWindow::new_number(
+        LagWindow::check_new(
             offset,
             maximum,
             width,
@@ -93,77 +85,69 @@ impl LagWindow {
             totals.len(),
             counts.len(),
             sums.len(),
-        );
-        if number != 0 {
-            return WindowAnswer {
-                number,
-                window: LagWindow {
-                    seconds: 0,
-                    buckets: 0,
-                    width: 0,
-                },
-            };
-        }
+        )?;
         let buckets = buckets::inner::buckets_of(offset, maximum, width);
         let made = LagWindow {
             seconds: 0,
             buckets,
             width,
         };
-        let window = inner::emptied(made, starts, totals, counts, sums);
-        WindowAnswer { number, window }
+        Ok(inner::emptied(made, starts, totals, counts, sums))
     }
 
     // The checks that every call on a window makes: 17, 18, 5 and 6.
-    fn number(self, starts: &[u64], totals: &[u64], counts: &[u32], sums: &[u64]) -> u32
-        ensures { result ≡ checked (lent self starts.now totals.now counts.now) sums.now 0 }
+    fn check(
+        self,
+        starts: &[u64],
+        totals: &[u64],
+        counts: &[u32],
+        sums: &[u64],
+    ) -> Result<(), Refusal>
+        ensures { number_in result ≡ checked (lent self starts.now totals.now counts.now) sums.now 0 }
     {
         if !buckets::width_allowed(self.width) {
-            return 17;
+            return Err(Refusal::Width);
         }
         if !buckets::buckets_allowed(self.buckets) {
-            return 18;
+            return Err(Refusal::Buckets);
         }
         if starts.len() != LagWindow::SECONDS {
-            return 5;
+            return Err(Refusal::ListLength);
         }
         if totals.len() != LagWindow::SECONDS {
-            return 5;
+            return Err(Refusal::ListLength);
         }
         if counts.len() != LagWindow::SECONDS * self.buckets {
-            return 5;
+            return Err(Refusal::ListLength);
         }
         if sums.len() != self.buckets {
-            return 5;
+            return Err(Refusal::ListLength);
         }
         if !inner::whole(self, starts, totals, counts, sums) {
-            return 6;
+            return Err(Refusal::NotWhole);
         }
-        0
+        Ok(())
     }
 
     // The checks of a push: those of a window, then 8 and 11.
-    fn push_number(
+    fn check_push(
         self,
         time: u64,
         starts: &[u64],
         totals: &[u64],
         counts: &[u32],
         sums: &[u64],
-    ) -> u32
-        ensures { result ≡ push_number time (lent self starts.now totals.now counts.now) sums.now }
+    ) -> Result<(), Refusal>
+        ensures { number_in result ≡ push_number time (lent self starts.now totals.now counts.now) sums.now }
     {
-        let number = self.number(starts, totals, counts, sums);
-        if number != 0 {
-            return number;
-        }
+        self.check(starts, totals, counts, sums)?;
         if LagWindow::LATEST < time {
-            return 8;
+            return Err(Refusal::Time);
         }
         if !inner::room(self.seconds, time, 1, starts, totals) {
-            return 11;
+            return Err(Refusal::SecondFull);
         }
-        0
+        Ok(())
     }
 
     // Counts a lag: a second opens if none exists or the newest is at least 1 s old, then seconds more than 10 s old go.
@@ -175,18 +159,11 @@ impl LagWindow {
         totals: &mut [u64],
         counts: &mut [u32],
         sums: &mut [u64],
-    ) -> WindowAnswer
-        ensures { left_window result starts.new totals.new counts.new sums.new ≡ push_reply lag time (lent self starts.old totals.old counts.old) sums.old }
+    ) -> Result<LagWindow, Refusal>
+        ensures { left_window self result starts.new totals.new counts.new sums.new ≡ push_reply lag time (lent self starts.old totals.old counts.old) sums.old }
     {
-        let number = self.push_number(time, starts, totals, counts, sums);
-        if number != 0 {
-            return WindowAnswer {
-                number,
-                window: self,
-            };
-        }
-        let window = inner::push(self, lag, time, starts, totals, counts, sums);
-        WindowAnswer { number, window }
+        self.check_push(time, starts, totals, counts, sums)?;
+        Ok(inner::push(self, lag, time, starts, totals, counts, sums))
     }
 
     // Forgets every second.
@@ -196,30 +173,25 @@ impl LagWindow {
         totals: &mut [u64],
         counts: &mut [u32],
         sums: &mut [u64],
-    ) -> WindowAnswer
-        ensures { left_window result starts.new totals.new counts.new sums.new ≡ clear_reply (lent self starts.old totals.old counts.old) sums.old }
+    ) -> Result<LagWindow, Refusal>
+        ensures { left_window self result starts.new totals.new counts.new sums.new ≡ clear_reply (lent self starts.old totals.old counts.old) sums.old }
     {
-        let number = self.number(starts, totals, counts, sums);
-        if number != 0 {
-            return WindowAnswer {
-                number,
-                window: self,
-            };
-        }
-        let window = inner::emptied(self, starts, totals, counts, sums);
-        WindowAnswer { number, window }
+        self.check(starts, totals, counts, sums)?;
+        Ok(inner::emptied(self, starts, totals, counts, sums))
     }
 
     // From the first to the last second in use: one second of lags at least before the first automatic setting.
-    pub fn span(self, starts: &[u64], totals: &[u64], counts: &[u32], sums: &[u64]) -> SpanAnswer
-        ensures { result ≡ span_reply (lent self starts.now totals.now counts.now) sums.now }
+    pub fn span(
+        self,
+        starts: &[u64],
+        totals: &[u64],
+        counts: &[u32],
+        sums: &[u64],
+    ) -> Result<u64, Refusal>
+        ensures { told_span result ≡ span_reply (lent self starts.now totals.now counts.now) sums.now }
     {
-        let number = self.number(starts, totals, counts, sums);
-        if number != 0 {
-            return SpanAnswer { number, span: 0 };
-        }
-        let span = base::inner::span(self.seconds, starts);
-        SpanAnswer { number, span }
+        self.check(starts, totals, counts, sums)?;
+        Ok(base::inner::span(self.seconds, starts))
     }
 
     // q is a number from 0 to 1 (check 14).
@@ -233,24 +205,21 @@ impl LagWindow {
     }
 
     // The checks of a quantile: those of a window, then 14.
-    fn quantile_number(
+    fn check_quantile(
         self,
         q: f64,
         starts: &[u64],
         totals: &[u64],
         counts: &[u32],
         sums: &[u64],
-    ) -> u32
-        ensures { result ≡ quantile_number q (lent self starts.now totals.now counts.now) sums.now }
+    ) -> Result<(), Refusal>
+        ensures { number_in result ≡ quantile_number q (lent self starts.now totals.now counts.now) sums.now }
     {
-        let number = self.number(starts, totals, counts, sums);
-        if number != 0 {
-            return number;
-        }
+        self.check(starts, totals, counts, sums)?;
         if !LagWindow::from_zero_to_one(q) {
-            return 14;
+            return Err(Refusal::Quantile);
         }
-        0
+        Ok(())
     }
 
     // The end of the bucket that holds quantile q of all lags. Lags beyond the window's range share its top bucket.
@@ -261,8 +230,8 @@ impl LagWindow {
         totals: &[u64],
         counts: &[u32],
         sums: &[u64],
-    ) -> Quantile
-        ensures { result ≡ quantile_reply q (lent self starts.now totals.now counts.now) sums.now }
+    ) -> Result<Option<u32>, Refusal>
+        ensures { told result ≡ quantile_reply q (lent self starts.now totals.now counts.now) sums.now }
     {
         self.quantile_upto(q, 4_294_967_295, starts, totals, counts, sums)
     }
@@ -276,13 +245,10 @@ impl LagWindow {
         totals: &[u64],
         counts: &[u32],
         sums: &[u64],
-    ) -> Quantile
-        ensures { result ≡ quantile_upto_reply q limit (lent self starts.now totals.now counts.now) sums.now }
+    ) -> Result<Option<u32>, Refusal>
+        ensures { told result ≡ quantile_upto_reply q limit (lent self starts.now totals.now counts.now) sums.now }
     {
-        let number = self.quantile_number(q, starts, totals, counts, sums);
-        if number != 0 {
-            return Quantile::Refused(number);
-        }
-        lag_rows::inner::quantile_upto(self.buckets, self.width, q, limit, sums)
+        self.check_quantile(q, starts, totals, counts, sums)?;
+        Ok(lag_rows::inner::quantile_upto(self.buckets, self.width, q, limit, sums))
     }
 }

@@ -11,10 +11,8 @@ use Rattle.buckets.specs.Ranges.{reaches_allowed}
 use Rattle.buckets.proofs.Told.{reaches_told}
 use Rattle.doubles.proofs.Values.{is}
 use Rattle.policy.specs.declared.DelayPolicy.{DelayPolicy}
-use Rattle.policy.specs.declared.Need.TheVariants.{Of, Refused}
-use Rattle.policy.specs.declared.Share.{Share}
-use Rattle.policy.specs.Settings.{times_allowed, margins_allowed, Sound, percent_allowed, share_of_percent, share_number, share_answer, share_reply, share_number_of, share_value_of}
-use Rattle.policy.specs.Need.{need_of, need_number, need_answer, need_reply, number_of, value_of}
+use Rattle.policy.specs.Settings.{Share, times_allowed, margins_allowed, Sound, percent_allowed, share_of_percent, share_number, share_answer, share_reply, share_number_of, share_value_of}
+use Rattle.policy.specs.Need.{Of, Refused, need_of, need_number, need_answer, need_reply, number_of, value_of}
 
 -- checks 2 and 4 make a policy sound
 pub allowed_sound : (p : DelayPolicy) → reaches_allowed p.read_offset p.delay_max ≡ true → margins_allowed p ≡ true → Sound p

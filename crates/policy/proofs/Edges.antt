@@ -5,7 +5,7 @@ use lib.Ieee.{Float, nan, fin, binary64, round, div, le}
 use Rattle.base.specs.Choice.{both, ask}
 use Rattle.buckets.specs.Ranges.{reaches_allowed}
 use Rattle.policy.specs.declared.DelayPolicy.{DelayPolicy}
-use Rattle.policy.specs.declared.Share.TheVariants.{Of, Refused}
+use Rattle.policy.specs.Settings.{Of, Refused}
 use Rattle.policy.specs.Settings.{times_allowed, margins_allowed, percent_allowed, share_of_percent, share_number, share_reply}
 use Rattle.policy.specs.Need.{need_number}
 

@@ -1,13 +1,13 @@
 -- Document 01, "Need": the delay that covers a lag, and the call `need_of` with its checks. Assumes nothing.
-use Rattle.std.specs.Prelude.{ℕ, zero, suc, ◌+◌, ◌-◌, min}
+use Rattle.std.specs.Prelude.{ℕ, Result, Ok, Err, zero, suc, ◌+◌, ◌-◌, min}
 use Rattle.std.specs.Float.{binary64}
 use Rattle.std.specs.Float.Ieee.{mul}
 use Rattle.base.specs.Choice.{ask}
 use Rattle.buckets.specs.Ranges.{reaches_allowed}
 use Rattle.doubles.specs.Doubles.{double, half_away}
 use Rattle.policy.specs.declared.DelayPolicy.{DelayPolicy}
-use Rattle.policy.specs.declared.Need.{Need}
-use Rattle.policy.specs.declared.Need.TheVariants.{Of, Refused}
+use Rattle.refusals.specs.declared.Refusal.{Refusal}
+use Rattle.refusals.specs.Numbers as refusals
 use Rattle.policy.specs.Settings.{margins_allowed}
 
 -- "above times share, rounded as before": the product as a double, rounded once, then to a whole number with halves away from zero
@@ -22,6 +22,16 @@ need_of p lag = let above = lag - p.read_offset in min p.delay_max (above + p.ma
 -- the first check that says no, or 0
 unfoldable pub need_number : DelayPolicy → ℕ
 need_number p = ask 2 (reaches_allowed p.read_offset p.delay_max) (ask 4 (margins_allowed p) 0)
+
+-- a need, or the number of the check that refuses
+pub data Need : Type 0 where
+  Of : ℕ → Need
+  Refused : ℕ → Need
+
+-- .. of each case of what the call gives
+abbrev pub told : Result ℕ Refusal → Need
+told (Ok value) = Of value
+told (Err refusal) = Refused (refusals.number_of refusal)
 
 -- the answer for a number and a value
 abbrev pub need_answer : ℕ → (value : ℕ) → Need

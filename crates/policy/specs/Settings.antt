@@ -1,5 +1,5 @@
 -- Document 01's checks 3 and 4, as far as they read a policy, what 2 and 4 let through, and a percent as a share. Assumes nothing.
-use Rattle.std.specs.Prelude.{ℕ, zero, suc, ◌≤◌, Bool, false, T, pos, nat_le}
+use Rattle.std.specs.Prelude.{ℕ, Result, Ok, Err, zero, suc, ◌≤◌, Bool, false, T, pos, nat_le}
 use Rattle.std.specs.Prelude.{Float}
 use Rattle.std.specs.Float.{fin, binary64}
 use Rattle.std.specs.Float.Ieee.{div, le}
@@ -7,8 +7,8 @@ use Rattle.base.specs.Choice.{both, ask}
 use Rattle.base.specs.Limits.{nanos, span_limit, samples_limit}
 use Rattle.doubles.specs.Doubles.{thousand}
 use Rattle.policy.specs.declared.DelayPolicy.{DelayPolicy}
-use Rattle.policy.specs.declared.Share.{Share}
-use Rattle.policy.specs.declared.Share.TheVariants.{Of, Refused}
+use Rattle.refusals.specs.declared.Refusal.{Refusal}
+use Rattle.refusals.specs.Numbers as refusals
 
 -- 3: "Are hold and stall at most 600 s, window 1 to 600 s" (a policy has no stall)
 unfoldable pub times_allowed : DelayPolicy → Bool
@@ -36,6 +36,16 @@ percent_allowed percent = both (le (fin false 0 (pos 0)) percent) (le percent th
 
 unfoldable pub share_number : Float → ℕ
 share_number percent = ask 4 (percent_allowed percent) 0
+
+-- a percent as a share, or the number of the check that refuses
+pub data Share : Type 0 where
+  Of : Float → Share
+  Refused : ℕ → Share
+
+-- .. of each case of what the call gives
+abbrev pub told_share : Result Float Refusal → Share
+told_share (Ok value) = Of value
+told_share (Err refusal) = Refused (refusals.number_of refusal)
 
 -- the answer for a number and a value
 abbrev pub share_answer : ℕ → (value : Float) → Share

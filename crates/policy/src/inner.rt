@@ -8,7 +8,7 @@ pub fn need(policy: crate::DelayPolicy, lag: u32) -> u32
     requires { Sound policy }
     ensures { result ≡ need_of policy lag }
 {
-    let above = base::less(lag, policy.read_offset);
+    let above = lag.saturating_sub(policy.read_offset);
     let share = doubles::inner::round_half_away(above as f64 * policy.margin_share);
     let sum = above as u64 + policy.margin as u64 + share;
     let most = policy.delay_max;

@@ -2,8 +2,10 @@
 #![tactic(auto)]
 
 ghost use Rattle.std.specs.Prelude.{◌≡◌};
-ghost use Rattle.policy.specs.Need.{need_reply};
-ghost use Rattle.policy.specs.Settings.{times_allowed, margins_allowed, share_reply};
+ghost use Rattle.policy.specs.Need.{need_reply, told};
+ghost use Rattle.policy.specs.Settings.{times_allowed, margins_allowed, share_reply, told_share};
+
+use refusals::Refusal;
 
 // Functions that ask something of their caller; the crates above use them after their checks.
 pub mod inner;
@@ -21,20 +23,6 @@ pub struct DelayPolicy {
     pub margin: u32,
     // ... and this share of the worst lag above the read offset: percent / 100.
     pub margin_share: f64,
-}
-
-// A need, or the number of the check that refuses.
-#[derive(Clone, Copy)]
-pub enum Need {
-    Of(u32),
-    Refused(u32),
-}
-
-// A percent as a share, or the number of the check that refuses.
-#[derive(Clone, Copy)]
-pub enum Share {
-    Of(f64),
-    Refused(u32),
 }
 
 impl DelayPolicy {
@@ -65,27 +53,27 @@ impl DelayPolicy {
     }
 
     // The delay that covers a lag, with the margin, within the maximum.
-    pub fn need_of(self, lag: u32) -> Need
-        ensures { result ≡ need_reply self lag }
+    pub fn need_of(self, lag: u32) -> Result<u32, Refusal>
+        ensures { told result ≡ need_reply self lag }
     {
         if !buckets::reaches_allowed(self.read_offset, self.delay_max) {
-            return Need::Refused(2);
+            return Err(Refusal::Reach);
         }
         if !self.margins_allowed() {
-            return Need::Refused(4);
+            return Err(Refusal::Margin);
         }
-        Need::Of(inner::need(self, lag))
+        Ok(inner::need(self, lag))
     }
 }
 
 // A percent from 0 to 1,000 as a share (check 4).
-pub fn share_of(percent: f64) -> Share
-    ensures { result ≡ share_reply percent }
+pub fn share_of(percent: f64) -> Result<f64, Refusal>
+    ensures { told_share result ≡ share_reply percent }
 {
     if percent >= 0.0 {
         if percent <= 1000.0 {
-            return Share::Of(percent / 100.0);
+            return Ok(percent / 100.0);
         }
     }
-    Share::Refused(4)
+    Err(Refusal::Margin)
 }

@@ -1,4 +1,5 @@
 -- What an accepted `new` leaves: a record that passes checks 1 to 6, with its settings, every input as it starts. Assumes nothing.
+use Rattle.std.specs.Prelude.{None, Option, Some}
 use Prim.Native.Nat.{ℕ, ◌*◌, ◌<◌, ◌≤◌, min}
 use mathlib.Core.Bool.{true, false}
 use mathlib.Core.Path.{◌≡◌, refl, sym, ap, subst, ◌∙◌}
@@ -10,15 +11,10 @@ use Rattle.base.specs.Limits.{time_limit}
 use Rattle.base.proofs.Points.{both_true}
 use Rattle.doubles.specs.Doubles.{samples_of}
 use Rattle.rules_window.specs.Window.{fresh}
-use Rattle.delay_hold.specs.declared.Moment.{Moment}
-use Rattle.delay_hold.specs.declared.Moment.TheVariants.{Never, At}
 use Rattle.delay_hold.specs.Next.{held, fresh_hold}
 use Rattle.rules_record.specs.declared.ExtraDelay.{ExtraDelay}
 use Rattle.rules_record.specs.declared.ExtraDelay.TheVariants.{Auto, Ms}
 use Rattle.rules_record.specs.declared.State.TheVariants.{Unrouted}
-use Rattle.rules_record.specs.declared.Routed.TheVariants.{Nowhere}
-use Rattle.rules_record.specs.declared.Inode.TheVariants.{Gone}
-use Rattle.rules_record.specs.declared.Proposal.TheVariants.{Nothing}
 use Rattle.rules_record.specs.declared.Slot.{Slot}
 use Rattle.rules_record.specs.declared.Inputs.{Inputs}
 use Rattle.rules_record.specs.Slots.{empty_slot}
@@ -74,28 +70,28 @@ abbrev pub started_delay : ExtraDelay → (maximum : ℕ) → ℕ
 started_delay (Auto tag) maximum = 0
 started_delay (Ms delay) maximum = min (samples_of delay) maximum
 
-abbrev pub started_set : ExtraDelay → (time : ℕ) → Moment
-started_set (Auto tag) time = Never
-started_set (Ms delay) time = At time
+abbrev pub started_set : ExtraDelay → (time : ℕ) → Option ℕ
+started_set (Auto tag) time = None
+started_set (Ms delay) time = Some time
 
 pub record AsStarted (kind : ExtraDelay) (time maximum : ℕ) (slot : Slot) : Type 0 where
   pub config : slot.config.extra_delay ≡ kind
   pub state : slot.state ≡ Unrouted
-  pub route : slot.route ≡ Nowhere
-  pub inode : slot.inode ≡ Gone
+  pub route : slot.route ≡ None
+  pub inode : slot.inode ≡ None
   pub head : slot.last_head ≡ 0
   pub head_changed_law : slot.head_changed ≡ time
   pub reopens : slot.reopens ≡ 0
   pub seconds : slot.lag_seconds ≡ 0
   pub last_lag_law : slot.last_lag ≡ 0
   pub delay : slot.delay ≡ started_delay kind maximum
-  pub proposed : slot.proposed ≡ Nothing
+  pub proposed : slot.proposed ≡ None
   pub hold : slot.hold ≡ fresh_hold
   pub changes : slot.delay_changes ≡ 0
   pub lates : slot.late_events ≡ 0
   pub late_before_law : slot.late_before ≡ false
   pub last_set : slot.last_set ≡ started_set kind time
-  pub last_input_law : slot.last_input ≡ Never
+  pub last_input_law : slot.last_input ≡ None
 
 pub as_started : (kind : ExtraDelay) (time maximum : ℕ) → AsStarted kind time maximum (started_slot kind time maximum empty_slot)
 unfolding empty_slot

@@ -1,4 +1,5 @@
 -- Loading delays: a flow named twice keeps the last, the record stays checked, and only the flow table changes, not its unsaved mark. Assumes nothing.
+use Rattle.std.specs.Prelude.{Some}
 use Prim.Native.Nat.{ℕ, zero, suc, ◌<◌}
 use mathlib.Core.Bool.{Bool, true}
 use mathlib.Core.Path.{◌≡◌, refl, sym, ap, subst, ◌∙◌}
@@ -12,7 +13,6 @@ use Rattle.base.proofs.Choices.{pick_all}
 use Rattle.base.proofs.Points.{all_at}
 use Rattle.rules_record.specs.declared.Flow.{Flow}
 use Rattle.rules_record.specs.declared.FlowEntry.{FlowEntry}
-use Rattle.rules_record.specs.declared.Remembered.TheVariants.{Delay}
 use Rattle.rules_record.specs.declared.Inputs.{Inputs}
 use Rattle.rules_record.specs.Inputs.{with_flows}
 use Rattle.rules_record.specs.Sized.{Sized}
@@ -47,7 +47,7 @@ module _ (s : Inputs) (place delay : ℕ) where
       same = ap (λ (mark : Bool). with_flows (kept s place delay) (kept s place delay).flows (kept s place delay).flow_count mark) (ap (λ (z : Inputs). z.unsaved) kept_rest)
 
   -- the place has the delay then; another place's stays, and every flow
-  pub kept_recalled : place < 64 → Sized s → recalled (kept s place delay) place ≡ Delay delay
+  pub kept_recalled : place < 64 → Sized s → recalled (kept s place delay) place ≡ Some delay
   unfolding recalled entry_at
   kept_recalled low sized = ap (λ (z : Inputs). recalled z place) unmarked ∙ remember_same s place delay low sized
 

@@ -1,4 +1,5 @@
 -- Loaded delays whose flows differ stand in the order of the load. Assumes nothing.
+use Rattle.std.specs.Prelude.{Some}
 use Prim.Native.Nat.{ℕ, zero, suc, ◌+◌, ◌<◌, ◌≤◌}
 use mathlib.Core.Bool.{Bool, true, false}
 use mathlib.Core.Path.{◌≡◌, refl, sym, ap, ◌∙◌}
@@ -15,7 +16,6 @@ use Rattle.base.proofs.Choices.{lt_yes, lt_no, pick_all, by_le, by_bool, by_zero
 use Rattle.base.proofs.Points.{all_intro}
 use Rattle.buckets.specs.Ranges.{ranges_number}
 use Rattle.rules_record.specs.declared.Flow.{Flow}
-use Rattle.rules_record.specs.declared.Remembered.TheVariants.{Delay}
 use Rattle.rules_record.specs.declared.Inputs.{Inputs}
 use Rattle.rules_record.specs.Sized.{Sized}
 use Rattle.rules_record.specs.Flows.{entry_at, flow_at, recalled, known, flow_place, admits, added, enrolled_at, enrolled, kept}
@@ -35,7 +35,7 @@ pub record Loads (n : ℕ) (flows : ℕ → Flow) (delays : ℕ → ℕ) (s : In
   pub checked : Checked s l
   pub count : s.flow_count ≡ n
   pub flow : (k : ℕ) → k < n → flow_at s k ≡ flows k
-  pub delay : (k : ℕ) → k < n → recalled s k ≡ Delay (delays k)
+  pub delay : (k : ℕ) → k < n → recalled s k ≡ Some (delays k)
 
 module _ (flows : ℕ → Flow) (delays : ℕ → ℕ) (n : ℕ) (s : Inputs) (l : Lists) (h : Loads n flows delays s l) (room : n < 64) (apart : (k : ℕ) → k < n → flows k ≡ flows n → ⊥) where
   -- a table that is not full takes any flow
@@ -90,8 +90,8 @@ module _ (flows : ℕ → Flow) (delays : ℕ → ℕ) (n : ℕ) (s : Inputs) (l
       last_flow : (k : ℕ) → k ≡ n → flow_at more k ≡ flows k
       last_flow k e = ap (flow_at more) (e ∙ sym new_place) ∙ enrolled_holds s (flows n) within h.checked.sized admits_more ∙ ap flows (sym e)
 
-      last_delay_law : (k : ℕ) → k ≡ n → recalled (kept more (flow_place more (flows n)) (delays n)) k ≡ Delay (delays k)
-      last_delay_law k e = ap (recalled (kept more (flow_place more (flows n)) (delays n))) (e ∙ sym more_place) ∙ kept_recalled more (flow_place more (flows n)) (delays n) (omega (arith, more_place)) more_sized ∙ ap (λ (k : ℕ). Delay (delays k)) (sym e)
+      last_delay_law : (k : ℕ) → k ≡ n → recalled (kept more (flow_place more (flows n)) (delays n)) k ≡ Some (delays k)
+      last_delay_law k e = ap (recalled (kept more (flow_place more (flows n)) (delays n))) (e ∙ sym more_place) ∙ kept_recalled more (flow_place more (flows n)) (delays n) (omega (arith, more_place)) more_sized ∙ ap (λ (k : ℕ). Some (delays k)) (sym e)
 
 -- ---- all of them
 module _ (bytes delays : List ℕ) (s : Inputs) (l : Lists) (start : Checked s l) (empty : s.flow_count ≡ 0) (n : ℕ) (few : n ≤ 64) (apart : (j k : ℕ) → j < k → k < n → loaded_flow bytes j ≡ loaded_flow bytes k → ⊥) where

@@ -1,12 +1,11 @@
 -- What `route` leaves as it was: the settings, the slots and lists of all other inputs, the places of all flows that were known. Assumes nothing.
+use Rattle.std.specs.Prelude.{None, Option, Some}
 use Prim.Native.Nat.{ℕ, ◌<◌, ◌≤◌}
 use mathlib.Core.Path.{◌≡◌, refl, sym, ap, subst, ◌∙◌}
 use mathlib.Core.List.{List}
 use lib.ListN.{length}
 use Rattle.base.proofs.Choices.{accepted_all, pick_all}
 use Rattle.rules_record.specs.declared.FlowEntry.{FlowEntry}
-use Rattle.rules_record.specs.declared.Routed.{Routed}
-use Rattle.rules_record.specs.declared.Routed.TheVariants.{Nowhere, To}
 use Rattle.rules_record.specs.declared.Inputs.{Inputs}
 use Rattle.rules_record.specs.declared.Slot.{Slot}
 use Rattle.rules_record.specs.Inputs.{slot_at, put_slot}
@@ -25,30 +24,31 @@ use Rattle.rules_record.proofs.SlotFrame.{slot_same}
 use Rattle.rules_routing.specs.Clear.{cleared_slot, cleared}
 use Rattle.rules_routing.proofs.ClearFrames.{cleared_beside}
 use Rattle.rules_routing.proofs.SettingsKept.{SameSettings, settings_then, settings_frame}
-use Rattle.rules_calls.specs.declared.Wanted.{Wanted}
 use Rattle.rules_calls.specs.RouteChecks.{route_number}
 use Rattle.rules_calls.specs.Route.{enrolled_for, route_for, equal_route, routed_slot, opened_for, moved, rerouted, routed_to, routed}
 use Rattle.rules_calls.specs.RouteReply.{route_reply}
 use Rattle.rules_calls.proofs.Enrolling.{for_rest, for_slot, for_count, for_fitting}
+use Rattle.rules_calls.specs.declared.Source.{Source}
+use Rattle.rules_record.specs.declared.Route.{Route}
 
 -- ---- the flow is enrolled
 module _ (s : Inputs) where
-  pub for_settings : (wanted : Wanted) → SameSettings s (enrolled_for s wanted)
+  pub for_settings : (wanted : Option Source) → SameSettings s (enrolled_for s wanted)
   for_settings wanted = subst (SameSettings s) (sym (for_rest s wanted)) refl
 
-  pub for_sized : (wanted : Wanted) → Sized s → Sized (enrolled_for s wanted)
-  for_sized Wanted.Nothing sized = sized
-  for_sized (Wanted.From source) sized = enrolled_sized s source.flow sized
+  pub for_sized : (wanted : Option Source) → Sized s → Sized (enrolled_for s wanted)
+  for_sized None sized = sized
+  for_sized (Some source) sized = enrolled_sized s source.flow sized
 
   -- a known flow keeps its place
-  pub for_flow : (wanted : Wanted) → s.flow_count ≤ 64 → (place : ℕ) → place < s.flow_count → flow_at (enrolled_for s wanted) place ≡ flow_at s place
+  pub for_flow : (wanted : Option Source) → s.flow_count ≤ 64 → (place : ℕ) → place < s.flow_count → flow_at (enrolled_for s wanted) place ≡ flow_at s place
   unfolding flow_at
-  for_flow Wanted.Nothing most place known = refl
-  for_flow (Wanted.From source) most place known = ap (λ (x : FlowEntry). x.flow) (enrolled_stable s source.flow most place known)
+  for_flow None most place known = refl
+  for_flow (Some source) most place known = ap (λ (x : FlowEntry). x.flow) (enrolled_stable s source.flow most place known)
 
 -- ---- a new route, in a record that knows its flow
 -- the slot of input i with its new route, before the new flow opens, and the record with it
-module _ (new : Routed) (i time : ℕ) (s : Inputs) where
+module _ (new : Option Route) (i time : ℕ) (s : Inputs) where
   abbrev pub routed_here : Slot
   routed_here = cleared_slot (routed_slot new time (slot_at s i))
 
@@ -58,10 +58,10 @@ module _ (new : Routed) (i time : ℕ) (s : Inputs) where
   pub placed_slot : i < 16 → Sized s → slot_at placed_here i ≡ routed_here
   placed_slot low sized = slot_same s i routed_here low sized.slots
 
-module _ (new : Routed) (i time : ℕ) (world : World) (s : Inputs) (l : Lists) where
-  opened_frame : (to : Routed) (z : Inputs) → Frame i z (opened_for to i time world z).inputs
-  opened_frame Nowhere z = leaves_quiet i z
-  opened_frame (To route) z = open_leaves i z time world
+module _ (new : Option Route) (i time : ℕ) (world : World) (s : Inputs) (l : Lists) where
+  opened_frame : (to : Option Route) (z : Inputs) → Frame i z (opened_for to i time world z).inputs
+  opened_frame None z = leaves_quiet i z
+  opened_frame (Some route) z = open_leaves i z time world
 
   pub moved_frame : Frame i s (moved new i time world s l).inputs
   unfolding moved followed_by cleared
@@ -79,7 +79,7 @@ module _ (new : Routed) (i time : ℕ) (world : World) (s : Inputs) (l : Lists) 
       (cleared_beside s l i f h)
 
 -- ---- what an accepted call does
-module _ (s : Inputs) (l : Lists) (i : ℕ) (wanted : Wanted) (time : ℕ) (world : World) where
+module _ (s : Inputs) (l : Lists) (i : ℕ) (wanted : Option Source) (time : ℕ) (world : World) where
   abbrev known : Inputs
   known = enrolled_for s wanted
 
@@ -109,7 +109,7 @@ module _ (s : Inputs) (l : Lists) (i : ℕ) (wanted : Wanted) (time : ℕ) (worl
       (to_beside (route_for known wanted) i time world known l (for_fitting s wanted l f) (subst (λ (n : ℕ). i < n) (sym (for_count s wanted)) h))
 
 -- ---- the call, accepted or refused
-module _ (s : Inputs) (l : Lists) (commands : List ℕ) (input : ℕ) (wanted : Wanted) (time : ℕ) (world : World) where
+module _ (s : Inputs) (l : Lists) (commands : List ℕ) (input : ℕ) (wanted : Option Source) (time : ℕ) (world : World) where
   pub route_other : (j : ℕ) → (j ≡ input → ⊥) → slot_at (route_reply s l commands input wanted time world).inputs j ≡ slot_at s j
   unfolding route_reply
   route_other j apart =

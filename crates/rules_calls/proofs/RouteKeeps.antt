@@ -1,4 +1,5 @@
 -- `route` keeps a checked record checked: after a new route the input waits, and an input that waits counts no reopen when it opens. Assumes nothing.
+use Rattle.std.specs.Prelude.{None, Option, Some}
 use Prim.Native.Nat.{ℕ, ◌<◌, ◌≤◌, zero-le}
 use mathlib.Core.Bool.{true}
 use mathlib.Core.Path.{◌≡◌, refl, sym, ap, subst, ◌∙◌}
@@ -10,8 +11,6 @@ use Rattle.base.specs.Limits.{time_limit}
 use Rattle.base.proofs.Choices.{asked, accepted_all, pick_all}
 use Rattle.base.proofs.Points.{true_both}
 use Rattle.rules_record.specs.declared.Flow.{Flow}
-use Rattle.rules_record.specs.declared.Routed.{Routed}
-use Rattle.rules_record.specs.declared.Routed.TheVariants.{Nowhere, To}
 use Rattle.rules_record.specs.declared.Slot.{Slot}
 use Rattle.rules_record.specs.declared.Inputs.{Inputs}
 use Rattle.rules_record.specs.States.{state_number}
@@ -31,31 +30,32 @@ use Rattle.rules_record.proofs.Numbers.{input_told}
 use Rattle.rules_routing.specs.Clear.{cleared_lists, cleared}
 use Rattle.rules_routing.proofs.SettingsKept.{settings_put}
 use Rattle.rules_routing.proofs.TryOpenKeeps.{waiting_keeps}
-use Rattle.rules_calls.specs.declared.Wanted.{Wanted}
 use Rattle.rules_calls.specs.RouteChecks.{wanted_fits, route_number}
 use Rattle.rules_calls.specs.Route.{enrolled_for, route_for, equal_route, starts_over, started_over, state_for, routed_slot, opened_for, moved, rerouted, routed_to, routed}
 use Rattle.rules_calls.specs.RouteReply.{route_reply}
 use Rattle.rules_calls.proofs.Enrolling.{for_count}
 use Rattle.rules_calls.proofs.RouteFrames.{routed_here, placed_here, placed_slot}
+use Rattle.rules_calls.specs.declared.Source.{Source}
+use Rattle.rules_record.specs.declared.Route.{Route}
 
 -- ---- the route that is wanted
 module _ (s : Inputs) (l : Lists) (c : Checked s l) where
-  pub for_keeps : (wanted : Wanted) → Checked (enrolled_for s wanted) l
-  for_keeps Wanted.Nothing = c
-  for_keeps (Wanted.From source) = enrol_keeps s l c source.flow
+  pub for_keeps : (wanted : Option Source) → Checked (enrolled_for s wanted) l
+  for_keeps None = c
+  for_keeps (Some source) = enrol_keeps s l c source.flow
 
   -- it names a flow that is known once it is enrolled
-  pub for_fits : (wanted : Wanted) → wanted_fits s wanted ≡ true
+  pub for_fits : (wanted : Option Source) → wanted_fits s wanted ≡ true
       → route_fits (route_for (enrolled_for s wanted) wanted) (state_for (route_for (enrolled_for s wanted) wanted)) (enrolled_for s wanted).flow_count ≡ true
   unfolding route_fits
-  for_fits Wanted.Nothing fits = refl
-  for_fits (Wanted.From source) fits =
+  for_fits None fits = refl
+  for_fits (Some source) fits =
       let flow : Flow = source.flow in
       let most : s.flow_count ≤ 64 = c.whole.flows.most in
       true_both _ _ (lt-ltb _ _ (subst (λ (place : ℕ). place < (enrolled s flow).flow_count) (sym (enrolled_place s flow most c.sized fits)) (enrolled_known s flow most c.sized fits))) refl
 
 -- ---- a new route, in a record that knows its flow
-module _ (s : Inputs) (l : Lists) (i : ℕ) (c : Checked s l) (h : i < s.count) (new : Routed) (fits : route_fits new (state_for new) s.flow_count ≡ true) (time : ℕ) (soon : time ≤ time_limit) where
+module _ (s : Inputs) (l : Lists) (i : ℕ) (c : Checked s l) (h : i < s.count) (new : Option Route) (fits : route_fits new (state_for new) s.flow_count ≡ true) (time : ℕ) (soon : time ≤ time_limit) where
   old : WholeSlot s.policy.delay_max s.flow_count (slot_at s i)
   old = (c.whole.inputs i h).slot
 
@@ -80,10 +80,10 @@ module _ (s : Inputs) (l : Lists) (i : ℕ) (c : Checked s l) (h : i < s.count) 
   unfolding routed_slot
   after_state = ap (λ (x : Slot). x.state) (placed_slot new i time s (omega (arith, c.fitting.allowed.most)) c.sized)
 
-  opened_keeps : (to : Routed) → new ≡ to → (world : World) → Checked (opened_for to i time world (placed_here new i time s)).inputs (cleared_lists i s l)
+  opened_keeps : (to : Option Route) → new ≡ to → (world : World) → Checked (opened_for to i time world (placed_here new i time s)).inputs (cleared_lists i s l)
   unfolding quiet
-  opened_keeps Nowhere e world = after_keeps
-  opened_keeps (To route) e world =
+  opened_keeps None e world = after_keeps
+  opened_keeps (Some route) e world =
       waiting_keeps (cleared_lists i s l) i time soon (placed_here new i time s) world after_keeps (subst (λ (z : Inputs). i < z.count) (sym (settings_put s i (routed_here new i time s))) h)
       (ap state_number (after_state ∙ ap state_for e))
 
@@ -96,7 +96,7 @@ module _ (s : Inputs) (l : Lists) (i : ℕ) (c : Checked s l) (h : i < s.count) 
   to_keeps world = pick_all (λ (effect : Effect). Checked effect.inputs effect.lists) (equal_route new (slot_at s i).route) c (moved_keeps world)
 
 -- ---- the call, accepted or refused
-module _ (s : Inputs) (l : Lists) (commands : List ℕ) (input : ℕ) (wanted : Wanted) (time : ℕ) (world : World) (c : Checked s l) where
+module _ (s : Inputs) (l : Lists) (commands : List ℕ) (input : ℕ) (wanted : Option Source) (time : ℕ) (world : World) (c : Checked s l) where
   pub routed_keeps : input < s.count → wanted_fits s wanted ≡ true → time ≤ time_limit → Checked (routed input wanted time world s l).inputs (routed input wanted time world s l).lists
   unfolding routed
   routed_keeps there fits soon =

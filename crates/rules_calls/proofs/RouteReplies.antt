@@ -1,4 +1,5 @@
 -- What `route` leaves, case by case, as the code goes. Assumes nothing.
+use Rattle.std.specs.Prelude.{Option}
 use Prim.Native.Nat.{ℕ, ◌+◌, ◌*◌, ◌<◌, ◌≤◌, zero-le}
 use mathlib.Core.Bool.{Bool, true, false}
 use mathlib.Core.Path.{◌≡◌, refl, sym, ap, subst, ◌∙◌}
@@ -12,7 +13,6 @@ use Rattle.base.specs.Lists.{padded}
 use Rattle.base.specs.Limits.{counter_limit}
 use Rattle.base.proofs.Choices.{yes_pick, no_pick, pick_all}
 use Rattle.base.proofs.Words.{laid, sets_append}
-use Rattle.rules_record.specs.declared.Routed.{Routed}
 use Rattle.rules_record.specs.declared.Slot.{Slot}
 use Rattle.rules_record.specs.declared.Inputs.{Inputs}
 use Rattle.rules_record.specs.Inputs.{slot_at}
@@ -29,12 +29,13 @@ use Rattle.rules_record.proofs.Checked.{checked_output}
 use Rattle.rules_record.proofs.Numbers.{input_told, record_whole, call_fitting, call_input, call_low}
 use Rattle.rules_record.proofs.Replies.{reply_refused, reply_accepted}
 use Rattle.rules_routing.specs.Clear.{cleared_slot, cleared}
-use Rattle.rules_calls.specs.declared.Wanted.{Wanted}
 use Rattle.rules_calls.specs.RouteChecks.{route_number}
 use Rattle.rules_calls.specs.Route.{enrolled_for, route_for, equal_route, forgetting, zeroing, starts_over, started_over, routed_slot, opened_for, moved, sending, rerouted, routed_to, routed}
 use Rattle.rules_calls.specs.RouteReply.{route_reply}
 use Rattle.rules_calls.proofs.RouteCases.{Wrote}
 use Rattle.rules_calls.proofs.Enrolling.{for_slot, for_count, for_fitting}
+use Rattle.rules_calls.specs.declared.Source.{Source}
+use Rattle.rules_record.specs.declared.Route.{Route}
 
 -- the words of a list, laid over others after which more are laid
 lay_more : (n from : ℕ) (first next : List ℕ) {zeros between after : List ℕ} → zeros ≡ replicate n 0 → from ≡ length first → between ≡ sets zeros 0 first → after ≡ sets between from next → length (first ++ next) ≤ n
@@ -48,11 +49,11 @@ lay_more n from first next {zeros} is-zeros is-from is-between is-after room =
     ∙ laid n (first ++ next) room
 
 -- a new route leaves the reopens
-pub routed_reopens : (new : Routed) (time : ℕ) (slot : Slot) → (routed_slot new time slot).reopens ≡ slot.reopens
+pub routed_reopens : (new : Option Route) (time : ℕ) (slot : Slot) → (routed_slot new time slot).reopens ≡ slot.reopens
 unfolding routed_slot started_over
 routed_reopens new time slot = pick_all (λ (x : Slot). x.reopens ≡ slot.reopens) (starts_over new slot) refl refl
 
-module _ (s : Inputs) (l : Lists) (commands : List ℕ) (input : ℕ) (wanted : Wanted) (time : ℕ) (world : World) {n : ℕ} (is_number : n ≡ route_number s l (length commands) input wanted time world) where
+module _ (s : Inputs) (l : Lists) (commands : List ℕ) (input : ℕ) (wanted : Option Source) (time : ℕ) (world : World) {n : ℕ} (is_number : n ≡ route_number s l (length commands) input wanted time world) where
   pub route_refused : (n ≡ 0 → ⊥) → ◌≡◌ {A = Reply} (record { number = n; inputs = s; lists = l; commands = commands }) (route_reply s l commands input wanted time world)
   unfolding route_reply
   route_refused h = reply_refused s l commands (routed input wanted time world s l) _ is_number h
@@ -82,12 +83,12 @@ module _ (s : Inputs) (l : Lists) (commands : List ℕ) (input : ℕ) (wanted : 
         let told = input_told s l (length commands) input time _ (sym is_number ∙ passed) in
         ((record_whole s l (length commands) told.0).inputs input told.1).slot.reopens
 
-    module _ {known : Inputs} {new : Routed} {slot : Slot} {zeros : List ℕ}
+    module _ {known : Inputs} {new : Option Route} {slot : Slot} {zeros : List ℕ}
         (is_Known : known ≡ enrolled_for s wanted) (is_new : new ≡ route_for known wanted) (is-slot : slot ≡ slot_at known input) (is-zeros : zeros ≡ replicate (length commands) 0) where
       effect_is : routed_to new input time world known l ≡ routed input wanted time world s l
       unfolding routed
       effect_is =
-          ap (λ (x : Routed). routed_to x input time world known l) is_new
+          ap (λ (x : Option Route). routed_to x input time world known l) is_new
           ∙ ap (λ (z : Inputs). routed_to (route_for z wanted) input time world z l) is_Known
 
       by_slot : equal_route new slot.route ≡ equal_route new (slot_at known input).route

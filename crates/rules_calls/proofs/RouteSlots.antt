@@ -1,4 +1,5 @@
 -- What `route` makes of its input's slot: no counter rises and no proposal comes. Assumes nothing.
+use Rattle.std.specs.Prelude.{None, Option, Some}
 use Prim.Native.Nat.{ℕ, ◌<◌}
 use mathlib.Core.Path.{◌≡◌, refl, sym, ap, subst, ◌∙◌}
 use mathlib.Core.List.{List}
@@ -6,9 +7,6 @@ use lib.Dec.{eqb}
 use lib.ListN.{length}
 use borrow.Author.Tests.{eqb-true, eqb-false}
 use Rattle.base.proofs.Choices.{accepted_all, by_bool, pick_all, yes_pick}
-use Rattle.rules_record.specs.declared.Routed.{Routed}
-use Rattle.rules_record.specs.declared.Routed.TheVariants.{Nowhere, To}
-use Rattle.rules_record.specs.declared.Proposal.TheVariants.{Nothing}
 use Rattle.rules_record.specs.declared.Slot.{Slot}
 use Rattle.rules_record.specs.declared.Inputs.{Inputs}
 use Rattle.rules_record.specs.States.{state_number, is_stalled}
@@ -24,12 +22,13 @@ use Rattle.rules_record.specs.Effects.{Effect, followed_by}
 use Rattle.rules_record.specs.Reply.{Reply}
 use Rattle.rules_record.proofs.Numbers.{call_low}
 use Rattle.rules_routing.specs.Clear.{cleared_slot, cleared}
-use Rattle.rules_calls.specs.declared.Wanted.{Wanted}
 use Rattle.rules_calls.specs.RouteChecks.{route_number}
 use Rattle.rules_calls.specs.Route.{enrolled_for, route_for, equal_route, starts_over, started_over, state_for, routed_slot, opened_for, moved, rerouted, routed_to, routed}
 use Rattle.rules_calls.specs.RouteReply.{route_reply}
 use Rattle.rules_calls.proofs.Enrolling.{for_slot}
 use Rattle.rules_calls.proofs.RouteFrames.{for_sized, route_other, routed_here, placed_here, placed_slot}
+use Rattle.rules_calls.specs.declared.Source.{Source}
+use Rattle.rules_record.specs.declared.Route.{Route}
 
 -- The counters of z are those of the slot, and where that has no proposal z has none.
 pub record Quiet (slot z : Slot) : Type 0 where
@@ -37,7 +36,7 @@ pub record Quiet (slot z : Slot) : Type 0 where
   pub changes : z.delay_changes ≡ slot.delay_changes
   pub lates : z.late_events ≡ slot.late_events
   pub kind : z.config ≡ slot.config
-  pub none : slot.proposed ≡ Nothing → z.proposed ≡ Nothing
+  pub none : slot.proposed ≡ None → z.proposed ≡ None
 
 pub quiet_same : (slot : Slot) → Quiet slot slot
 quiet_same slot = record { reopens = refl; changes = refl; lates = refl; kind = refl; none = λ e. e }
@@ -53,7 +52,7 @@ quiet_then slot x z a b =
     }
 
 -- ---- the new route
-module _ (new : Routed) (time : ℕ) (slot : Slot) where
+module _ (new : Option Route) (time : ℕ) (slot : Slot) where
   over_quiet : Quiet slot (started_over new time slot)
   unfolding started_over
   over_quiet = pick_all (Quiet slot) (starts_over new slot) (record { reopens = refl; changes = refl; lates = refl; kind = refl; none = λ e. refl }) (quiet_same slot)
@@ -86,7 +85,7 @@ module _ (slot : Slot) (inode head time : ℕ) (waits : state_number slot.state 
       record { reopens = q.reopens; changes = q.changes; lates = q.lates; kind = q.kind; none = q.none }
 
 -- ---- what the call does, in a record that knows the flow
-module _ (new : Routed) (i time : ℕ) (world : World) (s : Inputs) (l : Lists) (low : i < 16) (sized : Sized s) where
+module _ (new : Option Route) (i time : ℕ) (world : World) (s : Inputs) (l : Lists) (low : i < 16) (sized : Sized s) where
   placed_state : (slot_at (placed_here new i time s) i).state ≡ state_for new
   unfolding routed_slot
   placed_state = ap (λ (x : Slot). x.state) (placed_slot new i time s low sized)
@@ -94,10 +93,10 @@ module _ (new : Routed) (i time : ℕ) (world : World) (s : Inputs) (l : Lists) 
   placed_quiet : Quiet (slot_at s i) (slot_at (placed_here new i time s) i)
   placed_quiet = subst (Quiet (slot_at s i)) (sym (placed_slot new i time s low sized)) (routed_quiet new time (slot_at s i))
 
-  opens_quiet : (to : Routed) → new ≡ to → Quiet (slot_at (placed_here new i time s) i) (slot_at (opened_for to i time world (placed_here new i time s)).inputs i)
+  opens_quiet : (to : Option Route) → new ≡ to → Quiet (slot_at (placed_here new i time s) i) (slot_at (opened_for to i time world (placed_here new i time s)).inputs i)
   unfolding quiet
-  opens_quiet Nowhere e = quiet_same (slot_at (placed_here new i time s) i)
-  opens_quiet (To route) e =
+  opens_quiet None e = quiet_same (slot_at (placed_here new i time s) i)
+  opens_quiet (Some route) e =
       let waits : state_number (slot_at (placed_here new i time s) i).state ≡ 1 = ap state_number (placed_state ∙ ap state_for e) in
       open_outcomes i low (placed_here new i time s) time world (sized_put s i (routed_here new i time s) sized) (λ (x : Slot) (words : List ℕ). Quiet (slot_at (placed_here new i time s) i) x)
       (quiet_same (slot_at (placed_here new i time s) i))
@@ -113,7 +112,7 @@ module _ (new : Routed) (i time : ℕ) (world : World) (s : Inputs) (l : Lists) 
   to_quiet = pick_all (λ (effect : Effect). Quiet (slot_at s i) (slot_at effect.inputs i)) (equal_route new (slot_at s i).route) (quiet_same (slot_at s i)) moved_quiet
 
 -- ---- the call, accepted or refused
-module _ (s : Inputs) (l : Lists) (commands : List ℕ) (input : ℕ) (wanted : Wanted) (time : ℕ) (world : World) (sized : Sized s) where
+module _ (s : Inputs) (l : Lists) (commands : List ℕ) (input : ℕ) (wanted : Option Source) (time : ℕ) (world : World) (sized : Sized s) where
   pub routed_input_quiet : input < 16 → Quiet (slot_at s input) (slot_at (routed input wanted time world s l).inputs input)
   unfolding routed
   routed_input_quiet low =

@@ -1,4 +1,5 @@
 -- The window, the hold and the delay of an input after an accepted `route`, with the words that it sends. Assumes nothing.
+use Rattle.std.specs.Prelude.{None, Option}
 use Prim.Native.Nat.{ℕ, ◌<◌, ◌≤◌}
 use mathlib.Core.Bool.{Bool, true, false}
 use mathlib.Core.Path.{◌≡◌, refl, sym, ap, subst, ◌∙◌}
@@ -10,10 +11,8 @@ use Rattle.base.proofs.Choices.{pick_rule}
 use Rattle.rules_window.specs.Window.{Window, fresh, windowed}
 use Rattle.rules_window.specs.Parts.{part_of}
 use Rattle.delay_hold.specs.Next.{Held, held, fresh_hold, cleared_hold, seeded_hold}
-use Rattle.rules_record.specs.declared.Routed.{Routed}
 use Rattle.rules_record.specs.declared.Slot.{Slot}
 use Rattle.rules_record.specs.declared.Inputs.{Inputs}
-use Rattle.rules_record.specs.declared.Proposal.TheVariants.{Nothing}
 use Rattle.rules_record.specs.Slots.{with_delay, with_proposed}
 use Rattle.rules_record.specs.Inputs.{slot_at}
 use Rattle.rules_record.specs.Commands.{set_input, set_delay}
@@ -29,27 +28,28 @@ use Rattle.rules_record.proofs.Keep.{window_beside, window_read}
 use Rattle.rules_routing.specs.Clear.{cleared_lists, cleared}
 use Rattle.rules_routing.proofs.SettingsKept.{SameSettings, settings_frame}
 use Rattle.rules_routing.proofs.TryOpenKeeps.{opened_seconds, opened_hold, opened_delay}
-use Rattle.rules_calls.specs.declared.Wanted.{Wanted}
 use Rattle.rules_calls.specs.Route.{enrolled_for, route_for, equal_route, forgetting, starts_over, zeroing, started_over, routed_slot, moved, rerouted, routed_to, routed}
 use Rattle.rules_calls.proofs.Enrolling.{for_rest, for_slot, for_count}
 use Rattle.rules_calls.proofs.RouteKeeps.{for_keeps}
 use Rattle.rules_calls.proofs.RouteFrames.{moved_frame, routed_here}
 use Rattle.rules_calls.proofs.RouteOutcomes.{moved_outcomes}
+use Rattle.rules_calls.specs.declared.Source.{Source}
+use Rattle.rules_record.specs.declared.Route.{Route}
 
 -- the delay with a new route, before the flow opens: "another flow, automatic, delay not 0: delay 0"
-abbrev pub delay_for : Routed → Slot → ℕ
+abbrev pub delay_for : Option Route → Slot → ℕ
 delay_for new slot = pick (starts_over new slot) 0 slot.delay
 
-pub over_delay : (new : Routed) (time : ℕ) (slot : Slot) → (started_over new time slot).delay ≡ delay_for new slot
+pub over_delay : (new : Option Route) (time : ℕ) (slot : Slot) → (started_over new time slot).delay ≡ delay_for new slot
 unfolding started_over
 over_delay new time slot = by (starts_over new slot)
   where
-    by : (over : Bool) → (pick over (with_proposed (with_delay slot 0 time) Nothing) slot).delay ≡ pick over 0 slot.delay
+    by : (over : Bool) → (pick over (with_proposed (with_delay slot 0 time) None) slot).delay ≡ pick over 0 slot.delay
     by true = refl
     by false = refl
 
 -- ---- another route, in a record that knows its flow
-module _ (new : Routed) (i time : ℕ) (world : World) (s : Inputs) (l : Lists) (c : Checked s l) (h : i < s.count) where
+module _ (new : Option Route) (i time : ℕ) (world : World) (s : Inputs) (l : Lists) (c : Checked s l) (h : i < s.count) where
   abbrev after : Inputs
   after = (moved new i time world s l).inputs
 
@@ -124,12 +124,12 @@ module _ (new : Routed) (i time : ℕ) (world : World) (s : Inputs) (l : Lists) 
     moved_views = subst (λ (w : Window). P w (held_of after m i) (slot_at after i).delay (moved new i time world s l).words) (sym window_under) read_ends
 
 -- ---- the call, accepted
-module _ (s : Inputs) (l : Lists) (i : ℕ) (wanted : Wanted) (time : ℕ) (world : World) (c : Checked s l) (h : i < s.count) where
+module _ (s : Inputs) (l : Lists) (i : ℕ) (wanted : Option Source) (time : ℕ) (world : World) (c : Checked s l) (h : i < s.count) where
   abbrev known : Inputs
   known = enrolled_for s wanted
 
   -- the route that is wanted
-  abbrev new_route : Routed
+  abbrev new_route : Option Route
   new_route = route_for known wanted
 
   for_window : window_of known l i ≡ window_of s l i

@@ -1,4 +1,5 @@
 -- When the three calls are accepted, and what their answers say, fact by fact. Assumes nothing.
+use Rattle.std.specs.Prelude.{None, Option, Some}
 use Prim.Native.Nat.{ℕ, ◌-◌, ◌<◌, ◌≤◌}
 use mathlib.Core.Bool.{true}
 use mathlib.Core.Path.{◌≡◌, refl, sym, ap, ◌∙◌}
@@ -8,15 +9,13 @@ use Rattle.base.specs.Limits.{time_limit}
 use Rattle.base.proofs.Choices.{yes_ask, yes_pick, refused_old}
 use Rattle.base.proofs.Points.{both_true, true_both}
 use Rattle.doubles.specs.Doubles.{ms_of}
-use Rattle.rules_window.specs.declared.Quantile.{Quantile}
+use Rattle.rules_window.specs.Quantile.{Quantile}
 use Rattle.rules_window.specs.Window.{Window}
 use Rattle.rules_window.specs.WholeWindow.{Sound}
 use Rattle.rules_window.specs.Quantile.{quantile_in, quantile_of, total_upto, thousandths}
 use Rattle.rules_window.proofs.Laws.{Holds, quantile_exists}
 use Rattle.rules_window.proofs.Numbers.{sound_placeable}
 use Rattle.rules_window.proofs.Thousandths.{thousandths_in}
-use Rattle.delay_hold.specs.declared.Moment.{Moment}
-use Rattle.delay_hold.specs.declared.Moment.TheVariants.{Never, At}
 use Rattle.delay_hold.specs.Steps5To8.{held_since}
 use Rattle.rules_record.specs.declared.Slot.{Slot}
 use Rattle.rules_record.specs.declared.Inputs.{Inputs}
@@ -26,7 +25,6 @@ use Rattle.rules_record.specs.Lent.{Lists}
 use Rattle.rules_record.proofs.Checked.{of_checked}
 use Rattle.rules_record.specs.Facts.{Checked}
 use Rattle.rules_calls.specs.declared.ArrivalLag.{ArrivalLag}
-use Rattle.rules_calls.specs.declared.Arrival.{Arrival}
 use Rattle.rules_record.specs.Checks.{input_number}
 use Rattle.rules_calls.specs.StatusChecks.{status_number, channels_number, settled_number}
 use Rattle.rules_calls.specs.Status.{arrival_of, arrival_in, no_status, status_of, status_reply}
@@ -70,15 +68,15 @@ module _ (slot : Slot) (channels wanted : ℕ) where
 -- ---- settled: yes exactly if Running, and the last SetDelay and the last SetInput, if any, are each at least hold old
 module _ (hold time : ℕ) where
   -- a command sent at this moment, if one ever went, is at least hold old
-  abbrev pub Rested : Moment → Type 0
-  Rested moment = (sent : ℕ) → moment ≡ At sent → hold ≤ time - sent
+  abbrev pub Rested : Option ℕ → Type 0
+  Rested moment = (sent : ℕ) → moment ≡ Some sent → hold ≤ time - sent
 
-  rested_of : (moment : Moment) → held_since moment hold time ≡ true → Rested moment
-  rested_of moment e sent is = leb-true _ _ (sym (ap (λ (x : Moment). held_since x hold time) is) ∙ e)
+  rested_of : (moment : Option ℕ) → held_since moment hold time ≡ true → Rested moment
+  rested_of moment e sent is = leb-true _ _ (sym (ap (λ (x : Option ℕ). held_since x hold time) is) ∙ e)
 
-  of_rested : (moment : Moment) → Rested moment → held_since moment hold time ≡ true
-  of_rested Never f = refl
-  of_rested (At sent) f = le-leb _ _ (f sent refl)
+  of_rested : (moment : Option ℕ) → Rested moment → held_since moment hold time ≡ true
+  of_rested None f = refl
+  of_rested (Some sent) f = le-leb _ _ (f sent refl)
 
   module _ (slot : Slot) where
     pub of_settled : state_number slot.state ≡ 2 → Rested slot.last_set → Rested slot.last_input → settled_slot slot hold time ≡ true
@@ -97,7 +95,7 @@ abbrev no_limit : ℕ
 no_limit = 4294967295
 
 module _ (w : Window) where
-  pub arrival_shown : Sound w → (b : ℕ) → Holds no_limit w b → (lag : ArrivalLag) × (arrival_in w ≡ Arrival.Of lag)
+  pub arrival_shown : Sound w → (b : ℕ) → Holds no_limit w b → (lag : ArrivalLag) × (arrival_in w ≡ Some lag)
   unfolding arrival_in
   arrival_shown sound b h =
       let half = found 500 (omega arith) in
@@ -108,6 +106,6 @@ module _ (w : Window) where
       found : (k : ℕ) → k ≤ 1000 → (e : ℕ) × (quantile_of (thousandths k) w ≡ Quantile.End e)
       found k few = quantile_exists (thousandths k) no_limit w (sound_placeable (thousandths k) no_limit w sound (thousandths_in k few)) b h
 
-  pub arrival_none : total_upto no_limit w ≡ 0 → arrival_in w ≡ Arrival.None
+  pub arrival_none : total_upto no_limit w ≡ 0 → arrival_in w ≡ None
   unfolding arrival_in quantile_in
   arrival_none none = ap (λ (x : Quantile). arrival_of x (quantile_of (thousandths 990) w) (quantile_of (thousandths 999) w)) (yes_pick _ _ (eq-eqb _ _ none))

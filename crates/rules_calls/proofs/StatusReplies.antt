@@ -9,8 +9,8 @@ use Rattle.base.proofs.All.{both_yes, both_no}
 use Rattle.delay_hold.specs.Steps5To8.{held_since}
 use Rattle.rules_record.specs.declared.Slot.{Slot}
 use Rattle.rules_record.specs.States.{state_number}
-use Rattle.rules_calls.specs.declared.Answer.{Answer}
-use Rattle.rules_calls.specs.declared.InputStatus.{InputStatus}
+use Rattle.rules_calls.specs.HasChannels.{Answer}
+use Rattle.rules_calls.specs.Status.{StatusReply}
 use Rattle.rules_calls.specs.Status.{no_status, status_by}
 use Rattle.rules_calls.specs.HasChannels.{answer_by, has_channels}
 use Rattle.rules_calls.specs.Settled.{settled_slot}
@@ -27,10 +27,10 @@ module _ {n : ℕ} (number : ℕ) (is_number : n ≡ number) where
       (λ t. record { number = is_number t; value = e t })
       ∙ (λ t. record { number = number; value = sym (accepted_new number false value (sym is_number ∙ passed)) t })
 
-  pub status_refused : (n ≡ 0 → ⊥) → (status : InputStatus) {given : InputStatus} → given ≡ no_status n → given ≡ status_by number status
+  pub status_refused : (n ≡ 0 → ⊥) → (status : StatusReply) {given : StatusReply} → given ≡ no_status n → given ≡ status_by number status
   status_refused h status e = e ∙ ap no_status is_number ∙ sym (refused_old number (no_status number) status (λ z. h (is_number ∙ z)))
 
-  pub status_accepted : n ≡ 0 → (status : InputStatus) {given : InputStatus} → given ≡ status → given ≡ status_by number status
+  pub status_accepted : n ≡ 0 → (status : StatusReply) {given : StatusReply} → given ≡ status → given ≡ status_by number status
   status_accepted passed status e = e ∙ sym (accepted_new number (no_status number) status (sym is_number ∙ passed))
 
 -- ---- running, or not

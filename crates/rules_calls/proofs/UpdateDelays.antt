@@ -1,4 +1,5 @@
 -- The input's delay, proposal, counters and the words sent after each call; a manual delay is not remembered. Assumes nothing.
+use Rattle.std.specs.Prelude.{Option, Some}
 use Prim.Native.Nat.{ℕ, ◌+◌, ◌<◌}
 use mathlib.Core.Path.{◌≡◌, refl, sym, ap, ◌∙◌}
 use mathlib.Core.List.{[]}
@@ -6,8 +7,6 @@ use lib.Ieee.{Float}
 use Rattle.doubles.specs.Doubles.{samples_of}
 use Rattle.rules_record.specs.declared.AutoTag.{AutoTag}
 use Rattle.rules_record.specs.declared.ExtraDelay.TheVariants.{Auto, Ms}
-use Rattle.rules_record.specs.declared.Proposal.{Proposal}
-use Rattle.rules_record.specs.declared.Proposal.TheVariants.{Pending}
 use Rattle.rules_record.specs.declared.Slot.{Slot}
 use Rattle.rules_record.specs.declared.Inputs.{Inputs}
 use Rattle.rules_record.specs.Slots.{is_auto, with_delay}
@@ -75,14 +74,14 @@ module _ (s : Inputs) (i time : ℕ) (low : i < 16) (sized : Sized s) where
     auto_words tag = refl
 
     -- ---- `confirm_delay`: the proposal is the delay in the slot and in the command, and one delay change more
-    module _ (delay : ℕ) (is-pending : (slot_at s i).proposed ≡ Pending delay) where
+    module _ (delay : ℕ) (is-pending : (slot_at s i).proposed ≡ Some delay) where
       pub confirmed_slot : slot_at (confirmed i time s l).inputs i ≡ with_delay (taken (slot_at s i)) delay time
       unfolding confirmed
-      confirmed_slot = ap (λ (x : Proposal). slot_at (confirmed_by x i time s l).inputs i) is-pending ∙ set_slot (taken (slot_at s i)) delay
+      confirmed_slot = ap (λ (x : Option ℕ). slot_at (confirmed_by x i time s l).inputs i) is-pending ∙ set_slot (taken (slot_at s i)) delay
 
       pub confirmed_words : (confirmed i time s l).words ≡ set_delay i delay
       unfolding confirmed
-      confirmed_words = ap (λ (x : Proposal). (confirmed_by x i time s l).words) is-pending ∙ set_words (taken (slot_at s i)) delay
+      confirmed_words = ap (λ (x : Option ℕ). (confirmed_by x i time s l).words) is-pending ∙ set_words (taken (slot_at s i)) delay
 
       pub confirmed_changes : (slot_at (confirmed i time s l).inputs i).delay_changes ≡ (slot_at s i).delay_changes + 1
       confirmed_changes = ap (λ (x : Slot). x.delay_changes) confirmed_slot

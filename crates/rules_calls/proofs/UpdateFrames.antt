@@ -1,4 +1,5 @@
 -- What each call leaves as it was: the settings, and the slots and lists of all other inputs. Assumes nothing.
+use Rattle.std.specs.Prelude.{None, Option, Some}
 use Prim.Native.Nat.{ℕ, ◌<◌}
 use mathlib.Core.Path.{◌≡◌, refl, ◌∙◌}
 use mathlib.Core.List.{List}
@@ -6,8 +7,6 @@ use lib.ListN.{length}
 use Rattle.base.proofs.Choices.{accepted_all}
 use Rattle.rules_record.specs.declared.ExtraDelay.{ExtraDelay}
 use Rattle.rules_record.specs.declared.ExtraDelay.TheVariants.{Auto, Ms}
-use Rattle.rules_record.specs.declared.Proposal.{Proposal}
-use Rattle.rules_record.specs.declared.Proposal.TheVariants.{Nothing, Pending}
 use Rattle.rules_record.specs.declared.Slot.{Slot}
 use Rattle.rules_record.specs.declared.Inputs.{Inputs}
 use Rattle.rules_record.specs.Inputs.{slot_at, put_slot}
@@ -57,17 +56,17 @@ module _ (s : Inputs) (i : ℕ) where
     updated_beside f h (Auto tag) time = cleared_beside s l i f h
 
     -- ---- `confirm_delay`
-    confirmed_other : (proposal : Proposal) (time j : ℕ) → (j ≡ i → ⊥) → slot_at (confirmed_by proposal i time s l).inputs j ≡ slot_at s j
-    confirmed_other Nothing time j apart = refl
-    confirmed_other (Pending delay) time j apart = set_other (taken (slot_at s i)) delay time j apart
+    confirmed_other : (proposal : Option ℕ) (time j : ℕ) → (j ≡ i → ⊥) → slot_at (confirmed_by proposal i time s l).inputs j ≡ slot_at s j
+    confirmed_other None time j apart = refl
+    confirmed_other (Some delay) time j apart = set_other (taken (slot_at s i)) delay time j apart
 
-    confirmed_settings : (proposal : Proposal) (time : ℕ) → SameSettings s (confirmed_by proposal i time s l).inputs
-    confirmed_settings Nothing time = refl
-    confirmed_settings (Pending delay) time = set_settings (taken (slot_at s i)) delay time
+    confirmed_settings : (proposal : Option ℕ) (time : ℕ) → SameSettings s (confirmed_by proposal i time s l).inputs
+    confirmed_settings None time = refl
+    confirmed_settings (Some delay) time = set_settings (taken (slot_at s i)) delay time
 
-    confirmed_lists : (proposal : Proposal) (time : ℕ) → (confirmed_by proposal i time s l).lists ≡ l
-    confirmed_lists Nothing time = refl
-    confirmed_lists (Pending delay) time = refl
+    confirmed_lists : (proposal : Option ℕ) (time : ℕ) → (confirmed_by proposal i time s l).lists ≡ l
+    confirmed_lists None time = refl
+    confirmed_lists (Some delay) time = refl
 
 -- ---- the calls, accepted or refused
 module _ (s : Inputs) (l : Lists) (commands : List ℕ) (input : ℕ) where

@@ -1,4 +1,5 @@
 -- Each call keeps a checked record checked; `confirm_delay` where one more delay change is below 2^63. Assumes nothing.
+use Rattle.std.specs.Prelude.{None, Option, Some}
 use Prim.Native.Nat.{ℕ, ◌+◌, ◌<◌, ◌≤◌}
 use mathlib.Core.Bool.{true}
 use mathlib.Core.Path.{◌≡◌, refl, sym, subst}
@@ -14,8 +15,6 @@ use Rattle.doubles.specs.Doubles.{samples_of}
 use Rattle.doubles.proofs.Delays.{manual_fits_law}
 use Rattle.rules_record.specs.declared.ExtraDelay.{ExtraDelay}
 use Rattle.rules_record.specs.declared.ExtraDelay.TheVariants.{Auto, Ms}
-use Rattle.rules_record.specs.declared.Proposal.{Proposal}
-use Rattle.rules_record.specs.declared.Proposal.TheVariants.{Nothing, Pending}
 use Rattle.rules_record.specs.declared.Slot.{Slot}
 use Rattle.rules_record.specs.declared.Inputs.{Inputs}
 use Rattle.rules_record.specs.Inputs.{slot_at, put_slot}
@@ -77,10 +76,10 @@ module _ (s : Inputs) (l : Lists) (i : ℕ) (c : Checked s l) (h : i < s.count) 
   taken_slot few =
       record { delay = old.delay; proposed = refl; route = old.route; reopens = old.reopens; changes = few; lates = old.lates; head = old.head; set = old.set; opened = old.opened }
 
-  confirmed_by_law : (proposal : Proposal) → proposal_fits proposal s.policy.delay_max ≡ true → (time : ℕ) → (slot_at s i).delay_changes + 1 < counter_limit → time ≤ time_limit
+  confirmed_by_law : (proposal : Option ℕ) → proposal_fits proposal s.policy.delay_max ≡ true → (time : ℕ) → (slot_at s i).delay_changes + 1 < counter_limit → time ≤ time_limit
       → Checked (confirmed_by proposal i time s l).inputs (confirmed_by proposal i time s l).lists
-  confirmed_by_law Nothing fits time few soon = c
-  confirmed_by_law (Pending delay) fits time few soon = set_keeps (taken (slot_at s i)) (taken_slot few) refl refl delay time (leb-true _ _ fits) soon
+  confirmed_by_law None fits time few soon = c
+  confirmed_by_law (Some delay) fits time few soon = set_keeps (taken (slot_at s i)) (taken_slot few) refl refl delay time (leb-true _ _ fits) soon
 
   pub confirmed_keeps : (time : ℕ) → (slot_at s i).delay_changes + 1 < counter_limit → time ≤ time_limit → Checked (confirmed i time s l).inputs (confirmed i time s l).lists
   unfolding confirmed

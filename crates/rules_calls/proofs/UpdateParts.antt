@@ -1,4 +1,5 @@
 -- The parts of the calls, as the code goes: a slot changed, a delay set. Assumes nothing.
+use Rattle.std.specs.Prelude.{None}
 use Prim.Native.Nat.{ℕ, ◌+◌, ◌≤◌}
 use mathlib.Core.Bool.{Bool}
 use mathlib.Core.Path.{◌≡◌, sym, ap, subst, ◌∙◌}
@@ -11,7 +12,6 @@ use Rattle.base.specs.Lists.{padded}
 use Rattle.base.proofs.Words.{laid}
 use Rattle.rules_record.specs.declared.ExtraDelay.{ExtraDelay}
 use Rattle.rules_record.specs.declared.ExtraDelay.TheVariants.{Ms}
-use Rattle.rules_record.specs.declared.Proposal.TheVariants.{Nothing}
 use Rattle.rules_record.specs.declared.Slot.{Slot}
 use Rattle.rules_record.specs.declared.Inputs.{Inputs}
 use Rattle.rules_record.specs.Slots.{with_config, with_proposed, with_delay_changes}
@@ -32,10 +32,10 @@ pub kind_asked : (setting : DelaySetting) (maximum : ℕ) {kind : ExtraDelay} {f
 kind_asked setting maximum e h = h ∙ ap (λ (x : ExtraDelay). kind_fits x maximum) e
 
 -- ---- the slot
-pub kind_by : (slot : Slot) (kind : ExtraDelay) {stored r : Slot} → stored ≡ with_config slot (record { extra_delay = kind }) → r ≡ with_proposed stored Nothing → r ≡ kind_stored slot kind
-kind_by slot kind e h = h ∙ ap (λ (x : Slot). with_proposed x Nothing) e
+pub kind_by : (slot : Slot) (kind : ExtraDelay) {stored r : Slot} → stored ≡ with_config slot (record { extra_delay = kind }) → r ≡ with_proposed stored None → r ≡ kind_stored slot kind
+kind_by slot kind e h = h ∙ ap (λ (x : Slot). with_proposed x None) e
 
-pub taken_by_law : (slot : Slot) {rest r : Slot} → rest ≡ with_proposed slot Nothing → r ≡ with_delay_changes rest (slot.delay_changes + 1) → r ≡ taken slot
+pub taken_by_law : (slot : Slot) {rest r : Slot} → rest ≡ with_proposed slot None → r ≡ with_delay_changes rest (slot.delay_changes + 1) → r ≡ taken slot
 taken_by_law slot e h = h ∙ ap (λ (x : Slot). with_delay_changes x (slot.delay_changes + 1)) e
 
 -- ---- the delay

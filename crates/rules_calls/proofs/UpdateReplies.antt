@@ -1,4 +1,5 @@
 -- What the two calls leave, case by case, as the code goes. Assumes nothing.
+use Rattle.std.specs.Prelude.{None, Option, Some}
 use Prim.Native.Nat.{ℕ, ◌<◌, ◌≤◌, zero-le}
 use mathlib.Core.Path.{◌≡◌, refl, sym, ap, subst, ◌∙◌}
 use mathlib.Core.List.{List, []}
@@ -13,8 +14,6 @@ use Rattle.doubles.specs.Doubles.{samples_of}
 use Rattle.rules_record.specs.declared.AutoTag.{AutoTag}
 use Rattle.rules_record.specs.declared.ExtraDelay.{ExtraDelay}
 use Rattle.rules_record.specs.declared.ExtraDelay.TheVariants.{Auto, Ms}
-use Rattle.rules_record.specs.declared.Proposal.{Proposal}
-use Rattle.rules_record.specs.declared.Proposal.TheVariants.{Nothing, Pending}
 use Rattle.rules_record.specs.declared.Slot.{Slot}
 use Rattle.rules_record.specs.declared.Inputs.{Inputs}
 use Rattle.rules_record.specs.Inputs.{slot_at}
@@ -85,14 +84,14 @@ module _ (s : Inputs) (l : Lists) (commands : List ℕ) (input time : ℕ) {n : 
   confirm_refused h is_number = reply_refused s l commands (confirmed input time s l) _ is_number h
 
   module _ (passed : n ≡ 0) {slot : Slot} (is-slot : slot ≡ slot_at s input) where
-    proposed_is : (proposal : Proposal) → slot.proposed ≡ proposal → (slot_at s input).proposed ≡ proposal
+    proposed_is : (proposal : Option ℕ) → slot.proposed ≡ proposal → (slot_at s input).proposed ≡ proposal
     proposed_is proposal e = sym (ap (λ (x : Slot). x.proposed) is-slot) ∙ e
 
-    pub confirm_nothing : slot.proposed ≡ Nothing → ◌≡◌ {A = Reply} (record { number = 13; inputs = s; lists = l; commands = commands }) (confirm_reply s l commands input time)
+    pub confirm_nothing : slot.proposed ≡ None → ◌≡◌ {A = Reply} (record { number = 13; inputs = s; lists = l; commands = commands }) (confirm_reply s l commands input time)
     unfolding confirm_reply confirm_number
     confirm_nothing e =
         reply_refused s l commands (confirmed input time s l) _
-        (passed_by_law s l (length commands) input time is-input passed 13 (no_ask 13 0 (ap pending (proposed_is Nothing e))))
+        (passed_by_law s l (length commands) input time is-input passed 13 (no_ask 13 0 (ap pending (proposed_is None e))))
         (λ z. omega arith)
 
     pub taken_asked : slot.delay_changes < counter_limit
@@ -102,16 +101,16 @@ module _ (s : Inputs) (l : Lists) (commands : List ℕ) (input time : ℕ) {n : 
     confirm_asked =
         (call_room s l (length commands) input time 0 (sym is-input ∙ passed), call_low s l (length commands) input time 0 (sym is-input ∙ passed))
 
-    pub confirm_pending : {delay : ℕ} {changed : Slot} {all : Inputs} {after : List ℕ} → slot.proposed ≡ Pending delay → changed ≡ taken slot
+    pub confirm_pending : {delay : ℕ} {changed : Slot} {all : Inputs} {after : List ℕ} → slot.proposed ≡ Some delay → changed ≡ taken slot
         → (all ≡ (delay_set input changed delay time s).inputs) × (after ≡ padded (length commands) (delay_set input changed delay time s).words)
         → ◌≡◌ {A = Reply} (record { number = n; inputs = all; lists = l; commands = after }) (confirm_reply s l commands input time)
     unfolding confirm_reply confirm_number confirmed
     confirm_pending {delay} {changed} is-pending is-taken is_set =
         reply_accepted s l commands (confirmed input time s l) _
-        (passed ∙ passed_by_law s l (length commands) input time is-input passed 0 (yes_ask 13 0 (ap pending (proposed_is (Pending delay) is-pending))))
+        (passed ∙ passed_by_law s l (length commands) input time is-input passed 0 (yes_ask 13 0 (ap pending (proposed_is (Some delay) is-pending))))
         passed (beside l (delay_set input changed delay time s)) same is_set.0 refl is_set.1
       where
         same : beside l (delay_set input changed delay time s) ≡ confirmed input time s l
         same =
             ap (λ (x : Slot). beside l (delay_set input x delay time s)) (is-taken ∙ ap taken is-slot)
-            ∙ sym (ap (λ (x : Proposal). confirmed_by x input time s l) (proposed_is (Pending delay) is-pending))
+            ∙ sym (ap (λ (x : Option ℕ). confirmed_by x input time s l) (proposed_is (Some delay) is-pending))

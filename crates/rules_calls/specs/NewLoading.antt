@@ -1,9 +1,8 @@
 -- "the remembered delays that the host loaded, each any u32; a flow named twice keeps the last". Assumes nothing.
-use Rattle.std.specs.Prelude.{ℕ, zero, suc, ◌*◌, ◌<◌, Bool, ◌≡◌, List, get_or}
+use Rattle.std.specs.Prelude.{ℕ, zero, suc, ◌*◌, ◌<◌, Bool, ◌≡◌, List, get_or, Some}
 use Rattle.base.specs.Lists.{all}
 use Rattle.rules_record.specs.declared.Flow.{Flow}
 use Rattle.rules_record.specs.declared.Inputs.{Inputs}
-use Rattle.rules_record.specs.declared.Remembered.TheVariants.{Delay}
 use Rattle.rules_record.specs.Flows.{flow_from, flow_at, recalled, admits, enrolled, flow_place, kept}
 
 -- the flow of loaded delay k
@@ -28,4 +27,4 @@ pub record Remembers (s : Inputs) (flow : Flow) (delay : ℕ) : Type 0 where
   pub place : ℕ
   pub known : place < s.flow_count
   pub holds : flow_at s place ≡ flow
-  pub has : recalled s place ≡ Delay delay
+  pub has : recalled s place ≡ Some delay

@@ -7,9 +7,8 @@ use Rattle.rules_record.specs.declared.Inputs.{Inputs}
 use Rattle.rules_record.specs.States.{is_running}
 use Rattle.rules_record.specs.Inputs.{slot_at}
 use Rattle.rules_record.specs.Lent.{Lists}
-use Rattle.rules_calls.specs.declared.Answer.{Answer}
 use Rattle.rules_calls.specs.StatusChecks.{settled_number}
-use Rattle.rules_calls.specs.HasChannels.{answer_by}
+use Rattle.rules_calls.specs.HasChannels.{Answer, answer_by}
 
 -- "Settled is now yes exactly if Running and neither a SetDelay nor a SetInput went to the input within the last hold (the last of each is at least hold old, or none ever went).
 -- This replaces the sentence marked Added in document 01."

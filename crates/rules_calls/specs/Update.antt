@@ -1,9 +1,8 @@
 -- Document 01, "Supervision", and document 02, §6: what `update` does to an input. Assumes nothing.
-use Rattle.std.specs.Prelude.{ℕ}
+use Rattle.std.specs.Prelude.{ℕ, None}
 use Rattle.doubles.specs.Doubles.{samples_of}
 use Rattle.rules_record.specs.declared.ExtraDelay.{ExtraDelay}
 use Rattle.rules_record.specs.declared.ExtraDelay.TheVariants.{Auto, Ms}
-use Rattle.rules_record.specs.declared.Proposal.TheVariants.{Nothing}
 use Rattle.rules_record.specs.declared.Slot.{Slot}
 use Rattle.rules_record.specs.declared.Inputs.{Inputs}
 use Rattle.rules_record.specs.Slots.{with_config, with_proposed}
@@ -24,7 +23,7 @@ kind_of (Desk delay) = Ms delay
 
 -- "the kind is stored, the proposal goes"
 abbrev pub kind_stored : (slot : Slot) (kind : ExtraDelay) → Slot
-kind_stored slot kind = with_proposed (with_config slot (record { extra_delay = kind })) Nothing
+kind_stored slot kind = with_proposed (with_config slot (record { extra_delay = kind })) None
 
 -- input i has this slot, and then `set_delay`
 unfoldable pub delay_set : (i : ℕ) (slot : Slot) (delay time : ℕ) (s : Inputs) → Done

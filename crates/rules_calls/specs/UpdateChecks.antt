@@ -1,13 +1,11 @@
 -- Document 01's checks of `update` and `confirm_delay` with document 02's 21, in their order. Assumes nothing.
-use Rattle.std.specs.Prelude.{ℕ, min, Bool, true, false, pos, Float}
+use Rattle.std.specs.Prelude.{ℕ, min, Bool, true, false, pos, Float, None, Option, Some}
 use Rattle.std.specs.Float.{fin}
 use Rattle.std.specs.Float.Ieee.{le}
 use Rattle.base.specs.Choice.{both, ask}
 use Rattle.doubles.specs.Doubles.{ms_of}
 use Rattle.rules_record.specs.declared.ExtraDelay.{ExtraDelay}
 use Rattle.rules_record.specs.declared.ExtraDelay.TheVariants.{Auto, Ms}
-use Rattle.rules_record.specs.declared.Proposal.{Proposal}
-use Rattle.rules_record.specs.declared.Proposal.TheVariants.{Nothing, Pending}
 use Rattle.rules_record.specs.declared.Inputs.{Inputs}
 use Rattle.rules_record.specs.Inputs.{slot_at}
 use Rattle.rules_record.specs.Lent.{Lists}
@@ -45,9 +43,9 @@ unfoldable pub update_number : (s : Inputs) (l : Lists) (words input : ℕ) (set
 update_number s l words input setting time = timed_number s l words input time (manual_number setting s.policy.delay_max)
 
 -- 13: "Is a proposal pending?"
-abbrev pub pending : Proposal → Bool
-pending Nothing = false
-pending (Pending delay) = true
+abbrev pub pending : Option ℕ → Bool
+pending None = false
+pending (Some delay) = true
 
 unfoldable pub confirm_number : (s : Inputs) (l : Lists) (words input time : ℕ) → ℕ
 confirm_number s l words input time = timed_number s l words input time (ask 13 (pending (slot_at s input).proposed) 0)

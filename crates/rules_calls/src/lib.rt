@@ -2,26 +2,13 @@
 // No code: the code that is proved equal to them stands in the crates inputs_new, inputs_route, inputs_update and inputs_status.
 #![tactic(auto)]
 
-use rules_record::{AutoTag, ExtraDelay, Flow};
+use rules_record::{AutoTag, ExtraDelay, Flow, State};
 
 // A flow in a domain.
 #[derive(Clone, Copy)]
 pub struct Source {
     pub domain: u64,
     pub flow: Flow,
-}
-
-#[derive(Clone, Copy)]
-pub enum Sourced {
-    Nowhere,
-    From(Source),
-}
-
-// Milliseconds, where there are any.
-#[derive(Clone, Copy)]
-pub enum Milliseconds {
-    None,
-    Of(f64),
 }
 
 // The quantiles 0.5, 0.99 and 0.999 of the lags, in milliseconds.
@@ -32,46 +19,24 @@ pub struct ArrivalLag {
     pub p999: f64,
 }
 
-// All three, or none.
-#[derive(Clone, Copy)]
-pub enum Arrival {
-    None,
-    Of(ArrivalLag),
-}
-
-// The status of one input. In every answer an accepted call has number 0; a refused one has the number of its check and a zero value.
+// The status of one input.
 #[derive(Clone, Copy)]
 pub struct InputStatus {
-    pub number: u32,
-    pub state: u32,
-    pub source: Sourced,
+    pub state: State,
+    pub source: Option<Source>,
     pub channels: u32,
     pub extra_delay: ExtraDelay,
     // The applied delay, and with the read offset.
     pub extra_delay_ms: f64,
     pub effective_delay_ms: f64,
-    pub proposed_delay_ms: Milliseconds,
+    pub proposed_delay_ms: Option<f64>,
     // The last lag, the quantiles, and the greatest peak.
     pub lag_ms: f64,
-    pub arrival_lag_ms: Arrival,
-    pub worst_lag_ms: Milliseconds,
+    pub arrival_lag_ms: Option<ArrivalLag>,
+    pub worst_lag_ms: Option<f64>,
     pub delay_changes: u64,
     pub late_events: u64,
     pub reopens: u64,
-}
-
-// Yes or no.
-#[derive(Clone, Copy)]
-pub struct Answer {
-    pub number: u32,
-    pub value: bool,
-}
-
-// What an input is to read: nothing, or a flow.
-#[derive(Clone, Copy)]
-pub enum Wanted {
-    Nothing,
-    From(Source),
 }
 
 // What `update` is given: automatic, or a manual delay in milliseconds, sent by the scoring program (Ms) or by the listening desk (Desk). The record keeps no sender.

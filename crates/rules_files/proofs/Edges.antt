@@ -1,4 +1,5 @@
 -- Document 02's sentences about the delay file, each at its edge. Assumes nothing.
+use Rattle.std.specs.Prelude.{None, Option, Some}
 use Prim.Native.Nat.{ℕ}
 use mathlib.Core.Bool.{true, false}
 use mathlib.Core.Path.{◌≡◌, refl}
@@ -9,8 +10,6 @@ use Rattle.base.specs.Lists.{padded, listed, sum, all}
 use Rattle.byte_order.specs.Bytes.{bytes_at, little_at, byte_of}
 use Rattle.rules_record.specs.declared.Flow.{Flow}
 use Rattle.rules_record.specs.declared.FlowEntry.{FlowEntry}
-use Rattle.rules_record.specs.declared.Remembered.{Remembered}
-use Rattle.rules_record.specs.declared.Remembered.TheVariants.{Never, Delay}
 use Rattle.rules_record.specs.Flows.{empty_entry}
 use Rattle.rules_files.specs.Files.{lower_flow, rises, head_byte, flow_byte, entry_byte, file_byte, file_of, count_in, flow_in, delay_in, headed}
 use Rattle.rules_files.specs.ReadFile.{read_number, flow_byte_in, flows_read, delays_read, read_reply}
@@ -87,11 +86,11 @@ unfolding read_reply read_number ask headed both little_at count_in
 refused_writes_nothing = refl
 
 -- "A known flow with no remembered delay is not written", the lowest flow first; a remembered 0 is remembered
-abbrev entry : (low : ℕ) (remembered : Remembered) → FlowEntry
+abbrev entry : (low : ℕ) (remembered : Option ℕ) → FlowEntry
 entry low remembered = record { flow = record { high = 0; low = low }; remembered = remembered }
 
 abbrev table : List FlowEntry
-table = entry 9 (Delay 90) ∷ entry 1 Never ∷ entry 2 (Delay 0) ∷ entry 5 (Delay 50) ∷ []
+table = entry 9 (Some 90) ∷ entry 1 None ∷ entry 2 (Some 0) ∷ entry 5 (Some 50) ∷ []
 
 pub delays_in_order :
     held_count table ∷ (sorted_flow table 0).low ∷ (sorted_flow table 1).low ∷ (sorted_flow table 2).low ∷ sorted_delay table 0 ∷ sorted_delay table 1 ∷ sorted_delay table 2 ∷ []

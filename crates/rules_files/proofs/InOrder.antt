@@ -1,4 +1,5 @@
 -- A table whose flows already rise is written in the order of its places. Assumes nothing.
+use Rattle.std.specs.Prelude.{None, Some}
 use Prim.Native.Nat.{ℕ, zero, suc, ◌+◌, ◌-◌, ◌*◌, ◌/◌, ◌%◌, ◌<◌, ◌≤◌}
 use mathlib.Core.Bool.{true, false}
 use mathlib.Core.Path.{◌≡◌, refl, sym, ap, ap₂, ◌∙◌}
@@ -12,7 +13,6 @@ use Rattle.base.specs.Choice.{pick, both}
 use Rattle.base.specs.Lists.{sum}
 use Rattle.base.proofs.Choices.{yes_pick, no_pick, by_le, lt_yes}
 use Rattle.rules_record.specs.declared.Flow.{Flow}
-use Rattle.rules_record.specs.declared.Remembered.TheVariants.{Never, Delay}
 use Rattle.rules_record.specs.declared.FlowEntry.{FlowEntry}
 use Rattle.rules_record.specs.Flows.{entry_in}
 use Rattle.rules_files.specs.Files.{lower_flow, rises, head_byte, entry_byte, file_byte, file_of}
@@ -39,8 +39,8 @@ sum_ones f p (suc m) l g h =
 pub record Stands (n : ℕ) (flows : ℕ → Flow) (delays : ℕ → ℕ) (table : List FlowEntry) : Type 0 where
   pub most : n ≤ 64
   pub flow : (k : ℕ) → k < n → flow_of table k ≡ flows k
-  pub delay : (k : ℕ) → k < n → (entry_in table k).remembered ≡ Delay (delays k)
-  pub none : (k : ℕ) → n ≤ k → (entry_in table k).remembered ≡ Never
+  pub delay : (k : ℕ) → k < n → (entry_in table k).remembered ≡ Some (delays k)
+  pub none : (k : ℕ) → n ≤ k → (entry_in table k).remembered ≡ None
 
 -- a file tells only of its entries
 pub file_cong : (version head rate n : ℕ) (f g : ℕ → Flow) (d e : ℕ → ℕ) → ((k : ℕ) → k < n → f k ≡ g k) → ((k : ℕ) → k < n → d k ≡ e k) → file_of version head rate n f d ≡ file_of version head rate n g e

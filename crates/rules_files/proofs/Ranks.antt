@@ -1,4 +1,5 @@
 -- The remembered delays of a flow table in the order of their flows: each rank is taken, the flows rise. Assumes nothing.
+use Rattle.std.specs.Prelude.{None, Option, Some}
 use Prim.Native.Nat.{ℕ, zero, suc, ◌+◌, ◌-◌, ◌<◌, ◌≤◌}
 use mathlib.Core.Bool.{Bool, true, false}
 use mathlib.Core.Path.{◌≡◌, refl, sym, ap, ap₂, ◌∙◌}
@@ -15,8 +16,6 @@ use Rattle.base.proofs.Points.{both_true, true_both, sum_zero, sum_bump, all_int
 use Rattle.base.proofs.Tests.{not_both}
 use Rattle.rules_record.specs.declared.Flow.{Flow}
 use Rattle.rules_record.specs.declared.FlowEntry.{FlowEntry}
-use Rattle.rules_record.specs.declared.Remembered.{Remembered}
-use Rattle.rules_record.specs.declared.Remembered.TheVariants.{Never, Delay}
 use Rattle.rules_record.specs.Flows.{empty_entry}
 use Rattle.rules_files.specs.Files.{lower_flow, rises, Widths}
 use Rattle.rules_files.specs.Table.{has_delay, delay_of, flow_of, held, one, held_count, held_below, rank, ranked_below, sorted_flow, sorted_delay, TableWidths}
@@ -216,9 +215,9 @@ pub held_most : (table : List FlowEntry) → held_count table ≤ 64
 unfolding held_count
 held_most table = ones_most table 64
 
-pub delay_held : (r : Remembered) → has_delay r ≡ true → r ≡ Delay (delay_of r)
-delay_held Never h = absurd (not_both h refl)
-delay_held (Delay delay) h = refl
+pub delay_held : (r : Option ℕ) → has_delay r ≡ true → r ≡ Some (delay_of r)
+delay_held None h = absurd (not_both h refl)
+delay_held (Some delay) h = refl
 
 pub sorted_widths : (table : List FlowEntry) → TableWidths table → Widths (held_count table) (sorted_flow table) (sorted_delay table)
 unfolding sorted_flow sorted_delay

@@ -75,14 +75,14 @@ module _ (version head : ℕ) (file flows delays : List ℕ) where
   read_reply_accepted z = accepted_new (read_number version head file (length flows) (length delays)) _ _ z
 
 module _ (version head : ℕ) (file flows delays : List ℕ) {number : ℕ} (e : number ≡ read_number version head file (length flows) (length delays)) where
-  pub read_refused : (number ≡ 0 → ⊥) → left_read (record { number = number; count = 0 }) flows delays ≡ read_reply version head file flows delays
+  pub read_refused : (number ≡ 0 → ⊥) → ◌≡◌ {A = LeftByReader} (record { number = number; count = 0; flows = flows; delays = delays }) (read_reply version head file flows delays)
   unfolding read_reply
   read_refused h =
-      ap (λ (n : ℕ). left_read (record { number = n; count = 0 }) flows delays) e
+      ap (λ (n : ℕ). let left : LeftByReader = record { number = n; count = 0; flows = flows; delays = delays } in left) e
       ∙ sym (refused_old (read_number version head file (length flows) (length delays)) _ _ (λ z. h (e ∙ z)))
 
   pub read_accepted : number ≡ 0 → {count : ℕ} → count ≡ count_in file → {fs ds : List ℕ} → fs ≡ padded 1024 (listed (flow_byte_in file head) (count * 16)) → ds ≡ padded 64 (listed (delay_in file head) count)
-      → left_read (record { number = number; count = count }) fs ds ≡ read_reply version head file flows delays
+      → ◌≡◌ {A = LeftByReader} (record { number = number; count = count; flows = fs; delays = ds }) (read_reply version head file flows delays)
   unfolding read_reply flows_read delays_read
   read_accepted h {count} c {fs} {ds} f d =
       rw (f, d, c, h) (sym (read_reply_accepted version head file flows delays (sym e ∙ h)))

@@ -77,13 +77,13 @@ module _ (version head rate : ℕ) (s : Inputs) (l : Lists) (file : List ℕ) wh
   write_reply_accepted z = accepted_new (write_number head s l (length file)) _ _ z
 
 module _ (version head rate : ℕ) (s : Inputs) (l : Lists) (file : List ℕ) {number : ℕ} (e : number ≡ write_number head s l (length file)) where
-  pub write_refused : (number ≡ 0 → ⊥) → left_written (record { number = number; length = 0 }) file ≡ write_reply version head rate s l file
+  pub write_refused : (number ≡ 0 → ⊥) → ◌≡◌ {A = LeftByWriter} (record { number = number; length = 0; file = file }) (write_reply version head rate s l file)
   unfolding write_reply
   write_refused h =
-      ap (λ (n : ℕ). left_written (record { number = n; length = 0 }) file) e
+      ap (λ (n : ℕ). let left : LeftByWriter = record { number = n; length = 0; file = file } in left) e
       ∙ sym (refused_old (write_number head s l (length file)) _ _ (λ z. h (e ∙ z)))
 
   pub write_accepted : number ≡ 0 → {count : ℕ} → count ≡ held_count s.flows → {out : List ℕ} → out ≡ padded (head + 1280) (listed (file_byte version head rate count (sorted_flow s.flows) (sorted_delay s.flows)) (head + count * 20))
-      → left_written (record { number = number; length = head + count * 20 }) out ≡ write_reply version head rate s l file
+      → ◌≡◌ {A = LeftByWriter} (record { number = number; length = head + count * 20; file = out }) (write_reply version head rate s l file)
   unfolding table_file file_of
   write_accepted h {count} c {out} f = rw (f, c, h) (sym (write_reply_accepted version head rate s l file (sym e ∙ h)))

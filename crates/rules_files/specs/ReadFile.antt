@@ -1,8 +1,9 @@
 -- The reader of a delay file: its checks and what it leaves. Assumes nothing.
-use Rattle.std.specs.Prelude.{ℕ, ◌+◌, ◌*◌, ◌/◌, ◌%◌, List, eqb, get_or, length}
+use Rattle.std.specs.Prelude.{Result, ℕ, ◌+◌, ◌*◌, ◌/◌, ◌%◌, List, eqb, get_or, length}
 use Rattle.base.specs.Choice.{ask, accepted}
 use Rattle.base.specs.Lists.{padded, listed}
-use Rattle.rules_files.specs.declared.DelayRead.{DelayRead}
+use Rattle.refusals.specs.declared.Refusal.{Refusal}
+use Rattle.refusals.specs.Numbers.{number_in, value_in}
 use Rattle.rules_files.specs.Files.{rises, count_in, flow_in, delay_in, headed}
 
 -- "Number 19 is for a wrong mark, version, count or length, asked first in the reader; 20 for flows that do not rise, asked last in the reader":
@@ -32,8 +33,9 @@ pub record LeftByReader : Type 0 where
   pub flows : List ℕ
   pub delays : List ℕ
 
-abbrev pub left_read : (answer : DelayRead) (flows delays : List ℕ) → LeftByReader
-left_read answer flows delays = record { number = answer.number; count = answer.count; flows = flows; delays = delays }
+-- .. of each case of what the reader gives, which is a count
+abbrev pub left_read : Result ℕ Refusal → (flows delays : List ℕ) → LeftByReader
+left_read result flows delays = record { number = number_in result; count = value_in 0 result; flows = flows; delays = delays }
 
 -- ".. and answers the count"; refused: "that number, a zero value, and record and buffers unchanged"
 unfoldable pub read_reply : (version head : ℕ) (file flows delays : List ℕ) → LeftByReader

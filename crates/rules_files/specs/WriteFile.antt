@@ -1,5 +1,5 @@
 -- The writer of the remembered delays: its checks and what it leaves. Assumes nothing.
-use Rattle.std.specs.Prelude.{ℕ, ◌+◌, ◌*◌, List, length}
+use Rattle.std.specs.Prelude.{Result, ℕ, ◌+◌, ◌*◌, List, length}
 use Rattle.base.specs.Choice.{accepted}
 use Rattle.base.specs.Lists.{padded}
 use Rattle.rules_record.specs.declared.FlowEntry.{FlowEntry}
@@ -7,7 +7,8 @@ use Rattle.rules_record.specs.declared.Inputs.{Inputs}
 use Rattle.rules_record.specs.declared.Output.TheVariants.{Bytes}
 use Rattle.rules_record.specs.Lent.{Lists}
 use Rattle.rules_record.specs.Checks.{record_number}
-use Rattle.rules_files.specs.declared.DelayWritten.{DelayWritten}
+use Rattle.refusals.specs.declared.Refusal.{Refusal}
+use Rattle.refusals.specs.Numbers.{number_in, value_in}
 use Rattle.rules_files.specs.Files.{file_of}
 use Rattle.rules_files.specs.Table.{held_count, sorted_flow, sorted_delay}
 
@@ -25,8 +26,9 @@ pub record LeftByWriter : Type 0 where
   pub length : ℕ
   pub file : List ℕ
 
-abbrev pub left_written : (answer : DelayWritten) (file : List ℕ) → LeftByWriter
-left_written answer file = record { number = answer.number; length = answer.length; file = file }
+-- .. of each case of what the writer gives, which is a length
+abbrev pub left_written : Result ℕ Refusal → (file : List ℕ) → LeftByWriter
+left_written result file = record { number = number_in result; length = value_in 0 result; file = file }
 
 -- ".. the unused ones zero, and it answers the length"; refused: "that number, a zero value, and record and buffers unchanged"
 unfoldable pub write_reply : (version head rate : ℕ) (s : Inputs) (l : Lists) (file : List ℕ) → LeftByWriter

@@ -1,5 +1,5 @@
 -- Document 01's sentences about one input and the two tables, each at its edge. Assumes nothing.
-use Rattle.std.specs.Prelude.{◌≡◌, ℕ, ◌<◌, ◌≤◌, Bool, true, false, not, ltb, [], ◌∷◌, replicate}
+use Rattle.std.specs.Prelude.{◌≡◌, ℕ, ◌<◌, ◌≤◌, Bool, true, false, not, ltb, [], ◌∷◌, replicate, None, Option, Some}
 use mathlib.Core.Path.{refl, sym, ap, ◌∙◌}
 use Rattle.base.specs.Choice.{pick, both}
 use Rattle.policy.specs.declared.DelayPolicy.{DelayPolicy}
@@ -19,15 +19,9 @@ use Rattle.rules_record.specs.declared.ExtraDelay.TheVariants.{Auto, Ms}
 use Rattle.rules_record.specs.declared.State.{State}
 use Rattle.rules_record.specs.declared.State.TheVariants.{Unrouted, Waiting, Running, Stalled}
 use Rattle.rules_record.specs.declared.Route.{Route}
-use Rattle.rules_record.specs.declared.Routed.TheVariants.{Nowhere, To}
-use Rattle.rules_record.specs.declared.Inode.{Inode}
-use Rattle.rules_record.specs.declared.Inode.TheVariants.{Gone, Of}
 use Rattle.rules_record.specs.declared.Flow.{Flow}
-use Rattle.rules_record.specs.declared.Remembered.{Remembered}
-use Rattle.rules_record.specs.declared.Remembered.TheVariants.{Never, Delay}
 use Rattle.rules_record.specs.declared.Slot.{Slot}
 use Rattle.rules_record.specs.declared.Instance.{Instance}
-use Rattle.rules_record.specs.declared.Extra.{Extra}
 use Rattle.rules_record.specs.declared.Inputs.{Inputs}
 use Rattle.rules_record.specs.Slots.{is_auto, empty_slot, with_state, with_route, with_inode, with_delay, with_last_input}
 use Rattle.rules_record.specs.States.{state_number}
@@ -44,26 +38,26 @@ states_numbered = refl
 -- "remembers the delay for the flow .. (marking the table unsaved if it differs)"
 module _ (s : Inputs) (place delay : ℕ) where
   -- a flow's first delay, 0 too, marks the table
-  pub first_delay_marks : recalled s place ≡ Never → (remembered s place delay).unsaved ≡ true
+  pub first_delay_marks : recalled s place ≡ None → (remembered s place delay).unsaved ≡ true
   unfolding remembered
-  first_delay_marks e = ap (λ (z : Inputs). z.unsaved) (yes_pick (marked (kept s place delay)) (kept s place delay) (ap (λ (x : Remembered). differs x delay) e))
+  first_delay_marks e = ap (λ (z : Inputs). z.unsaved) (yes_pick (marked (kept s place delay)) (kept s place delay) (ap (λ (x : Option ℕ). differs x delay) e))
 
   -- the same delay leaves the mark as it is
-  pub same_delay_leaves_the_mark : recalled s place ≡ Delay delay → (remembered s place delay).unsaved ≡ s.unsaved
+  pub same_delay_leaves_the_mark : recalled s place ≡ Some delay → (remembered s place delay).unsaved ≡ s.unsaved
   unfolding remembered kept
   same_delay_leaves_the_mark e =
-      ap (λ (z : Inputs). z.unsaved) (no_pick (marked (kept s place delay)) (kept s place delay) (ap (λ (x : Remembered). differs x delay) e ∙ ap not (eq-eqb delay delay refl)))
+      ap (λ (z : Inputs). z.unsaved) (no_pick (marked (kept s place delay)) (kept s place delay) (ap (λ (x : Option ℕ). differs x delay) e ∙ ap not (eq-eqb delay delay refl)))
       ∙ pick_all (λ (z : Inputs). z.unsaved ≡ s.unsaved) (ltb place 64) refl refl
 
   -- another delay than the one before marks it
-  pub another_delay_marks : (before : ℕ) → recalled s place ≡ Delay before → (before ≡ delay → ⊥) → (remembered s place delay).unsaved ≡ true
+  pub another_delay_marks : (before : ℕ) → recalled s place ≡ Some before → (before ≡ delay → ⊥) → (remembered s place delay).unsaved ≡ true
   unfolding remembered
   another_delay_marks before e other =
       ap (λ (z : Inputs). z.unsaved)
-      (yes_pick (marked (kept s place delay)) (kept s place delay) (ap (λ (x : Remembered). differs x delay) e ∙ ap not (ne_eqb before delay other)))
+      (yes_pick (marked (kept s place delay)) (kept s place delay) (ap (λ (x : Option ℕ). differs x delay) e ∙ ap not (ne_eqb before delay other)))
 
 -- "Pruning keeps keys of Running and Stalled inputs and this one": no other
-module _ (s : Inputs) (extra : Extra) (key : Instance) where
+module _ (s : Inputs) (extra : Option Instance) (key : Instance) where
   pub this_key_stays : is_extra extra key ≡ true → wanted_key s extra key ≡ true
   unfolding wanted_key
   this_key_stays e = yes_pick true (any_uses s key) e
@@ -86,15 +80,15 @@ abbrev to : ℕ → Route
 to place = record { domain = 0; flow = place }
 
 pub unrouted_exactly_without_a_route :
-    route_fits Nowhere Unrouted 3
-    ∷ route_fits Nowhere Waiting 3
-    ∷ route_fits Nowhere Running 3
-    ∷ route_fits Nowhere Stalled 3
-    ∷ route_fits (To (to 2)) Unrouted 3
-    ∷ route_fits (To (to 2)) Waiting 3
-    ∷ route_fits (To (to 2)) Running 3
-    ∷ route_fits (To (to 2)) Stalled 3
-    ∷ route_fits (To (to 3)) Running 3
+    route_fits None Unrouted 3
+    ∷ route_fits None Waiting 3
+    ∷ route_fits None Running 3
+    ∷ route_fits None Stalled 3
+    ∷ route_fits (Some (to 2)) Unrouted 3
+    ∷ route_fits (Some (to 2)) Waiting 3
+    ∷ route_fits (Some (to 2)) Running 3
+    ∷ route_fits (Some (to 2)) Stalled 3
+    ∷ route_fits (Some (to 3)) Running 3
     ∷ []
     ≡ true ∷ false ∷ false ∷ false ∷ false ∷ true ∷ true ∷ true ∷ false ∷ []
 unfolding both route_fits
@@ -146,18 +140,18 @@ pub auto_or_manual : (tag : AutoTag) (delay : Float) → (is_auto (Auto tag) ≡
 auto_or_manual tag delay = (refl, refl)
 
 -- a slot in this state that is routed to place 2 and has seen inode 9
-abbrev reading : State → Inode → Slot
-reading state inode = with_inode (with_route (with_state empty_slot state) (To (to 2))) inode
+abbrev reading : State → Option ℕ → Slot
+reading state inode = with_inode (with_route (with_state empty_slot state) (Some (to 2))) inode
 
 -- "Pruning keeps keys of Running and Stalled inputs": not of others, nor of another inode or flow
 pub running_and_stalled_use_their_key :
-    uses_key (reading Running (Of 9)) (record { flow = 2; inode = 9 })
-    ∷ uses_key (reading Stalled (Of 9)) (record { flow = 2; inode = 9 })
-    ∷ uses_key (reading Waiting (Of 9)) (record { flow = 2; inode = 9 })
-    ∷ uses_key (reading Running Gone) (record { flow = 2; inode = 9 })
-    ∷ uses_key (reading Running (Of 9)) (record { flow = 2; inode = 8 })
-    ∷ uses_key (reading Running (Of 9)) (record { flow = 1; inode = 9 })
-    ∷ uses_key (with_route (reading Running (Of 9)) Nowhere) (record { flow = 2; inode = 9 })
+    uses_key (reading Running (Some 9)) (record { flow = 2; inode = 9 })
+    ∷ uses_key (reading Stalled (Some 9)) (record { flow = 2; inode = 9 })
+    ∷ uses_key (reading Waiting (Some 9)) (record { flow = 2; inode = 9 })
+    ∷ uses_key (reading Running None) (record { flow = 2; inode = 9 })
+    ∷ uses_key (reading Running (Some 9)) (record { flow = 2; inode = 8 })
+    ∷ uses_key (reading Running (Some 9)) (record { flow = 1; inode = 9 })
+    ∷ uses_key (with_route (reading Running (Some 9)) None) (record { flow = 2; inode = 9 })
     ∷ []
     ≡ true ∷ true ∷ false ∷ false ∷ false ∷ false ∷ false ∷ []
 unfolding both same_key empty_slot uses_key

@@ -1,5 +1,5 @@
 -- Of distinct keys pruning keeps at most 17: one for each of 16 inputs, and the extra one. Assumes nothing.
-use Rattle.std.specs.Prelude.{◌≡◌, ℕ, zero, suc, ◌+◌, ◌≤◌, Bool, true, false, [], ◌∷◌, length}
+use Rattle.std.specs.Prelude.{◌≡◌, ℕ, zero, suc, ◌+◌, ◌≤◌, Bool, true, false, [], ◌∷◌, length, None, Option, Some}
 use mathlib.Core.Path.{refl, sym, ◌∙◌, ap, ap₂}
 use native.Mathlib.Nat.{le_of_eq}
 use native.Mathlib.Omega.{arith}
@@ -11,19 +11,14 @@ use Rattle.base.proofs.Points.{sum_zero}
 use Rattle.rules_record.specs.declared.Slot.{Slot}
 use Rattle.rules_record.specs.declared.Instance.{Instance}
 use Rattle.rules_record.specs.declared.Inputs.{Inputs}
-use Rattle.rules_record.specs.declared.Routed.{Routed}
-use Rattle.rules_record.specs.declared.Routed.TheVariants.{Nowhere, To}
-use Rattle.rules_record.specs.declared.Inode.{Inode}
-use Rattle.rules_record.specs.declared.Inode.TheVariants.{Gone, Of}
 use Rattle.rules_record.specs.States.{is_shut}
 use Rattle.rules_record.specs.Inputs.{slot_at}
 use Rattle.base.proofs.Tests.{not_both}
-use Rattle.rules_record.specs.declared.Extra.{Extra}
-use Rattle.rules_record.specs.declared.Extra.TheVariants.{Nothing, Key}
 use Rattle.base.specs.Any.{any}
 use Rattle.rules_record.specs.Instances.{same_key, key_at, keys_held}
 use Rattle.rules_record.specs.Prune.{reads_key, uses_key, any_uses, is_extra, wanted_key, keep_one, kept_keys, pruned}
 use Rattle.rules_record.proofs.InstanceKeys.{same_key_law, Distinct, pruned_count}
+use Rattle.rules_record.specs.declared.Route.{Route}
 
 -- how many of the first n keys pass a test
 abbrev count : (Instance → Bool) → Inputs → ℕ → ℕ
@@ -63,10 +58,10 @@ module _ (p : Instance → Bool) (only : (a b : Instance) → p a ≡ true → p
           omega (arith, none, ap {B = ℕ} (λ (b : Bool). pick b 1 0) e)
 
 -- an input reads one key at most
-reads_one : (to : Routed) (seen : Inode) (a b : Instance) → reads_key to seen a ≡ true → reads_key to seen b ≡ true → a ≡ b
-reads_one Nowhere seen a b e f = absurd (not_both e refl)
-reads_one (To route) Gone a b e f = absurd (not_both e refl)
-reads_one (To route) (Of inode) a b e f = sym (same_key_law _ a e) ∙ same_key_law _ b f
+reads_one : (to : Option Route) (seen : Option ℕ) (a b : Instance) → reads_key to seen a ≡ true → reads_key to seen b ≡ true → a ≡ b
+reads_one None seen a b e f = absurd (not_both e refl)
+reads_one (Some route) None a b e f = absurd (not_both e refl)
+reads_one (Some route) (Some inode) a b e f = sym (same_key_law _ a e) ∙ same_key_law _ b f
 
 uses_one : (slot : Slot) (a b : Instance) → uses_key slot a ≡ true → uses_key slot b ≡ true → a ≡ b
 unfolding uses_key
@@ -89,12 +84,12 @@ module _ (s : Inputs) (d : Distinct s) where
         count_one (λ key. uses_key (slot_at s k) key) (uses_one (slot_at s k)) s (keys_held s) (omega arith) d,
       )
 
-  extra_few : (extra : Extra) → count (is_extra extra) s (keys_held s) ≤ 1
-  extra_few Nothing = omega (arith, sum_zero (λ i. 0) (keys_held s) (λ i l. refl))
-  extra_few (Key one) = count_one (same_key one) (λ a b e f. sym (same_key_law one a e) ∙ same_key_law one b f) s (keys_held s) (omega arith) d
+  extra_few : (extra : Option Instance) → count (is_extra extra) s (keys_held s) ≤ 1
+  extra_few None = omega (arith, sum_zero (λ i. 0) (keys_held s) (λ i l. refl))
+  extra_few (Some one) = count_one (same_key one) (λ a b e f. sym (same_key_law one a e) ∙ same_key_law one b f) s (keys_held s) (omega arith) d
 
 -- what is kept is what is wanted
-kept_count : (s : Inputs) (extra : Extra) (n : ℕ) → length (kept_keys s extra n) ≡ count (wanted_key s extra) s n
+kept_count : (s : Inputs) (extra : Option Instance) (n : ℕ) → length (kept_keys s extra n) ≡ count (wanted_key s extra) s n
 unfolding kept_keys keep_one sum
 kept_count s extra zero = refl
 kept_count s extra (suc n) =
@@ -106,7 +101,7 @@ kept_count s extra (suc n) =
     size false key = refl
 
 -- "17 instances at most": the table stays short of its 18 places
-pub pruned_few : (s : Inputs) (extra : Extra) → Distinct s → (pruned s extra).instance_count ≤ 17
+pub pruned_few : (s : Inputs) (extra : Option Instance) → Distinct s → (pruned s extra).instance_count ≤ 17
 unfolding wanted_key any_uses or
 pruned_few s extra d =
     omega (

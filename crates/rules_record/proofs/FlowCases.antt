@@ -1,5 +1,5 @@
 -- The definitions of the flow table as the code comes to them. Assumes nothing.
-use Rattle.std.specs.Prelude.{◌≡◌, ℕ, ◌<◌, ◌≤◌, Bool, true, false, get_or}
+use Rattle.std.specs.Prelude.{◌≡◌, ℕ, ◌<◌, ◌≤◌, Bool, true, false, get_or, None, Option, Some}
 use mathlib.Core.Path.{sym, ap, ◌∙◌, refl}
 use native.Mathlib.Omega.{arith}
 use borrow.Author.Tests.{eq-eqb, ne_eqb, lt-ltb, le-ltb}
@@ -9,10 +9,7 @@ use Rattle.base.proofs.First.{first_cong}
 use Rattle.base.proofs.Choices.{yes_pick, no_pick}
 use Rattle.rules_record.specs.declared.Flow.{Flow}
 use Rattle.rules_record.specs.declared.FlowEntry.{FlowEntry}
-use Rattle.rules_record.specs.declared.Remembered.{Remembered}
 use Rattle.rules_record.specs.declared.Route.{Route}
-use Rattle.rules_record.specs.declared.Routed.{Routed}
-use Rattle.rules_record.specs.declared.Routed.TheVariants.{Nowhere, To}
 use Rattle.rules_record.specs.declared.Slot.{Slot}
 use Rattle.rules_record.specs.declared.Inputs.{Inputs}
 use Rattle.rules_record.specs.Slots.{is_auto}
@@ -70,9 +67,9 @@ module _ (s : Inputs) (flow : Flow) {place : ℕ} (e : place ≡ flow_place s fl
     unfolding enrolled_at
     enrol_new k = sym (by ∙ no_pick _ _ (le-ltb _ _ h) ∙ yes_pick _ _ (lt-ltb _ _ k))
 
-module _ (s : Inputs) (place delay : ℕ) {last : Remembered} {all : Inputs} {r : Bool} (e : last ≡ recalled s place) (f : all ≡ kept s place delay) (h : r ≡ differs last delay) where
+module _ (s : Inputs) (place delay : ℕ) {last : Option ℕ} {all : Inputs} {r : Bool} (e : last ≡ recalled s place) (f : all ≡ kept s place delay) (h : r ≡ differs last delay) where
   test : differs (recalled s place) delay ≡ r
-  test = ap (λ (x : Remembered). differs x delay) (sym e) ∙ sym h
+  test = ap (λ (x : Option ℕ). differs x delay) (sym e) ∙ sym h
 
   pub remember_other : r ≡ true → marked all ≡ remembered s place delay
   unfolding remembered
@@ -83,23 +80,23 @@ module _ (s : Inputs) (place delay : ℕ) {last : Remembered} {all : Inputs} {r 
   remember_same g = f ∙ sym (no_pick _ _ (test ∙ g))
 
 module _ (s : Inputs) (slot : Slot) (delay : ℕ) where
-  pub for_nowhere : slot.route ≡ Nowhere → remembered_for s slot delay ≡ s
+  pub for_nowhere : slot.route ≡ None → remembered_for s slot delay ≡ s
   unfolding remembered_for remembered_by
-  for_nowhere e = ap (λ (x : Routed). remembered_by x (is_auto slot.config.extra_delay) s delay) e
+  for_nowhere e = ap (λ (x : Option Route). remembered_by x (is_auto slot.config.extra_delay) s delay) e
 
-  module _ {route : Route} (e : slot.route ≡ To route) where
+  module _ {route : Route} (e : slot.route ≡ Some route) where
     routed : remembered_for s slot delay ≡ pick (is_auto slot.config.extra_delay) (remembered s route.flow delay) s
     unfolding remembered_for remembered_by
-    routed = ap (λ (x : Routed). remembered_by x (is_auto slot.config.extra_delay) s delay) e
+    routed = ap (λ (x : Option Route). remembered_by x (is_auto slot.config.extra_delay) s delay) e
 
     pub for_automatic : is_auto slot.config.extra_delay ≡ true → remembered_for s slot delay ≡ remembered s route.flow delay
     for_automatic h = routed ∙ yes_pick _ _ h
 
 -- a delay of an input that is not automatic is not remembered
-pub unremembered : (route : Routed) (automatic : Bool) (s : Inputs) (delay : ℕ) → automatic ≡ false → remembered_by route automatic s delay ≡ s
+pub unremembered : (route : Option Route) (automatic : Bool) (s : Inputs) (delay : ℕ) → automatic ≡ false → remembered_by route automatic s delay ≡ s
 unfolding remembered_by
-unremembered Nowhere automatic s delay e = refl
-unremembered (To route) automatic s delay e = ap (λ (b : Bool). remembered_by (To route) b s delay) e
+unremembered None automatic s delay e = refl
+unremembered (Some route) automatic s delay e = ap (λ (b : Bool). remembered_by (Some route) b s delay) e
 
 pub for_manual : (s : Inputs) (slot : Slot) (delay : ℕ) → is_auto slot.config.extra_delay ≡ false → remembered_for s slot delay ≡ s
 unfolding remembered_for

@@ -1,5 +1,5 @@
 -- What the flow table keeps: places are stable, flows stay distinct, what was enrolled is found, and a remembered delay concerns one flow. Assumes nothing.
-use Rattle.std.specs.Prelude.{◌≡◌, ℕ, suc, ◌<◌, ◌≤◌, min, Bool, true, eqb, ltb, length, set}
+use Rattle.std.specs.Prelude.{◌≡◌, ℕ, suc, ◌<◌, ◌≤◌, min, Bool, true, eqb, ltb, length, set, None, Option, Some}
 use mathlib.Core.Path.{refl, sym, ap, ap₂, ◌∙◌}
 use mathlib.Core.Logic.{⊎_elim}
 use native.Mathlib.Nat.{eq-or-lt_of_le, le_of_suc-le-suc}
@@ -13,10 +13,7 @@ use Rattle.base.proofs.Choices.{by_bool, by_le, lt_rule, pick_all, yes_pick, no_
 use Rattle.base.proofs.Points.{both_true, true_both, all_at, all_intro}
 use Rattle.rules_record.specs.declared.Flow.{Flow}
 use Rattle.rules_record.specs.declared.FlowEntry.{FlowEntry}
-use Rattle.rules_record.specs.declared.Remembered.TheVariants.{Delay}
 use Rattle.rules_record.specs.declared.Route.{Route}
-use Rattle.rules_record.specs.declared.Routed.{Routed}
-use Rattle.rules_record.specs.declared.Routed.TheVariants.{Nowhere, To}
 use Rattle.rules_record.specs.declared.Slot.{Slot}
 use Rattle.rules_record.specs.declared.Inputs.{Inputs}
 use Rattle.base.specs.First.{first}
@@ -181,12 +178,12 @@ module _ (s : Inputs) (place delay : ℕ) where
   kept_rule P p q = pick_all P (differs (recalled s place) delay) q p
 
   -- the place has the delay then, and its flow
-  entry_kept : place < 64 → Sized s → entry_at (remembered s place delay) place ≡ record { flow = flow_at s place; remembered = Delay delay }
+  entry_kept : place < 64 → Sized s → entry_at (remembered s place delay) place ≡ record { flow = flow_at s place; remembered = Some delay }
   unfolding kept entry_at
   entry_kept l h =
-      let here : entry_at (kept s place delay) place ≡ record { flow = flow_at s place; remembered = Delay delay } =
+      let here : entry_at (kept s place delay) place ≡ record { flow = flow_at s place; remembered = Some delay } =
       ap (λ (z : Inputs). entry_at z place) (yes_pick _ _ (lt-ltb _ _ l)) ∙ entry_same s place _ s.flow_count s.unsaved l h.flows in
-      kept_rule (λ z. entry_at z place ≡ record { flow = flow_at s place; remembered = Delay delay }) here here
+      kept_rule (λ z. entry_at z place ≡ record { flow = flow_at s place; remembered = Some delay }) here here
 
   entry_left : (j : ℕ) → (j ≡ place → ⊥) → entry_at (remembered s place delay) j ≡ entry_at s j
   unfolding kept entry_at
@@ -194,7 +191,7 @@ module _ (s : Inputs) (place delay : ℕ) where
       let there : entry_at (kept s place delay) j ≡ entry_at s j = pick_all (λ (z : Inputs). entry_at z j ≡ entry_at s j) (ltb place 64) (entry_other s place _ s.flow_count s.unsaved j apart) refl in
       kept_rule (λ z. entry_at z j ≡ entry_at s j) there there
 
-  pub remember_same : place < 64 → Sized s → recalled (remembered s place delay) place ≡ Delay delay
+  pub remember_same : place < 64 → Sized s → recalled (remembered s place delay) place ≡ Some delay
   unfolding recalled
   remember_same l h = ap (λ (x : FlowEntry). x.remembered) (entry_kept l h)
 
@@ -238,9 +235,9 @@ module _ (s : Inputs) (slot : Slot) (delay : ℕ) where
   unfolding remembered_for remembered_by
   for_rule P p q = go slot.route
     where
-      go : (to : Routed) → P (remembered_by to (is_auto slot.config.extra_delay) s delay)
-      go Nowhere = p
-      go (To route) = pick_all P (is_auto slot.config.extra_delay) (q route) p
+      go : (to : Option Route) → P (remembered_by to (is_auto slot.config.extra_delay) s delay)
+      go None = p
+      go (Some route) = pick_all P (is_auto slot.config.extra_delay) (q route) p
 
   pub for_rest : remembered_for s slot delay ≡ with_flows s (remembered_for s slot delay).flows s.flow_count (remembered_for s slot delay).unsaved
   for_rest = for_rule (λ z. z ≡ with_flows s z.flows s.flow_count z.unsaved) refl (λ route. remember_rest s route.flow delay)

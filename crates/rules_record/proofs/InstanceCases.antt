@@ -1,5 +1,5 @@
 -- The definitions of the instance table as the code comes to them. Assumes nothing.
-use Rattle.std.specs.Prelude.{◌≡◌, ℕ, zero, suc, ◌+◌, ◌-◌, ◌<◌, ◌≤◌, Bool, true, false, eqb, List, [], ◌∷◌, ◌++◌, length, get_or, drop, set, replicate}
+use Rattle.std.specs.Prelude.{◌≡◌, ℕ, zero, suc, ◌+◌, ◌-◌, ◌<◌, ◌≤◌, Bool, true, false, eqb, List, [], ◌∷◌, ◌++◌, length, get_or, drop, set, replicate, None, Option}
 use mathlib.Core.Path.{refl, sym, ap, ◌∙◌}
 use mathlib.Core.List.{append-nil}
 use native.Mathlib.Nat.{not-suc-le-zero, add-zero, zero-add, add-suc, suc-add, sub-zero, zero-sub, suc-sub-suc}
@@ -20,8 +20,6 @@ use Rattle.rules_record.specs.declared.Inputs.{Inputs}
 use Rattle.rules_record.specs.Slots.{empty_slot}
 use Rattle.rules_record.specs.Inputs.{slot_at, with_instances}
 use Rattle.rules_record.proofs.SlotFrame.{slot_in}
-use Rattle.rules_record.specs.declared.Extra.{Extra}
-use Rattle.rules_record.specs.declared.Extra.TheVariants.{Nothing}
 use Rattle.rules_record.specs.Instances.{same_key, no_key, key_at, keys_held, key_below, new_key_at}
 use Rattle.rules_record.specs.Prune.{uses_key, any_uses, is_extra, wanted_key, keep_one, kept_keys, with_keys, pruned}
 
@@ -51,33 +49,33 @@ module _ (s : Inputs) (place : ℕ) (l : place < 18) {at : Instance} {r : ℕ} (
   told_twice g = ne_eqb _ _ (λ w. g (here ∙ w))
 
 -- ---- what the inputs read, input by input
-pub record Collected (s : Inputs) (read : List Extra) (n : ℕ) : Type 0 where
+pub record Collected (s : Inputs) (read : List (Option Instance)) (n : ℕ) : Type 0 where
   pub within : n ≤ 16
   pub sized : length read ≡ 16
-  pub told : (i : ℕ) (key : Instance) → i < n → is_extra (get_or read i Nothing) key ≡ uses_key (slot_at s i) key
+  pub told : (i : ℕ) (key : Instance) → i < n → is_extra (get_or read i None) key ≡ uses_key (slot_at s i) key
 
-pub collect_start : (s : Inputs) → Collected s (replicate 16 Nothing) 0
-collect_start s = record { within = omega arith; sized = length-replicate 16 Nothing; told = λ i key l. absurd (not-suc-le-zero l) }
+pub collect_start : (s : Inputs) → Collected s (replicate 16 None) 0
+collect_start s = record { within = omega arith; sized = let none : Option Instance = None in length-replicate 16 none; told = λ i key l. absurd (not-suc-le-zero l) }
 
-pub collect_more : {s : Inputs} {read : List Extra} {n : ℕ} → Collected s read n → n < 16 → (one : Extra) → ((key : Instance) → is_extra one key ≡ uses_key (get_or s.slots n empty_slot) key) → Collected s (set read n one) (n + 1)
+pub collect_more : {s : Inputs} {read : List (Option Instance)} {n : ℕ} → Collected s read n → n < 16 → (one : Option Instance) → ((key : Instance) → is_extra one key ≡ uses_key (get_or s.slots n empty_slot) key) → Collected s (set read n one) (n + 1)
 collect_more {s} {read} {n} v l one h = record {
   within = omega arith;
   sized = length-set read n one ∙ v.sized;
   told = λ i key m. by_bool (eqb i n) (λ e. same i key (eqb-true i n e)) (λ e. other i key m (eqb-false i n e));
 }
   where
-    same : (i : ℕ) (key : Instance) → i ≡ n → is_extra (get_or (set read n one) i Nothing) key ≡ uses_key (slot_at s i) key
+    same : (i : ℕ) (key : Instance) → i ≡ n → is_extra (get_or (set read n one) i None) key ≡ uses_key (slot_at s i) key
     same i key e =
         rw e
-        (ap (λ (x : Extra). is_extra x key) (get_or-set_same read n one Nothing (rw v.sized l))
+        (ap (λ (x : Option Instance). is_extra x key) (get_or-set_same read n one None (rw v.sized l))
         ∙ h key
         ∙ ap (λ (x : Slot). uses_key x key) (slot_in s n l))
 
-    other : (i : ℕ) (key : Instance) → i < n + 1 → (i ≡ n → ⊥) → is_extra (get_or (set read n one) i Nothing) key ≡ uses_key (slot_at s i) key
-    other i key m e = ap (λ (x : Extra). is_extra x key) (get_or-set_other read n i one Nothing e) ∙ v.told i key (omega (arith, e))
+    other : (i : ℕ) (key : Instance) → i < n + 1 → (i ≡ n → ⊥) → is_extra (get_or (set read n one) i None) key ≡ uses_key (slot_at s i) key
+    other i key m e = ap (λ (x : Option Instance). is_extra x key) (get_or-set_other read n i one None e) ∙ v.told i key (omega (arith, e))
 
 -- what the code asks of a key is whether it is wanted
-pub told_wanted : (s : Inputs) (extra : Extra) (key : Instance) (read : List Extra) {r : Bool} → ((i : ℕ) (key : Instance) → i < 16 → is_extra (get_or read i Nothing) key ≡ uses_key (slot_at s i) key) → r ≡ pick (is_extra extra key) true (any (λ i. is_extra (get_or read i Nothing) key) 16) → r ≡ wanted_key s extra key
+pub told_wanted : (s : Inputs) (extra : Option Instance) (key : Instance) (read : List (Option Instance)) {r : Bool} → ((i : ℕ) (key : Instance) → i < 16 → is_extra (get_or read i None) key ≡ uses_key (slot_at s i) key) → r ≡ pick (is_extra extra key) true (any (λ i. is_extra (get_or read i None) key) 16) → r ≡ wanted_key s extra key
 unfolding wanted_key any_uses
 told_wanted s extra key read f h = h ∙ ap (pick (is_extra extra key) true) (any_cong _ _ 16 (λ i l. f i key l))
 
@@ -91,17 +89,17 @@ sets_more l u (b ∷ vs) a = rw (add-suc u (length vs), ← suc-add u (length vs
 abbrev unused : List Instance
 unused = replicate 18 no_key
 
-pub record Pruning (s : Inputs) (extra : Extra) (n i : ℕ) (kept : List Instance) (count : ℕ) : Type 0 where
+pub record Pruning (s : Inputs) (extra : Option Instance) (n i : ℕ) (kept : List Instance) (count : ℕ) : Type 0 where
   pub within : i ≤ n
   pub stored : kept ≡ sets unused 0 (kept_keys s extra i)
   pub counted : count ≡ length (kept_keys s extra i)
   pub few : count ≤ i
 
-pub prune_start : (s : Inputs) (extra : Extra) (n : ℕ) → Pruning s extra n 0 unused 0
+pub prune_start : (s : Inputs) (extra : Option Instance) (n : ℕ) → Pruning s extra n 0 unused 0
 unfolding kept_keys
 prune_start s extra n = record { within = omega arith; stored = refl; counted = refl; few = omega arith }
 
-module _ {s : Inputs} {extra : Extra} {n i : ℕ} {kept : List Instance} {count : ℕ} (v : Pruning s extra n i kept count) (l : i < n) {key : Instance} (at : key ≡ key_at s i) {r : Bool} (told : r ≡ wanted_key s extra key) where
+module _ {s : Inputs} {extra : Option Instance} {n i : ℕ} {kept : List Instance} {count : ℕ} (v : Pruning s extra n i kept count) (l : i < n) {key : Instance} (at : key ≡ key_at s i) {r : Bool} (told : r ≡ wanted_key s extra key) where
   told_here : wanted_key s extra (key_at s i) ≡ r
   told_here = ap (wanted_key s extra) (sym at) ∙ sym told
 
@@ -146,7 +144,7 @@ laid keys h =
     ∙ ap (λ (k : ℕ). keys ++ drop k unused) (zero-add (length keys))
     ∙ ap (λ (x : List Instance). keys ++ x) (drop_unused (length keys) 18)
 
-pub prune_ends : {s : Inputs} {extra : Extra} {n i : ℕ} {kept : List Instance} {count : ℕ} → Pruning s extra n i kept count → n ≤ i → n ≡ keys_held s → with_instances s kept count ≡ pruned s extra
+pub prune_ends : {s : Inputs} {extra : Option Instance} {n i : ℕ} {kept : List Instance} {count : ℕ} → Pruning s extra n i kept count → n ≤ i → n ≡ keys_held s → with_instances s kept count ≡ pruned s extra
 unfolding pruned with_keys
 prune_ends {s} {extra} {n} {i} {kept} {count} v h e =
     let q : i ≡ keys_held s = omega (arith, v.within) in

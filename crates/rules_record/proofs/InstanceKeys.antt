@@ -1,5 +1,5 @@
 -- Keys stay distinct: where one that is not found is made, and where the table is pruned. Assumes nothing.
-use Rattle.std.specs.Prelude.{◌≡◌, ℕ, zero, suc, ◌+◌, ◌-◌, ◌<◌, ◌≤◌, true, false, eqb, ltb, List, [], ◌∷◌, ◌++◌, length, get_or, set, replicate}
+use Rattle.std.specs.Prelude.{◌≡◌, ℕ, zero, suc, ◌+◌, ◌-◌, ◌<◌, ◌≤◌, true, false, eqb, ltb, List, [], ◌∷◌, ◌++◌, length, get_or, set, replicate, Option}
 use mathlib.Core.Path.{refl, sym, ap, ap₂, ◌∙◌}
 use mathlib.Core.List.{append-nil}
 use mathlib.Core.Logic.{⊎_elim}
@@ -18,7 +18,6 @@ use Rattle.rules_record.specs.Inputs.{with_instances}
 use Rattle.base.proofs.First.{first_before, first_missed, first_distinct}
 use Rattle.rules_record.specs.Sized.{Sized}
 use Rattle.base.proofs.Tests.{not_both}
-use Rattle.rules_record.specs.declared.Extra.{Extra}
 use Rattle.rules_record.specs.Instances.{same_key, no_key, key_at, keys_held, holds_key, key_below, found_key, new_key_at, distinct_keys, made}
 use Rattle.rules_record.specs.Prune.{wanted_key, keep_one, kept_keys, with_keys, pruned}
 use Rattle.rules_record.proofs.InstanceCases.{held_most}
@@ -105,7 +104,7 @@ module _ (s : Inputs) (key : Instance) where
 
 -- ---- pruned
 
-module _ (s : Inputs) (extra : Extra) where
+module _ (s : Inputs) (extra : Option Instance) where
   -- a place is kept or goes
   pub kept_rule : (n : ℕ) (P : List Instance → Type 0) → P (kept_keys s extra n ++ (key_at s n ∷ [])) → P (kept_keys s extra n) → P (kept_keys s extra (suc n))
   unfolding kept_keys keep_one

@@ -1,20 +1,16 @@
 -- A slot or a record with one part changed has that part, and with the part that it had it is what it was. Assumes nothing.
-use Rattle.std.specs.Prelude.{◌≡◌, ℕ, Bool, List}
+use Rattle.std.specs.Prelude.{◌≡◌, ℕ, Bool, List, Option, Some}
 use mathlib.Core.Path.{refl, sym, ap}
-use Rattle.delay_hold.specs.declared.Moment.{Moment}
-use Rattle.delay_hold.specs.declared.Moment.TheVariants.{At}
 use Rattle.delay_hold.specs.declared.DelayHold.{DelayHold}
 use Rattle.rules_record.specs.declared.InputConfig.{InputConfig}
 use Rattle.rules_record.specs.declared.State.{State}
-use Rattle.rules_record.specs.declared.Routed.{Routed}
-use Rattle.rules_record.specs.declared.Inode.{Inode}
-use Rattle.rules_record.specs.declared.Proposal.{Proposal}
 use Rattle.rules_record.specs.declared.Slot.{Slot}
 use Rattle.rules_record.specs.declared.FlowEntry.{FlowEntry}
 use Rattle.rules_record.specs.declared.Instance.{Instance}
 use Rattle.rules_record.specs.declared.Inputs.{Inputs}
 use Rattle.rules_record.specs.Slots.{with_config, with_state, with_route, with_inode, with_head, with_reopens, with_lag_seconds, with_last_lag, with_delay, with_proposed, with_hold, with_delay_changes, with_late, with_last_input}
 use Rattle.rules_record.specs.Inputs.{with_slots, with_flows, with_instances}
+use Rattle.rules_record.specs.declared.Route.{Route}
 
 -- ---- a slot
 module _ (slot : Slot) where
@@ -24,10 +20,10 @@ module _ (slot : Slot) where
   pub state_alone : (state : State) → ((with_state slot state).state ≡ state) × (with_state slot slot.state ≡ slot)
   state_alone state = (refl, refl)
 
-  pub route_alone : (route : Routed) → ((with_route slot route).route ≡ route) × (with_route slot slot.route ≡ slot)
+  pub route_alone : (route : Option Route) → ((with_route slot route).route ≡ route) × (with_route slot slot.route ≡ slot)
   route_alone route = (refl, refl)
 
-  pub inode_alone : (inode : Inode) → ((with_inode slot inode).inode ≡ inode) × (with_inode slot slot.inode ≡ slot)
+  pub inode_alone : (inode : Option ℕ) → ((with_inode slot inode).inode ≡ inode) × (with_inode slot slot.inode ≡ slot)
   inode_alone inode = (refl, refl)
 
   pub head_alone : (head time : ℕ) → ((with_head slot head time).last_head ≡ head) × ((with_head slot head time).head_changed ≡ time) × (with_head slot slot.last_head slot.head_changed ≡ slot)
@@ -43,13 +39,13 @@ module _ (slot : Slot) where
   lag_alone lag = (refl, refl)
 
   -- the delay, with the time at which it was set
-  pub delay_alone : (delay time : ℕ) → ((with_delay slot delay time).delay ≡ delay) × ((with_delay slot delay time).last_set ≡ At time)
+  pub delay_alone : (delay time : ℕ) → ((with_delay slot delay time).delay ≡ delay) × ((with_delay slot delay time).last_set ≡ Some time)
   delay_alone delay time = (refl, refl)
 
-  pub same_delay_again : (time : ℕ) → slot.last_set ≡ At time → with_delay slot slot.delay time ≡ slot
-  same_delay_again time e = ap (λ (set : Moment). again set) (sym e)
+  pub same_delay_again : (time : ℕ) → slot.last_set ≡ Some time → with_delay slot slot.delay time ≡ slot
+  same_delay_again time e = ap (λ (set : Option ℕ). again set) (sym e)
     where
-      again : Moment → Slot
+      again : Option ℕ → Slot
       again set = record {
         config = slot.config;
         state = slot.state;
@@ -70,7 +66,7 @@ module _ (slot : Slot) where
         last_input = slot.last_input;
       }
 
-  pub proposal_alone : (proposed : Proposal) → ((with_proposed slot proposed).proposed ≡ proposed) × (with_proposed slot slot.proposed ≡ slot)
+  pub proposal_alone : (proposed : Option ℕ) → ((with_proposed slot proposed).proposed ≡ proposed) × (with_proposed slot slot.proposed ≡ slot)
   proposal_alone proposed = (refl, refl)
 
   pub hold_alone : (hold : DelayHold) → ((with_hold slot hold).hold ≡ hold) × (with_hold slot slot.hold ≡ slot)
@@ -83,13 +79,13 @@ module _ (slot : Slot) where
   late_alone events before = (refl, refl, refl)
 
   -- the time of a SetInput
-  pub input_alone : (time : ℕ) → (with_last_input slot time).last_input ≡ At time
+  pub input_alone : (time : ℕ) → (with_last_input slot time).last_input ≡ Some time
   input_alone time = refl
 
-  pub same_input_again : (time : ℕ) → slot.last_input ≡ At time → with_last_input slot time ≡ slot
-  same_input_again time e = ap (λ (opened : Moment). again opened) (sym e)
+  pub same_input_again : (time : ℕ) → slot.last_input ≡ Some time → with_last_input slot time ≡ slot
+  same_input_again time e = ap (λ (opened : Option ℕ). again opened) (sym e)
     where
-      again : Moment → Slot
+      again : Option ℕ → Slot
       again opened = record {
         config = slot.config;
         state = slot.state;

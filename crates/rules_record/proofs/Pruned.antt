@@ -1,5 +1,5 @@
 -- Making an instance and pruning: a record that was checked stays so. Assumes nothing.
-use Rattle.std.specs.Prelude.{◌≡◌, ℕ, zero, suc, ◌+◌, ◌-◌, ◌<◌, ◌≤◌, false, ltb, List, [], ◌∷◌, ◌++◌, length, get_or, replicate}
+use Rattle.std.specs.Prelude.{◌≡◌, ℕ, zero, suc, ◌+◌, ◌-◌, ◌<◌, ◌≤◌, false, ltb, List, [], ◌∷◌, ◌++◌, length, get_or, replicate, Option}
 use mathlib.Core.Path.{refl, sym, ap, subst, ◌∙◌}
 use mathlib.Core.Logic.{⊎_elim}
 use native.Mathlib.Nat.{eq-or-lt_of_le, le_of_suc-le-suc}
@@ -15,7 +15,6 @@ use Rattle.rules_record.specs.declared.Inputs.{Inputs}
 use Rattle.rules_record.specs.Inputs.{slot_at, with_instances}
 use Rattle.rules_record.specs.Sized.{Sized}
 use Rattle.rules_record.specs.Flows.{entry_at, flow_at, known, place_below, distinct_flows}
-use Rattle.rules_record.specs.declared.Extra.{Extra}
 use Rattle.rules_record.specs.Instances.{no_key, key_at, keys_held, found_key, made}
 use Rattle.rules_record.specs.Prune.{kept_keys, with_keys, pruned}
 use Rattle.rules_record.proofs.InstanceKeys.{Distinct, keys_distinct, distinct_keys_law, pruned_count, pruned_distinct, pruned_sized, pruned_rest, made_distinct, made_sized, made_rest, kept_rule, pruned_at}
@@ -48,7 +47,7 @@ module _ (s : Inputs) (l : Lists) (c : Checked s l) (instances : List Instance) 
 
 -- ---- what is kept was in the table
 
-module _ (s : Inputs) (extra : Extra) where
+module _ (s : Inputs) (extra : Option Instance) where
   kept_all : (P : Instance → Type 0) (n : ℕ) → ((place : ℕ) → place < n → P (key_at s place)) → (a : ℕ) → a < length (kept_keys s extra n) → P (get_or (kept_keys s extra n) a no_key)
   unfolding kept_keys
   kept_all P zero f a h = absurd (omega arith)
@@ -111,7 +110,7 @@ module _ (s : Inputs) (key : Instance) (sized : Sized s) (few : s.instance_count
       (eq-or-lt_of_le (le_of_suc-le-suc (rw made_held at h)))
 
 -- ---- the record stays checked
-module _ (s : Inputs) (l : Lists) (c : Checked s l) (extra : Extra) where
+module _ (s : Inputs) (l : Lists) (c : Checked s l) (extra : Option Instance) where
   held_count_law : keys_held s ≡ s.instance_count
   unfolding keys_held
   held_count_law = omega (arith, c.whole.instances.most)

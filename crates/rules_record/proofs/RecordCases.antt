@@ -1,5 +1,5 @@
 -- The definitions of check 6 as the code comes to them. Assumes nothing.
-use Rattle.std.specs.Prelude.{◌≡◌, ℕ, ◌+◌, ◌*◌, ◌<◌, ◌≤◌, Bool, true, false, eqb, ltb, leb, List, length, get_or, take, drop}
+use Rattle.std.specs.Prelude.{◌≡◌, ℕ, ◌+◌, ◌*◌, ◌<◌, ◌≤◌, Bool, true, false, eqb, ltb, leb, List, length, get_or, take, drop, None, Option, Some}
 use mathlib.Core.Path.{sym, ap, ◌∙◌}
 use native.Mathlib.Nat.{mul-le-mul}
 use native.Mathlib.Omega.{arith}
@@ -18,16 +18,10 @@ use Rattle.policy.specs.Settings.{Sound}
 use Rattle.rules_window.specs.Window.{Window, windowed}
 use Rattle.rules_window.specs.WholeWindow.{whole_with_sums}
 use Rattle.rules_window.specs.Parts.{part_of, PartsIn}
-use Rattle.delay_hold.specs.declared.Moment.{Moment}
-use Rattle.delay_hold.specs.declared.Moment.TheVariants.{Never, At}
 use Rattle.delay_hold.specs.Next.{held}
 use Rattle.delay_hold.specs.Whole.{moment_timely, whole_hold}
 use Rattle.rules_record.specs.declared.FlowEntry.{FlowEntry}
-use Rattle.rules_record.specs.declared.Proposal.{Proposal}
-use Rattle.rules_record.specs.declared.Proposal.TheVariants.{Nothing, Pending}
 use Rattle.rules_record.specs.declared.Route.{Route}
-use Rattle.rules_record.specs.declared.Routed.{Routed}
-use Rattle.rules_record.specs.declared.Routed.TheVariants.{Nowhere, To}
 use Rattle.rules_record.specs.declared.State.{State}
 use Rattle.rules_record.specs.declared.Slot.{Slot}
 use Rattle.rules_record.specs.declared.Instance.{Instance}
@@ -47,16 +41,16 @@ use Rattle.rules_record.specs.Checks.{inputs_allowed, lists_fit, output_fits, Fi
 use Rattle.rules_record.proofs.Shapes.{window_held, sums_within}
 
 -- ---- the parts of a slot
-pub no_proposed : (proposed : Proposal) (maximum : ℕ) → proposed ≡ Nothing → true ≡ proposal_fits proposed maximum
-no_proposed proposed maximum e = sym (ap (λ (x : Proposal). proposal_fits x maximum) e)
+pub no_proposed : (proposed : Option ℕ) (maximum : ℕ) → proposed ≡ None → true ≡ proposal_fits proposed maximum
+no_proposed proposed maximum e = sym (ap (λ (x : Option ℕ). proposal_fits x maximum) e)
 
-pub some_proposed : (proposed : Proposal) (maximum : ℕ) {delay : ℕ} → proposed ≡ Pending delay → leb delay maximum ≡ proposal_fits proposed maximum
-some_proposed proposed maximum e = sym (ap (λ (x : Proposal). proposal_fits x maximum) e)
+pub some_proposed : (proposed : Option ℕ) (maximum : ℕ) {delay : ℕ} → proposed ≡ Some delay → leb delay maximum ≡ proposal_fits proposed maximum
+some_proposed proposed maximum e = sym (ap (λ (x : Option ℕ). proposal_fits x maximum) e)
 
-pub no_moment : (moment : Moment) → moment ≡ Never → true ≡ moment_timely moment
+pub no_moment : (moment : Option ℕ) → moment ≡ None → true ≡ moment_timely moment
 no_moment moment e = sym (ap moment_timely e)
 
-pub some_moment : (moment : Moment) {time : ℕ} → moment ≡ At time → leb time time_limit ≡ moment_timely moment
+pub some_moment : (moment : Option ℕ) {time : ℕ} → moment ≡ Some time → leb time time_limit ≡ moment_timely moment
 some_moment moment e = sym (ap moment_timely e)
 
 pub some_words : (n : ℕ) (output : Output) {words : ℕ} → output ≡ Words words → eqb words (n * 12) ≡ output_fits n output
@@ -65,18 +59,18 @@ some_words n output e = sym (ap (output_fits n) e)
 pub some_bytes : (n : ℕ) (output : Output) {bytes exact : ℕ} → output ≡ Bytes bytes exact → eqb bytes exact ≡ output_fits n output
 some_bytes n output e = sym (ap (output_fits n) e)
 
-module _ (to : Routed) (state : State) (n : ℕ) {number : ℕ} (e : number ≡ state_number state) where
-  pub route_nowhere : to ≡ Nowhere → eqb number 0 ≡ route_fits to state n
+module _ (to : Option Route) (state : State) (n : ℕ) {number : ℕ} (e : number ≡ state_number state) where
+  pub route_nowhere : to ≡ None → eqb number 0 ≡ route_fits to state n
   unfolding route_fits
-  route_nowhere f = ap (λ (k : ℕ). eqb k 0) e ∙ sym (ap (λ (x : Routed). route_fits x state n) f)
+  route_nowhere f = ap (λ (k : ℕ). eqb k 0) e ∙ sym (ap (λ (x : Option Route). route_fits x state n) f)
 
-  pub route_known : {route : Route} → to ≡ To route → route.flow < n → leb 1 number ≡ route_fits to state n
+  pub route_known : {route : Route} → to ≡ Some route → route.flow < n → leb 1 number ≡ route_fits to state n
   unfolding route_fits
-  route_known f h = both_yes _ _ _ (lt-ltb _ _ h) (ap (leb 1) e) ∙ sym (ap (λ (x : Routed). route_fits x state n) f)
+  route_known f h = both_yes _ _ _ (lt-ltb _ _ h) (ap (leb 1) e) ∙ sym (ap (λ (x : Option Route). route_fits x state n) f)
 
-pub route_unknown : (to : Routed) (state : State) (n : ℕ) {route : Route} → to ≡ To route → n ≤ route.flow → false ≡ route_fits to state n
+pub route_unknown : (to : Option Route) (state : State) (n : ℕ) {route : Route} → to ≡ Some route → n ≤ route.flow → false ≡ route_fits to state n
 unfolding route_fits
-route_unknown to state n f h = both_no _ _ (le-ltb _ _ h) ∙ sym (ap (λ (x : Routed). route_fits x state n) f)
+route_unknown to state n f h = both_no _ _ (le-ltb _ _ h) ∙ sym (ap (λ (x : Option Route). route_fits x state n) f)
 
 -- ---- a place of the flow table, and one of the instance table
 module _ (s : Inputs) (place : ℕ) where

@@ -1,5 +1,5 @@
 -- The flow table or the instance table changed: a record that was checked stays so. Assumes nothing.
-use Rattle.std.specs.Prelude.{◌≡◌, ℕ, ◌+◌, ◌<◌, ◌≤◌, Bool, true, ltb, List, length, set}
+use Rattle.std.specs.Prelude.{◌≡◌, ℕ, ◌+◌, ◌<◌, ◌≤◌, Bool, true, ltb, List, length, set, None, Option, Some}
 use mathlib.Core.Path.{sym, ap, subst, ◌∙◌}
 use native.Mathlib.Omega.{arith}
 use lib.Seq.{get_or-set_other}
@@ -9,8 +9,6 @@ use Rattle.base.proofs.Choices.{lt_rule, pick_rule}
 use Rattle.base.proofs.Points.{both_true, true_both}
 use Rattle.rules_record.specs.declared.Flow.{Flow}
 use Rattle.rules_record.specs.declared.State.{State}
-use Rattle.rules_record.specs.declared.Routed.{Routed}
-use Rattle.rules_record.specs.declared.Routed.TheVariants.{Nowhere, To}
 use Rattle.rules_record.specs.declared.Slot.{Slot}
 use Rattle.rules_record.specs.declared.FlowEntry.{FlowEntry}
 use Rattle.rules_record.specs.declared.Inputs.{Inputs}
@@ -23,12 +21,13 @@ use Rattle.rules_record.specs.Instances.{key_at, key_below, distinct_keys}
 use Rattle.rules_record.specs.Lent.{Lists, buckets_in}
 use Rattle.rules_record.specs.WholePlaces.{route_fits}
 use Rattle.rules_record.specs.Facts.{WholeSlot, WholeInput, WholeFlows, WholeInstances, Checked}
+use Rattle.rules_record.specs.declared.Route.{Route}
 
 -- ---- more flows known
-route_more : (to : Routed) (state : State) (n m : ℕ) → n ≤ m → route_fits to state n ≡ true → route_fits to state m ≡ true
+route_more : (to : Option Route) (state : State) (n m : ℕ) → n ≤ m → route_fits to state n ≡ true → route_fits to state m ≡ true
 unfolding route_fits
-route_more Nowhere state n m h fits = fits
-route_more (To route) state n m h fits =
+route_more None state n m h fits = fits
+route_more (Some route) state n m h fits =
     let t = both_true (ltb route.flow n) _ fits in
     let low : route.flow < n = ltb-true _ _ t.0 in
     true_both (ltb route.flow m) _ (lt-ltb route.flow m (omega arith)) t.1
@@ -132,8 +131,8 @@ module _ (s : Inputs) (l : Lists) (c : Checked s l) where
   unfolding remembered_for remembered_by route_fits
   remember_for_keeps slot delay w = by slot.route w.route
     where
-      by : (to : Routed) → route_fits to slot.state s.flow_count ≡ true → Checked (remembered_by to (is_auto slot.config.extra_delay) s delay) l
-      by Nowhere fits = c
-      by (To route) fits =
+      by : (to : Option Route) → route_fits to slot.state s.flow_count ≡ true → Checked (remembered_by to (is_auto slot.config.extra_delay) s delay) l
+      by None fits = c
+      by (Some route) fits =
           let low : route.flow < s.flow_count = ltb-true _ _ (both_true (ltb route.flow s.flow_count) _ fits).0 in
           pick_rule (λ (z : Inputs). Checked z l) (is_auto slot.config.extra_delay) (remembered s route.flow delay) s (λ e. remember_keeps route.flow delay low) (λ e. c)

@@ -1,12 +1,10 @@
 -- A place that passes the test for unused places is the empty one, and the empty one passes. Assumes nothing.
-use Rattle.std.specs.Prelude.{◌≡◌, ℕ, true, false}
+use Rattle.std.specs.Prelude.{◌≡◌, ℕ, true, false, None, Option, Some}
 use mathlib.Core.Path.{refl}
 use native.Mathlib.Omega.{arith}
 use borrow.Author.Tests.{eqb-true, not-true}
 use Rattle.base.specs.Choice.{both}
 use Rattle.base.proofs.Points.{both_true}
-use Rattle.delay_hold.specs.declared.Moment.{Moment}
-use Rattle.delay_hold.specs.declared.Moment.TheVariants.{Never, At}
 use Rattle.delay_hold.specs.declared.Seed.{Seed}
 use Rattle.delay_hold.specs.declared.LowerTimer.{LowerTimer}
 use Rattle.delay_hold.specs.declared.DelayHold.{DelayHold}
@@ -16,14 +14,7 @@ use Rattle.rules_record.specs.declared.ExtraDelay.{ExtraDelay}
 use Rattle.rules_record.specs.declared.ExtraDelay.TheVariants.{Auto, Ms}
 use Rattle.rules_record.specs.declared.State.{State}
 use Rattle.rules_record.specs.declared.State.TheVariants.{Unrouted, Waiting, Running, Stalled}
-use Rattle.rules_record.specs.declared.Routed.{Routed}
-use Rattle.rules_record.specs.declared.Routed.TheVariants.{Nowhere, To}
-use Rattle.rules_record.specs.declared.Inode.{Inode}
-use Rattle.rules_record.specs.declared.Inode.TheVariants.{Gone, Of}
-use Rattle.rules_record.specs.declared.Proposal.{Proposal}
-use Rattle.rules_record.specs.declared.Proposal.TheVariants.{Nothing, Pending}
 use Rattle.rules_record.specs.declared.Slot.{Slot}
-use Rattle.rules_record.specs.declared.Remembered.{Remembered}
 use Rattle.rules_record.specs.declared.FlowEntry.{FlowEntry}
 use Rattle.rules_record.specs.declared.Instance.{Instance}
 use Rattle.rules_record.specs.Slots.{is_auto, empty_slot}
@@ -31,31 +22,32 @@ use Rattle.rules_record.specs.States.{state_number}
 use Rattle.rules_record.specs.Flows.{empty_entry}
 use Rattle.rules_record.specs.Instances.{no_key}
 use Rattle.rules_record.specs.WholePlaces.{never_yet, no_seed, no_route, no_inode, no_proposal, no_delay, unused_timer, unused_hold, unused_parts, unused_numbers, unused_slot, unused_entry, unused_key}
+use Rattle.rules_record.specs.declared.Route.{Route}
 
 -- ---- one field
-is_never : (m : Moment) → never_yet m ≡ true → m ≡ Never
-is_never Never h = refl
-is_never (At time) h = let z : ◌≡◌ {A = ℕ} 0 1 = cc in absurd (omega arith)
+is_never : (m : Option ℕ) → never_yet m ≡ true → m ≡ None
+is_never None h = refl
+is_never (Some time) h = let z : ◌≡◌ {A = ℕ} 0 1 = cc in absurd (omega arith)
 
-is_no_seed : (x : Seed) → no_seed x ≡ true → x ≡ Seed.Nothing
-is_no_seed Seed.Nothing h = refl
-is_no_seed (Seed.From time delay) h = let z : ◌≡◌ {A = ℕ} 0 1 = cc in absurd (omega arith)
+is_no_seed : (x : Option Seed) → no_seed x ≡ true → x ≡ None
+is_no_seed None h = refl
+is_no_seed (Some seed) h = let z : ◌≡◌ {A = ℕ} 0 1 = cc in absurd (omega arith)
 
-is_nowhere : (x : Routed) → no_route x ≡ true → x ≡ Nowhere
-is_nowhere Nowhere h = refl
-is_nowhere (To route) h = let z : ◌≡◌ {A = ℕ} 0 1 = cc in absurd (omega arith)
+is_nowhere : (x : Option Route) → no_route x ≡ true → x ≡ None
+is_nowhere None h = refl
+is_nowhere (Some route) h = let z : ◌≡◌ {A = ℕ} 0 1 = cc in absurd (omega arith)
 
-is_gone : (x : Inode) → no_inode x ≡ true → x ≡ Gone
-is_gone Gone h = refl
-is_gone (Of inode) h = let z : ◌≡◌ {A = ℕ} 0 1 = cc in absurd (omega arith)
+is_gone : (x : Option ℕ) → no_inode x ≡ true → x ≡ None
+is_gone None h = refl
+is_gone (Some inode) h = let z : ◌≡◌ {A = ℕ} 0 1 = cc in absurd (omega arith)
 
-is_nothing : (x : Proposal) → no_proposal x ≡ true → x ≡ Nothing
-is_nothing Nothing h = refl
-is_nothing (Pending delay) h = let z : ◌≡◌ {A = ℕ} 0 1 = cc in absurd (omega arith)
+is_nothing : (x : Option ℕ) → no_proposal x ≡ true → x ≡ None
+is_nothing None h = refl
+is_nothing (Some delay) h = let z : ◌≡◌ {A = ℕ} 0 1 = cc in absurd (omega arith)
 
-is_unremembered : (x : Remembered) → no_delay x ≡ true → x ≡ Remembered.Never
-is_unremembered Remembered.Never h = refl
-is_unremembered (Remembered.Delay delay) h = let z : ◌≡◌ {A = ℕ} 0 1 = cc in absurd (omega arith)
+is_unremembered : (x : Option ℕ) → no_delay x ≡ true → x ≡ None
+is_unremembered None h = refl
+is_unremembered (Some delay) h = let z : ◌≡◌ {A = ℕ} 0 1 = cc in absurd (omega arith)
 
 is_automatic : (x : ExtraDelay) → is_auto x ≡ true → x ≡ Auto AutoTag.Auto
 is_automatic (Auto AutoTag.Auto) h = refl

@@ -1,19 +1,16 @@
 -- The flow table: where a flow stands, how one is added, and the delay that it had last. Assumes nothing.
-use Rattle.std.specs.Prelude.{ℕ, ◌+◌, min, Bool, true, not, List, ◌==◌, nat_lt, slice_index_or, slice_set}
+use Rattle.std.specs.Prelude.{ℕ, ◌+◌, min, Bool, true, not, List, ◌==◌, nat_lt, slice_index_or, slice_set, None, Option, Some}
 use Rattle.base.specs.Choice.{pick, both}
 use Rattle.base.specs.Lists.{all}
 use Rattle.byte_order.specs.Bytes.{bytes_at}
 use Rattle.rules_record.specs.declared.Flow.{Flow}
 use Rattle.rules_record.specs.declared.FlowEntry.{FlowEntry}
-use Rattle.rules_record.specs.declared.Remembered.{Remembered}
-use Rattle.rules_record.specs.declared.Remembered.TheVariants.{Never, Delay}
-use Rattle.rules_record.specs.declared.Routed.{Routed}
-use Rattle.rules_record.specs.declared.Routed.TheVariants.{Nowhere, To}
 use Rattle.rules_record.specs.declared.Slot.{Slot}
 use Rattle.rules_record.specs.declared.Inputs.{Inputs}
 use Rattle.base.specs.First.{first}
 use Rattle.rules_record.specs.Slots.{is_auto}
 use Rattle.rules_record.specs.Inputs.{with_flows}
+use Rattle.rules_record.specs.declared.Route.{Route}
 
 -- "A flow is 16 bytes": eight in each half
 unfoldable pub same_flow : (a b : Flow) → Bool
@@ -25,7 +22,7 @@ flow_from bytes place = record { high = bytes_at bytes place 8; low = bytes_at b
 
 -- an unused place
 unfoldable pub empty_entry : FlowEntry
-empty_entry = record { flow = record { high = 0; low = 0 }; remembered = Never }
+empty_entry = record { flow = record { high = 0; low = 0 }; remembered = None }
 
 -- the entry at a place of the table; there are 64
 abbrev pub entry_in : (table : List FlowEntry) (place : ℕ) → FlowEntry
@@ -65,7 +62,7 @@ admits s flow = pick (nat_lt (flow_place s flow) s.flow_count) true (nat_lt s.fl
 
 -- the flow takes this place, with nothing remembered
 abbrev pub added : (place : ℕ) (s : Inputs) (flow : Flow) → Inputs
-added place s flow = with_flows s (slice_set s.flows place (record { flow = flow; remembered = Never })) (place + 1) s.unsaved
+added place s flow = with_flows s (slice_set s.flows place (record { flow = flow; remembered = None })) (place + 1) s.unsaved
 
 -- "Routes and loaded delays enrol flows; none leaves": a new one takes the next place, where there is room
 unfoldable pub enrolled_at : (place : ℕ) (s : Inputs) (flow : Flow) → Inputs
@@ -75,19 +72,19 @@ unfoldable pub enrolled : (s : Inputs) (flow : Flow) → Inputs
 enrolled s flow = enrolled_at (flow_place s flow) s flow
 
 -- the delay remembered for the flow at a place
-unfoldable pub recalled : (s : Inputs) (place : ℕ) → Remembered
+unfoldable pub recalled : (s : Inputs) (place : ℕ) → Option ℕ
 recalled s place = (entry_at s place).remembered
 
 -- the delay is stored, with the unsaved mark as it is
 unfoldable pub kept : (s : Inputs) (place delay : ℕ) → Inputs
 kept s place delay =
     pick (nat_lt place 64)
-    (with_flows s (slice_set s.flows place (record { flow = flow_at s place; remembered = Delay delay })) s.flow_count s.unsaved)
+    (with_flows s (slice_set s.flows place (record { flow = flow_at s place; remembered = Some delay })) s.flow_count s.unsaved)
     s
 
-abbrev pub differs : Remembered → (delay : ℕ) → Bool
-differs Never delay = true
-differs (Delay before) delay = not (before == delay)
+abbrev pub differs : Option ℕ → (delay : ℕ) → Bool
+differs None delay = true
+differs (Some before) delay = not (before == delay)
 
 abbrev pub marked : Inputs → Inputs
 marked s = with_flows s s.flows s.flow_count true
@@ -97,9 +94,9 @@ unfoldable pub remembered : (s : Inputs) (place delay : ℕ) → Inputs
 remembered s place delay = pick (differs (recalled s place) delay) (marked (kept s place delay)) (kept s place delay)
 
 -- ".. if routed and automatic"
-unfoldable pub remembered_by : Routed → (automatic : Bool) (s : Inputs) (delay : ℕ) → Inputs
-remembered_by Nowhere automatic s delay = s
-remembered_by (To route) automatic s delay = pick automatic (remembered s route.flow delay) s
+unfoldable pub remembered_by : Option Route → (automatic : Bool) (s : Inputs) (delay : ℕ) → Inputs
+remembered_by None automatic s delay = s
+remembered_by (Some route) automatic s delay = pick automatic (remembered s route.flow delay) s
 
 unfoldable pub remembered_for : (s : Inputs) (slot : Slot) (delay : ℕ) → Inputs
 remembered_for s slot delay = remembered_by slot.route (is_auto slot.config.extra_delay) s delay

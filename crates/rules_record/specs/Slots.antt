@@ -1,7 +1,6 @@
 -- One input: its empty slot, and a slot with one part changed. Assumes nothing.
-use Rattle.std.specs.Prelude.{ℕ, Bool, true, false}
+use Rattle.std.specs.Prelude.{ℕ, Bool, true, false, None, Option, Some}
 use Rattle.delay_hold.specs.declared.DelayHold.{DelayHold}
-use Rattle.delay_hold.specs.declared.Moment.TheVariants.{Never, At}
 use Rattle.delay_hold.specs.Next.{fresh_hold}
 use Rattle.rules_record.specs.declared.AutoTag.TheVariants as AutoTag
 use Rattle.rules_record.specs.declared.ExtraDelay.{ExtraDelay}
@@ -9,13 +8,8 @@ use Rattle.rules_record.specs.declared.ExtraDelay.TheVariants.{Auto, Ms}
 use Rattle.rules_record.specs.declared.InputConfig.{InputConfig}
 use Rattle.rules_record.specs.declared.State.{State}
 use Rattle.rules_record.specs.declared.State.TheVariants.{Unrouted}
-use Rattle.rules_record.specs.declared.Routed.{Routed}
-use Rattle.rules_record.specs.declared.Routed.TheVariants.{Nowhere}
-use Rattle.rules_record.specs.declared.Inode.{Inode}
-use Rattle.rules_record.specs.declared.Inode.TheVariants.{Gone}
-use Rattle.rules_record.specs.declared.Proposal.{Proposal}
-use Rattle.rules_record.specs.declared.Proposal.TheVariants.{Nothing}
 use Rattle.rules_record.specs.declared.Slot.{Slot}
+use Rattle.rules_record.specs.declared.Route.{Route}
 
 -- "`ExtraDelay` is Auto with its tag, or Ms with a double"
 abbrev pub is_auto : ExtraDelay → Bool
@@ -27,21 +21,21 @@ unfoldable pub empty_slot : Slot
 empty_slot = record {
   config = record { extra_delay = Auto AutoTag.Auto };
   state = Unrouted;
-  route = Nowhere;
-  inode = Gone;
+  route = None;
+  inode = None;
   last_head = 0;
   head_changed = 0;
   reopens = 0;
   lag_seconds = 0;
   last_lag = 0;
   delay = 0;
-  proposed = Nothing;
+  proposed = None;
   hold = fresh_hold;
   delay_changes = 0;
   late_events = 0;
   late_before = false;
-  last_set = Never;
-  last_input = Never;
+  last_set = None;
+  last_input = None;
 }
 
 abbrev pub with_config : (slot : Slot) (config : InputConfig) → Slot
@@ -86,7 +80,7 @@ with_state slot state = record {
   last_input = slot.last_input;
 }
 
-abbrev pub with_route : (slot : Slot) (route : Routed) → Slot
+abbrev pub with_route : (slot : Slot) (route : Option Route) → Slot
 with_route slot route = record {
   config = slot.config;
   state = slot.state;
@@ -107,7 +101,7 @@ with_route slot route = record {
   last_input = slot.last_input;
 }
 
-abbrev pub with_inode : (slot : Slot) (inode : Inode) → Slot
+abbrev pub with_inode : (slot : Slot) (inode : Option ℕ) → Slot
 with_inode slot inode = record {
   config = slot.config;
   state = slot.state;
@@ -229,11 +223,11 @@ with_delay slot delay time = record {
   delay_changes = slot.delay_changes;
   late_events = slot.late_events;
   late_before = slot.late_before;
-  last_set = At time;
+  last_set = Some time;
   last_input = slot.last_input;
 }
 
-abbrev pub with_proposed : (slot : Slot) (proposed : Proposal) → Slot
+abbrev pub with_proposed : (slot : Slot) (proposed : Option ℕ) → Slot
 with_proposed slot proposed = record {
   config = slot.config;
   state = slot.state;
@@ -336,5 +330,5 @@ with_last_input slot time = record {
   late_events = slot.late_events;
   late_before = slot.late_before;
   last_set = slot.last_set;
-  last_input = At time;
+  last_input = Some time;
 }

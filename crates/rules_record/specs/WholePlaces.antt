@@ -1,23 +1,14 @@
 -- Document 01, check 6 of what stands in the record itself: an input's slot, a place that is not in use, the two tables. Assumes nothing.
-use Rattle.std.specs.Prelude.{ℕ, Bool, true, false, not, ◌==◌, nat_le, nat_lt}
+use Rattle.std.specs.Prelude.{ℕ, Bool, true, false, not, ◌==◌, nat_le, nat_lt, None, Option, Some}
 use Rattle.base.specs.Choice.{pick, both}
 use Rattle.base.specs.Limits.{timely, counter_limit}
 use Rattle.base.specs.Lists.{all}
-use Rattle.delay_hold.specs.declared.Moment.{Moment}
-use Rattle.delay_hold.specs.declared.Moment.TheVariants.{Never, At}
 use Rattle.delay_hold.specs.declared.Seed.{Seed}
 use Rattle.delay_hold.specs.declared.LowerTimer.{LowerTimer}
 use Rattle.delay_hold.specs.declared.DelayHold.{DelayHold}
 use Rattle.delay_hold.specs.Whole.{moment_timely}
 use Rattle.rules_record.specs.declared.State.{State}
-use Rattle.rules_record.specs.declared.Routed.{Routed}
-use Rattle.rules_record.specs.declared.Routed.TheVariants.{Nowhere, To}
-use Rattle.rules_record.specs.declared.Inode.{Inode}
-use Rattle.rules_record.specs.declared.Inode.TheVariants.{Gone, Of}
-use Rattle.rules_record.specs.declared.Proposal.{Proposal}
-use Rattle.rules_record.specs.declared.Proposal.TheVariants.{Nothing, Pending}
 use Rattle.rules_record.specs.declared.Slot.{Slot}
-use Rattle.rules_record.specs.declared.Remembered.{Remembered}
 use Rattle.rules_record.specs.declared.FlowEntry.{FlowEntry}
 use Rattle.rules_record.specs.declared.Instance.{Instance}
 use Rattle.rules_record.specs.declared.Inputs.{Inputs}
@@ -25,17 +16,18 @@ use Rattle.rules_record.specs.Slots.{is_auto}
 use Rattle.rules_record.specs.States.{is_unrouted, is_routed}
 use Rattle.rules_record.specs.Flows.{entry_at, distinct_flows}
 use Rattle.rules_record.specs.Instances.{key_at, distinct_keys}
+use Rattle.rules_record.specs.declared.Route.{Route}
 
 -- ---- an input's slot
 -- "delays, proposals .. at most maximum"
-abbrev pub proposal_fits : Proposal → (maximum : ℕ) → Bool
-proposal_fits Nothing maximum = true
-proposal_fits (Pending delay) maximum = nat_le delay maximum
+abbrev pub proposal_fits : Option ℕ → (maximum : ℕ) → Bool
+proposal_fits None maximum = true
+proposal_fits (Some delay) maximum = nat_le delay maximum
 
 -- "routed flows known; Unrouted exactly if no route": of n flows known the route names one by its place
-unfoldable pub route_fits : Routed → (state : State) (n : ℕ) → Bool
-route_fits Nowhere state n = is_unrouted state
-route_fits (To route) state n = both (nat_lt route.flow n) (is_routed state)
+unfoldable pub route_fits : Option Route → (state : State) (n : ℕ) → Bool
+route_fits None state n = is_unrouted state
+route_fits (Some route) state n = both (nat_lt route.flow n) (is_routed state)
 
 -- "counters below 2^63"
 abbrev pub counter_fits : ℕ → Bool
@@ -56,29 +48,29 @@ whole_slot maximum n slot =
     (moment_timely slot.last_input))))))))
 
 -- ---- "unused places zero"
-abbrev pub never_yet : Moment → Bool
-never_yet Never = true
-never_yet (At time) = false
+abbrev pub never_yet : Option ℕ → Bool
+never_yet None = true
+never_yet (Some time) = false
 
-abbrev pub no_seed : Seed → Bool
-no_seed Seed.Nothing = true
-no_seed (Seed.From time delay) = false
+abbrev pub no_seed : Option Seed → Bool
+no_seed None = true
+no_seed (Some seed) = false
 
-abbrev pub no_route : Routed → Bool
-no_route Nowhere = true
-no_route (To route) = false
+abbrev pub no_route : Option Route → Bool
+no_route None = true
+no_route (Some route) = false
 
-abbrev pub no_inode : Inode → Bool
-no_inode Gone = true
-no_inode (Of inode) = false
+abbrev pub no_inode : Option ℕ → Bool
+no_inode None = true
+no_inode (Some inode) = false
 
-abbrev pub no_proposal : Proposal → Bool
-no_proposal Nothing = true
-no_proposal (Pending delay) = false
+abbrev pub no_proposal : Option ℕ → Bool
+no_proposal None = true
+no_proposal (Some delay) = false
 
-abbrev pub no_delay : Remembered → Bool
-no_delay Remembered.Never = true
-no_delay (Remembered.Delay delay) = false
+abbrev pub no_delay : Option ℕ → Bool
+no_delay None = true
+no_delay (Some delay) = false
 
 -- the timer is off, and zero
 unfoldable pub unused_timer : LowerTimer → Bool

@@ -2,7 +2,7 @@
 // No code: the code that is proved equal to them stands in inputs_slots, inputs_flows, inputs_instances, inputs_places and inputs_checks.
 #![tactic(auto)]
 
-use delay_hold::{DelayHold, Moment};
+use delay_hold::DelayHold;
 use policy::DelayPolicy;
 
 #[derive(Clone, Copy)]
@@ -38,31 +38,11 @@ pub struct Route {
 }
 
 #[derive(Clone, Copy)]
-pub enum Routed {
-    Nowhere,
-    To(Route),
-}
-
-// The inode of a flow's data file, or none.
-#[derive(Clone, Copy)]
-pub enum Inode {
-    Gone,
-    Of(u64),
-}
-
-// An automatic delay that waits for confirmation, or none.
-#[derive(Clone, Copy)]
-pub enum Proposal {
-    Nothing,
-    Pending(u32),
-}
-
-#[derive(Clone, Copy)]
 pub struct Slot {
     pub config: InputConfig,
     pub state: State,
-    pub route: Routed,
-    pub inode: Inode,
+    pub route: Option<Route>,
+    pub inode: Option<u64>,
     pub last_head: u64,
     // When the head was last seen to move.
     pub head_changed: u64,
@@ -72,16 +52,16 @@ pub struct Slot {
     pub last_lag: u32,
     // The extra delay that was sent last (samples).
     pub delay: u32,
-    pub proposed: Proposal,
+    pub proposed: Option<u32>,
     pub hold: DelayHold,
     // Automatic delay changes (each one a fade), and ticks with a late block after one without.
     pub delay_changes: u64,
     pub late_events: u64,
     pub late_before: bool,
     // When the last SetDelay went to this input.
-    pub last_set: Moment,
+    pub last_set: Option<u64>,
     // When the last SetInput went to this input.
-    pub last_input: Moment,
+    pub last_input: Option<u64>,
 }
 
 // A flow's 16 bytes, the first weighing most: eight in high, eight in low.
@@ -91,17 +71,10 @@ pub struct Flow {
     pub low: u64,
 }
 
-// The last automatic delay of a flow (samples), or none.
-#[derive(Clone, Copy)]
-pub enum Remembered {
-    Never,
-    Delay(u32),
-}
-
 #[derive(Clone, Copy)]
 pub struct FlowEntry {
     pub flow: Flow,
-    pub remembered: Remembered,
+    pub remembered: Option<u32>,
 }
 
 // One generation of a flow: the flow's place and the inode of its data file.
@@ -138,24 +111,10 @@ pub struct Sent {
     pub used: usize,
 }
 
-// A key or none: one that is kept although no input reads it yet, or the one that an input reads.
-#[derive(Clone, Copy)]
-pub enum Extra {
-    Nothing,
-    Key(Instance),
-}
-
 // The length of the list that a call writes its answer to: none, words of commands, or bytes and how many it must have exactly.
 #[derive(Clone, Copy)]
 pub enum Output {
     Absent,
     Words(usize),
     Bytes(usize, usize),
-}
-
-// The number of the first check that says no, or 0, and the record.
-#[derive(Clone, Copy)]
-pub struct InputsAnswer {
-    pub number: u32,
-    pub inputs: Inputs,
 }

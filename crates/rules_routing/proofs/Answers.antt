@@ -1,15 +1,13 @@
 -- What clearing an input, `set_delay` and the time of a SetInput come to, in the papers' words. Assumes nothing.
+use Rattle.std.specs.Prelude.{Some}
 use Prim.Native.Nat.{ℕ, ◌<◌}
 use mathlib.Core.Bool.{true}
 use mathlib.Core.Path.{◌≡◌, refl, ap, ◌∙◌}
 use Rattle.base.proofs.Choices.{pick_all}
-use Rattle.delay_hold.specs.declared.Moment.TheVariants.{At}
 use Rattle.delay_hold.specs.Next.{fresh_hold}
 use Rattle.rules_record.specs.declared.Slot.{Slot}
 use Rattle.rules_record.specs.declared.Route.{Route}
 use Rattle.rules_record.specs.declared.Inputs.{Inputs}
-use Rattle.rules_record.specs.declared.Routed.TheVariants.{To}
-use Rattle.rules_record.specs.declared.Remembered.TheVariants.{Delay}
 use Rattle.rules_record.specs.Slots.{is_auto, with_delay}
 use Rattle.rules_record.specs.States.{is_waiting, is_stalled}
 use Rattle.rules_record.specs.Inputs.{slot_at, put_slot}
@@ -46,7 +44,7 @@ module _ (i : ℕ) (low : i < 16) (s : Inputs) (h : Sized s) where
     set_delay_stores = ap (λ (x : Slot). x.delay) (for_slot placed (slot_at s i) _ i ∙ slot_same s i (with_delay (slot_at s i) delay time) low h.slots)
 
     -- "remembers the delay for the flow if routed and automatic"
-    pub set_delay_remembers : {route : Route} → (slot_at s i).route ≡ To route → is_auto (slot_at s i).config.extra_delay ≡ true → route.flow < 64 → recalled (delay_stored s i delay time) route.flow ≡ Delay delay
+    pub set_delay_remembers : {route : Route} → (slot_at s i).route ≡ Some route → is_auto (slot_at s i).config.extra_delay ≡ true → route.flow < 64 → recalled (delay_stored s i delay time) route.flow ≡ Some delay
     unfolding delay_stored
     set_delay_remembers {route} to auto known =
         ap (λ (z : Inputs). recalled z route.flow) (for_automatic placed (slot_at s i) delay to auto)
@@ -59,12 +57,12 @@ module _ (i : ℕ) (low : i < 16) (s : Inputs) (h : Sized s) where
 -- ---- document 02, §4: "The time of the last SetInput joins the input's record."
 module _ (slot : Slot) where
   -- an input that opens has it, one that is still Stalled too
-  pub opening_stores_its_time : (inode head time : ℕ) → (opened_slot slot inode head time).last_input ≡ At time
+  pub opening_stores_its_time : (inode head time : ℕ) → (opened_slot slot inode head time).last_input ≡ Some time
   unfolding opened_slot running_slot
   opening_stores_its_time inode head time =
-      pick_all (λ (x : Slot). x.last_input ≡ At time) (is_waiting slot.state)
-      (pick_all (λ (x : Slot). x.last_input ≡ At time) (is_stalled slot.state) refl refl)
-      (pick_all (λ (x : Slot). x.last_input ≡ At time) (is_stalled slot.state) refl refl)
+      pick_all (λ (x : Slot). x.last_input ≡ Some time) (is_waiting slot.state)
+      (pick_all (λ (x : Slot). x.last_input ≡ Some time) (is_stalled slot.state) refl refl)
+      (pick_all (λ (x : Slot). x.last_input ≡ Some time) (is_stalled slot.state) refl refl)
 
   -- .. and the time of the last SetDelay as it was
   pub opening_leaves_the_delays_time : (inode head time : ℕ) → (opened_slot slot inode head time).last_set ≡ slot.last_set

@@ -1,4 +1,5 @@
 -- The definitions of opening as the code comes to them, each under what leads to it. Assumes nothing.
+use Rattle.std.specs.Prelude.{None, Option, Some}
 use Prim.Native.Nat.{ℕ, ◌+◌, min}
 use mathlib.Core.Bool.{true, false}
 use mathlib.Core.Path.{◌≡◌, sym, ap, ◌∙◌}
@@ -13,32 +14,22 @@ use Rattle.rules_record.specs.declared.Route.{Route}
 use Rattle.rules_record.specs.declared.Instance.{Instance}
 use Rattle.rules_record.specs.declared.Inputs.{Inputs}
 use Rattle.rules_record.specs.declared.State.TheVariants.{Running}
-use Rattle.rules_record.specs.declared.Routed.{Routed}
-use Rattle.rules_record.specs.declared.Routed.TheVariants.{Nowhere, To}
-use Rattle.rules_record.specs.declared.Inode.{Inode}
-use Rattle.rules_record.specs.declared.Inode.TheVariants.{Gone, Of}
-use Rattle.rules_record.specs.declared.Remembered.{Remembered}
-use Rattle.rules_record.specs.declared.Remembered.TheVariants.{Never, Delay}
 use Rattle.rules_record.specs.Slots.{is_auto, with_state, with_inode, with_head, with_reopens, with_hold, with_last_input}
 use Rattle.rules_record.specs.States.{state_number}
 use Rattle.rules_record.specs.Inputs.{slot_at, put_slot}
 use Rattle.rules_record.specs.Commands.{set_input, quiet, send_first}
 use Rattle.rules_record.specs.Flows.{recalled}
-use Rattle.rules_record.specs.declared.Extra.{Extra}
-use Rattle.rules_record.specs.declared.Extra.TheVariants.{Key}
 use Rattle.rules_record.specs.Instances.{found_key, made}
 use Rattle.rules_record.specs.Prune.{pruned}
 use Rattle.rules_record.proofs.InstanceKeys.{made_rest, pruned_rest}
-use Rattle.rules_routing.specs.declared.Reader.{Reader}
-use Rattle.rules_routing.specs.declared.Reader.TheVariants.{Shut, Open}
 use Rattle.rules_routing.specs.declared.World.{World}
 use Rattle.rules_routing.specs.TryOpen.{running_slot, opened_slot, starts_anew, seeded_at, start_at, start_of, start_by, recall_of, open_with, open_reader, open_at, open_seen, open_routed, try_open_of}
 
 -- ---- the slot
 module _ (slot : Slot) (inode head time : ℕ) {number : ℕ} (code : number ≡ state_number slot.state) where
-  module _ {told placed : Slot} (t : told ≡ with_last_input slot time) (e : placed ≡ with_inode told (Of inode)) where
-    placed_is : placed ≡ with_inode (with_last_input slot time) (Of inode)
-    placed_is = e ∙ ap (λ (x : Slot). with_inode x (Of inode)) t
+  module _ {told placed : Slot} (t : told ≡ with_last_input slot time) (e : placed ≡ with_inode told (Some inode)) where
+    placed_is : placed ≡ with_inode (with_last_input slot time) (Some inode)
+    placed_is = e ∙ ap (λ (x : Slot). with_inode x (Some inode)) t
 
     pub running_stalled : number ≡ 3 → {r : Slot} → r ≡ with_head placed head slot.head_changed → r ≡ running_slot slot inode head time
     unfolding running_slot
@@ -91,36 +82,36 @@ module _ (slot : Slot) (place : ℕ) (s : Inputs) (i time : ℕ) where
   unfolding recall_of
   recall_not h = no_pick _ _ h
 
-  module _ (h : starts_anew slot ≡ true) {remembered : Remembered} (e : remembered ≡ recalled s place) where
+  module _ (h : starts_anew slot ≡ true) {remembered : Option ℕ} (e : remembered ≡ recalled s place) where
     recall_by : recall_of slot place s i time ≡ start_by remembered s i time
     unfolding recall_of
-    recall_by = yes_pick _ _ h ∙ ap (λ (x : Remembered). start_by x s i time) (sym e)
+    recall_by = yes_pick _ _ h ∙ ap (λ (x : Option ℕ). start_by x s i time) (sym e)
 
-    pub recall_none : remembered ≡ Never → recall_of slot place s i time ≡ quiet s
+    pub recall_none : remembered ≡ None → recall_of slot place s i time ≡ quiet s
     unfolding start_by
-    recall_none f = recall_by ∙ ap (λ (x : Remembered). start_by x s i time) f
+    recall_none f = recall_by ∙ ap (λ (x : Option ℕ). start_by x s i time) f
 
-    pub recall_last : {last : ℕ} → remembered ≡ Delay last → recall_of slot place s i time ≡ start_of s i last time
+    pub recall_last : {last : ℕ} → remembered ≡ Some last → recall_of slot place s i time ≡ start_of s i last time
     unfolding start_by
-    recall_last f = recall_by ∙ ap (λ (x : Remembered). start_by x s i time) f
+    recall_last f = recall_by ∙ ap (λ (x : Option ℕ). start_by x s i time) f
 
 -- ---- the reader
 module _ (place inode : ℕ) (s : Inputs) (i time : ℕ) (world : World) where
-  pub reader_shut : world.reader ≡ Shut → open_reader world.reader place inode s i time world ≡ quiet s
+  pub reader_shut : world.reader ≡ None → open_reader world.reader place inode s i time world ≡ quiet s
   unfolding open_reader
-  reader_shut h = ap (λ (x : Reader). open_reader x place inode s i time world) h
+  reader_shut h = ap (λ (x : Option ℕ). open_reader x place inode s i time world) h
 
-  pub reader_opens : {channels : ℕ} → world.reader ≡ Open channels → {slot after : Slot} {all : Inputs} → slot ≡ slot_at s i → after ≡ opened_slot slot inode world.head time → all ≡ put_slot s i after
+  pub reader_opens : {channels : ℕ} → world.reader ≡ Some channels → {slot after : Slot} {all : Inputs} → slot ≡ slot_at s i → after ≡ opened_slot slot inode world.head time → all ≡ put_slot s i after
       → open_reader world.reader place inode s i time world ≡ send_first (set_input i channels) (recall_of slot place all i time)
   unfolding open_reader open_with
   reader_opens {channels} h {slot} e f g =
-      ap (λ (x : Reader). open_reader x place inode s i time world) h
+      ap (λ (x : Option ℕ). open_reader x place inode s i time world) h
       ∙ ap (λ (x : Slot). open_with x channels place inode s i time world) (sym e)
       ∙ ap (λ (z : Inputs). send_first (set_input i channels) (recall_of slot place z i time)) (sym (g ∙ ap (put_slot s i) f))
 
 -- ---- the instance
 -- making and pruning leave the slots
-pub slot_pruned : (s : Inputs) (extra : Extra) (i : ℕ) → slot_at (pruned s extra) i ≡ slot_at s i
+pub slot_pruned : (s : Inputs) (extra : Option Instance) (i : ℕ) → slot_at (pruned s extra) i ≡ slot_at s i
 unfolding slot_at
 slot_pruned s extra i = ap (λ (z : Inputs). slot_at z i) (pruned_rest s extra)
 
@@ -133,28 +124,28 @@ module _ (s : Inputs) (i time : ℕ) (world : World) {slot : Slot} (e : slot ≡
   unfolding try_open_of
   routed = ap (λ (x : Slot). open_routed x.route s i time world) (sym e)
 
-  pub open_nowhere : slot.route ≡ Nowhere → try_open_of s i time world ≡ quiet s
+  pub open_nowhere : slot.route ≡ None → try_open_of s i time world ≡ quiet s
   unfolding open_routed
-  open_nowhere h = routed ∙ ap (λ (x : Routed). open_routed x s i time world) h
+  open_nowhere h = routed ∙ ap (λ (x : Option Route). open_routed x s i time world) h
 
-  module _ {route : Route} (to : slot.route ≡ To route) where
+  module _ {route : Route} (to : slot.route ≡ Some route) where
     seen : try_open_of s i time world ≡ open_seen world.inode route.flow s i time world
     unfolding open_routed
-    seen = routed ∙ ap (λ (x : Routed). open_routed x s i time world) to
+    seen = routed ∙ ap (λ (x : Option Route). open_routed x s i time world) to
 
-    pub open_gone : world.inode ≡ Gone → try_open_of s i time world ≡ quiet s
+    pub open_gone : world.inode ≡ None → try_open_of s i time world ≡ quiet s
     unfolding open_seen
-    open_gone h = seen ∙ ap (λ (x : Inode). open_seen x route.flow s i time world) h
+    open_gone h = seen ∙ ap (λ (x : Option ℕ). open_seen x route.flow s i time world) h
 
-    module _ {inode : ℕ} (of : world.inode ≡ Of inode) where
+    module _ {inode : ℕ} (of : world.inode ≡ Some inode) where
       abbrev key : Instance
       key = record { flow = route.flow; inode = inode }
 
       at : try_open_of s i time world ≡ open_at key s i time world
       unfolding open_seen
-      at = seen ∙ ap (λ (x : Inode). open_seen x route.flow s i time world) of
+      at = seen ∙ ap (λ (x : Option ℕ). open_seen x route.flow s i time world) of
 
-      pub open_found : found_key s key ≡ true → {kept : Inputs} → kept ≡ pruned s (Key key) → try_open_of s i time world ≡ open_reader world.reader route.flow inode kept i time world
+      pub open_found : found_key s key ≡ true → {kept : Inputs} → kept ≡ pruned s (Some key) → try_open_of s i time world ≡ open_reader world.reader route.flow inode kept i time world
       unfolding open_at
       open_found h f = at ∙ yes_pick _ _ h ∙ ap (λ (z : Inputs). open_reader world.reader route.flow inode z i time world) (sym f)
 
@@ -163,10 +154,10 @@ module _ (s : Inputs) (i time : ℕ) (world : World) {slot : Slot} (e : slot ≡
         unfolding open_at
         open_unmade h = at ∙ no_pick _ _ none ∙ no_pick _ _ h
 
-        pub open_made : world.made ≡ true → {more kept : Inputs} → more ≡ made s key → kept ≡ pruned more (Key key) → try_open_of s i time world ≡ open_reader world.reader route.flow inode kept i time world
+        pub open_made : world.made ≡ true → {more kept : Inputs} → more ≡ made s key → kept ≡ pruned more (Some key) → try_open_of s i time world ≡ open_reader world.reader route.flow inode kept i time world
         unfolding open_at
         open_made h f g =
             at
             ∙ no_pick _ _ none
             ∙ yes_pick _ _ h
-            ∙ ap (λ (z : Inputs). open_reader world.reader route.flow inode z i time world) (sym (g ∙ ap (λ (z : Inputs). pruned z (Key key)) f))
+            ∙ ap (λ (z : Inputs). open_reader world.reader route.flow inode z i time world) (sym (g ∙ ap (λ (z : Inputs). pruned z (Some key)) f))

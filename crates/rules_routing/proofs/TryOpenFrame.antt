@@ -1,4 +1,5 @@
 -- What a step on one input leaves alone: settings, the other inputs, the flows; keys stay distinct and few. Assumes nothing.
+use Rattle.std.specs.Prelude.{None, Option, Some}
 use Prim.Native.Nat.{ℕ, ◌≤◌}
 use mathlib.Core.Bool.{false}
 use mathlib.Core.Path.{◌≡◌, refl, sym, ap, subst, ◌∙◌}
@@ -6,12 +7,6 @@ use Rattle.base.proofs.Choices.{pick_all, pick_rule}
 use Rattle.rules_record.specs.declared.Slot.{Slot}
 use Rattle.rules_record.specs.declared.Instance.{Instance}
 use Rattle.rules_record.specs.declared.Inputs.{Inputs}
-use Rattle.rules_record.specs.declared.Routed.{Routed}
-use Rattle.rules_record.specs.declared.Routed.TheVariants.{Nowhere, To}
-use Rattle.rules_record.specs.declared.Inode.{Inode}
-use Rattle.rules_record.specs.declared.Inode.TheVariants.{Gone, Of}
-use Rattle.rules_record.specs.declared.Remembered.{Remembered}
-use Rattle.rules_record.specs.declared.Remembered.TheVariants.{Never, Delay}
 use Rattle.rules_record.specs.Slots.{with_delay}
 use Rattle.rules_record.specs.Inputs.{slot_at, put_slot, with_slots, with_flows, with_instances}
 use Rattle.rules_record.proofs.SlotFrame.{slot_other, put_rest}
@@ -20,19 +15,16 @@ use Rattle.rules_record.specs.Sized.{Sized}
 use Rattle.rules_record.specs.Commands.{Done, quiet, send_first, changed}
 use Rattle.rules_record.specs.Flows.{entry_at, flow_at, recalled}
 use Rattle.rules_record.proofs.FlowTable.{for_flow}
-use Rattle.rules_record.specs.declared.Extra.{Extra}
-use Rattle.rules_record.specs.declared.Extra.TheVariants.{Key}
 use Rattle.rules_record.specs.Instances.{key_at, keys_held, found_key, made}
 use Rattle.rules_record.specs.Prune.{pruned}
 use Rattle.rules_record.proofs.InstanceKeys.{Distinct, made_rest, made_sized, made_distinct, pruned_rest, pruned_sized, pruned_distinct}
 use Rattle.rules_record.proofs.FewInstances.{pruned_few}
 use Rattle.rules_routing.specs.SetDelay.{delay_stored, set_delay_of}
 use Rattle.rules_routing.proofs.SetDelayStored.{stored_rest, stored_other, stored_sized}
-use Rattle.rules_routing.specs.declared.Reader.{Reader}
-use Rattle.rules_routing.specs.declared.Reader.TheVariants.{Shut, Open}
 use Rattle.rules_routing.specs.declared.World.{World}
 use Rattle.rules_routing.specs.TryOpen.{opened_slot, starts_anew, seeded_at, start_at, start_of, start_by, recall_of, open_with, open_reader, open_at, open_seen, open_routed, try_open_of}
 use Rattle.rules_routing.proofs.TryOpenCases.{slot_pruned, slot_made}
+use Rattle.rules_record.specs.declared.Route.{Route}
 
 -- every flow keeps its place
 stored_flow : (s : Inputs) (i delay time : ℕ) → Sized s → (place : ℕ) → flow_at (delay_stored s i delay time) place ≡ flow_at s place
@@ -125,7 +117,7 @@ module _ (i : ℕ) where
         few = λ h d l. subst (λ (z : Inputs). z.instance_count ≤ 17) (sym e) l;
       }
 
-  pub frame_pruned : (s : Inputs) (extra : Extra) → Frame i s (pruned s extra)
+  pub frame_pruned : (s : Inputs) (extra : Option Instance) → Frame i s (pruned s extra)
   unfolding flow_at entry_at
   frame_pruned s extra =
       let e : pruned s extra ≡ with_instances s (pruned s extra).instances (pruned s extra).instance_count = pruned_rest s extra in
@@ -144,7 +136,7 @@ module _ (i : ℕ) where
       }
 
   -- a key that is not found is made, and the table is pruned at once
-  pub frame_made : (s : Inputs) (key : Instance) (extra : Extra) → found_key s key ≡ false → Frame i s (pruned (made s key) extra)
+  pub frame_made : (s : Inputs) (key : Instance) (extra : Option Instance) → found_key s key ≡ false → Frame i s (pruned (made s key) extra)
   unfolding flow_at entry_at
   frame_made s key extra none =
       let more : Inputs = made s key in
@@ -176,15 +168,15 @@ module _ (i : ℕ) where
   unfolding start_at seeded_at changed set_delay_of send_first quiet
   start_leaves delay s time = frame_then (frame_stored s delay time) (frame_put (delay_stored s i delay time) _)
 
-  by_leaves : (remembered : Remembered) (s : Inputs) (time : ℕ) → Leaves s (start_by remembered s i time)
+  by_leaves : (remembered : Option ℕ) (s : Inputs) (time : ℕ) → Leaves s (start_by remembered s i time)
   unfolding start_by start_of
-  by_leaves Never s time = leaves_quiet s
-  by_leaves (Delay last) s time = start_leaves _ s time
+  by_leaves None s time = leaves_quiet s
+  by_leaves (Some last) s time = start_leaves _ s time
 
-  reader_leaves : (reader : Reader) (place inode : ℕ) (s : Inputs) (time : ℕ) (world : World) → Leaves s (open_reader reader place inode s i time world)
+  reader_leaves : (reader : Option ℕ) (place inode : ℕ) (s : Inputs) (time : ℕ) (world : World) → Leaves s (open_reader reader place inode s i time world)
   unfolding open_reader open_with send_first recall_of
-  reader_leaves Shut place inode s time world = leaves_quiet s
-  reader_leaves (Open channels) place inode s time world =
+  reader_leaves None place inode s time world = leaves_quiet s
+  reader_leaves (Some channels) place inode s time world =
       let after : Inputs = put_slot s i (opened_slot (slot_at s i) inode world.head time) in
       frame_then (frame_put s _) (pick_all (Leaves after) (starts_anew (slot_at s i)) (by_leaves (recalled after place) after time) (leaves_quiet after))
 
@@ -192,18 +184,18 @@ module _ (i : ℕ) where
   unfolding open_at
   at_leaves key s time world =
       pick_rule (Leaves s) (found_key s key) _ _
-      (λ e. frame_then (frame_pruned s (Key key)) (reader_leaves world.reader _ _ _ time world))
-      (λ e. pick_all (Leaves s) world.made (frame_then (frame_made s key (Key key) e) (reader_leaves world.reader _ _ _ time world)) (leaves_quiet s))
+      (λ e. frame_then (frame_pruned s (Some key)) (reader_leaves world.reader _ _ _ time world))
+      (λ e. pick_all (Leaves s) world.made (frame_then (frame_made s key (Some key) e) (reader_leaves world.reader _ _ _ time world)) (leaves_quiet s))
 
-  seen_leaves : (inode : Inode) (place : ℕ) (s : Inputs) (time : ℕ) (world : World) → Leaves s (open_seen inode place s i time world)
+  seen_leaves : (inode : Option ℕ) (place : ℕ) (s : Inputs) (time : ℕ) (world : World) → Leaves s (open_seen inode place s i time world)
   unfolding open_seen
-  seen_leaves Gone place s time world = leaves_quiet s
-  seen_leaves (Of inode) place s time world = at_leaves _ s time world
+  seen_leaves None place s time world = leaves_quiet s
+  seen_leaves (Some inode) place s time world = at_leaves _ s time world
 
-  routed_leaves : (to : Routed) (s : Inputs) (time : ℕ) (world : World) → Leaves s (open_routed to s i time world)
+  routed_leaves : (to : Option Route) (s : Inputs) (time : ℕ) (world : World) → Leaves s (open_routed to s i time world)
   unfolding open_routed
-  routed_leaves Nowhere s time world = leaves_quiet s
-  routed_leaves (To route) s time world = seen_leaves world.inode route.flow s time world
+  routed_leaves None s time world = leaves_quiet s
+  routed_leaves (Some route) s time world = seen_leaves world.inode route.flow s time world
 
   pub open_leaves : (s : Inputs) (time : ℕ) (world : World) → Frame i s (try_open_of s i time world).inputs
   unfolding try_open_of

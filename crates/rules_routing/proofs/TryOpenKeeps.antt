@@ -1,4 +1,5 @@
 -- `try_open` keeps a checked record checked, where a reopen that counts stays below 2^63. Assumes nothing.
+use Rattle.std.specs.Prelude.{None, Option, Some}
 use Prim.Native.Nat.{ℕ, ◌+◌, ◌<◌, ◌≤◌, min}
 use mathlib.Core.Bool.{true}
 use mathlib.Core.Path.{◌≡◌, refl, sym, ap, subst, ◌∙◌}
@@ -13,12 +14,6 @@ use Rattle.delay_hold.proofs.Marks.{seeded_whole}
 use Rattle.rules_record.specs.declared.State.{State}
 use Rattle.rules_record.specs.declared.State.TheVariants.{Running}
 use Rattle.rules_record.specs.declared.Route.{Route}
-use Rattle.rules_record.specs.declared.Routed.{Routed}
-use Rattle.rules_record.specs.declared.Routed.TheVariants.{Nowhere, To}
-use Rattle.rules_record.specs.declared.Inode.{Inode}
-use Rattle.rules_record.specs.declared.Inode.TheVariants.{Gone, Of}
-use Rattle.rules_record.specs.declared.Remembered.{Remembered}
-use Rattle.rules_record.specs.declared.Remembered.TheVariants.{Never, Delay}
 use Rattle.rules_record.specs.declared.Slot.{Slot}
 use Rattle.rules_record.specs.declared.Instance.{Instance}
 use Rattle.rules_record.specs.declared.Inputs.{Inputs}
@@ -27,13 +22,10 @@ use Rattle.rules_record.specs.States.{state_number, is_waiting, is_stalled, is_r
 use Rattle.rules_record.specs.Inputs.{slot_at, put_slot, with_instances}
 use Rattle.rules_record.specs.Commands.{Done, quiet, send_first, changed}
 use Rattle.rules_record.specs.Flows.{recalled}
-use Rattle.rules_record.specs.declared.Extra.TheVariants.{Key}
 use Rattle.rules_record.specs.Instances.{found_key, made}
 use Rattle.rules_record.specs.Prune.{pruned}
 use Rattle.rules_record.proofs.InstanceKeys.{pruned_rest, made_rest}
 use Rattle.rules_routing.specs.SetDelay.{delay_stored, set_delay_of}
-use Rattle.rules_routing.specs.declared.Reader.{Reader}
-use Rattle.rules_routing.specs.declared.Reader.TheVariants.{Shut, Open}
 use Rattle.rules_routing.specs.declared.World.{World}
 use Rattle.rules_routing.specs.TryOpen.{running_slot, opened_slot, starts_anew, seeded_at, start_at, start_of, start_by, recall_of, open_with, open_reader, open_at, open_seen, open_routed, try_open_of}
 use Rattle.rules_record.specs.Lent.{Lists, buckets_in, held_of}
@@ -51,15 +43,15 @@ ReopenFits slot = (state_number slot.state ≡ 1 → ⊥) → slot.reopens + 1 <
 
 -- ---- the slot
 -- a routed input is Waiting, Running or Stalled
-pub routed_state : (route : Route) (state : State) (n : ℕ) → route_fits (To route) state n ≡ true → 1 ≤ state_number state
+pub routed_state : (route : Route) (state : State) (n : ℕ) → route_fits (Some route) state n ≡ true → 1 ≤ state_number state
 unfolding route_fits
 routed_state route state n fits = leb-true 1 (state_number state) (both_true (ltb route.flow n) (is_routed state) fits).1
 
 -- .. and its route fits each of these states
-pub route_state : (to : Routed) (old new : State) (n : ℕ) → 1 ≤ state_number old → 1 ≤ state_number new → route_fits to old n ≡ true → route_fits to new n ≡ true
+pub route_state : (to : Option Route) (old new : State) (n : ℕ) → 1 ≤ state_number old → 1 ≤ state_number new → route_fits to old n ≡ true → route_fits to new n ≡ true
 unfolding route_fits
-route_state Nowhere old new n h k fits = let none : state_number old ≡ 0 = eqb-true (state_number old) 0 fits in absurd (omega arith)
-route_state (To route) old new n h k fits = true_both (ltb route.flow n) (is_routed new) (both_true (ltb route.flow n) (is_routed old) fits).0 (le-leb 1 (state_number new) k)
+route_state None old new n h k fits = let none : state_number old ≡ 0 = eqb-true (state_number old) 0 fits in absurd (omega arith)
+route_state (Some route) old new n h k fits = true_both (ltb route.flow n) (is_routed new) (both_true (ltb route.flow n) (is_routed old) fits).0 (le-leb 1 (state_number new) k)
 
 module _ (maximum n : ℕ) (slot : Slot) (w : WholeSlot maximum n slot) where
   pub reopens_fit : (reopens : ℕ) → reopens < counter_limit → WholeSlot maximum n (with_reopens slot reopens)
@@ -144,16 +136,16 @@ module _ (l : Lists) (i time : ℕ) (soon : time ≤ time_limit) where
         opened = w.slot.opened;
       })
 
-  by_keeps : (remembered : Remembered) (s : Inputs) → Checked s l → i < s.count → Checked (start_by remembered s i time).inputs l
+  by_keeps : (remembered : Option ℕ) (s : Inputs) → Checked s l → i < s.count → Checked (start_by remembered s i time).inputs l
   unfolding start_by start_of quiet
-  by_keeps Never s c h = c
-  by_keeps (Delay last) s c h = start_keeps (min last s.policy.delay_max) s c h (omega arith)
+  by_keeps None s c h = c
+  by_keeps (Some last) s c h = start_keeps (min last s.policy.delay_max) s c h (omega arith)
 
-  reader_keeps : (reader : Reader) (place inode : ℕ) (s : Inputs) (world : World) → Checked s l → i < s.count → 1 ≤ state_number (slot_at s i).state → ReopenFits (slot_at s i)
+  reader_keeps : (reader : Option ℕ) (place inode : ℕ) (s : Inputs) (world : World) → Checked s l → i < s.count → 1 ≤ state_number (slot_at s i).state → ReopenFits (slot_at s i)
       → Checked (open_reader reader place inode s i time world).inputs l
   unfolding open_reader open_with send_first recall_of quiet
-  reader_keeps Shut place inode s world c h routed few = c
-  reader_keeps (Open channels) place inode s world c h routed few =
+  reader_keeps None place inode s world c h routed few = c
+  reader_keeps (Some channels) place inode s world c h routed few =
       let slot : Slot = opened_slot (slot_at s i) inode world.head time in
       let after : Inputs = put_slot s i slot in
       let kept : Checked after l =
@@ -165,7 +157,7 @@ module _ (l : Lists) (i time : ℕ) (soon : time ≤ time_limit) where
 
   module _ (s : Inputs) (world : World) (c : Checked s l) (h : i < s.count) where
     -- the reader is asked in a record of which only the instances changed
-    under_keeps : (reader : Reader) (place inode : ℕ) (z : Inputs) → z ≡ with_instances s z.instances z.instance_count → Checked z l → 1 ≤ state_number (slot_at s i).state → ReopenFits (slot_at s i)
+    under_keeps : (reader : Option ℕ) (place inode : ℕ) (z : Inputs) → z ≡ with_instances s z.instances z.instance_count → Checked z l → 1 ≤ state_number (slot_at s i).state → ReopenFits (slot_at s i)
         → Checked (open_reader reader place inode z i time world).inputs l
     under_keeps reader place inode z e kept routed few =
         reader_keeps reader place inode z world kept (subst (λ (x : Inputs). i < x.count) (sym e) h)
@@ -176,23 +168,23 @@ module _ (l : Lists) (i time : ℕ) (soon : time ≤ time_limit) where
     unfolding open_at quiet
     at_keeps key known routed few =
         pick_rule (λ (done : Done). Checked done.inputs l) (found_key s key) _ _
-        (λ e. under_keeps world.reader key.flow key.inode (pruned s (Key key)) (pruned_rest s (Key key)) (prune_keeps s l c (Key key)) routed few)
+        (λ e. under_keeps world.reader key.flow key.inode (pruned s (Some key)) (pruned_rest s (Some key)) (prune_keeps s l c (Some key)) routed few)
         (λ e.
         pick_all (λ (done : Done). Checked done.inputs l) world.made
-        (under_keeps world.reader key.flow key.inode (pruned (made s key) (Key key))
-        (pruned_rest (made s key) (Key key) ∙ ap (λ (x : Inputs). with_instances x (pruned (made s key) (Key key)).instances (pruned (made s key) (Key key)).instance_count) (made_rest s key))
-        (make_keeps s l c (Key key) key e known) routed few)
+        (under_keeps world.reader key.flow key.inode (pruned (made s key) (Some key))
+        (pruned_rest (made s key) (Some key) ∙ ap (λ (x : Inputs). with_instances x (pruned (made s key) (Some key)).instances (pruned (made s key) (Some key)).instance_count) (made_rest s key))
+        (make_keeps s l c (Some key) key e known) routed few)
         c)
 
-    seen_keeps : (seen : Inode) (place : ℕ) → place < s.flow_count → 1 ≤ state_number (slot_at s i).state → ReopenFits (slot_at s i) → Checked (open_seen seen place s i time world).inputs l
+    seen_keeps : (seen : Option ℕ) (place : ℕ) → place < s.flow_count → 1 ≤ state_number (slot_at s i).state → ReopenFits (slot_at s i) → Checked (open_seen seen place s i time world).inputs l
     unfolding open_seen quiet
-    seen_keeps Gone place known routed few = c
-    seen_keeps (Of inode) place known routed few = at_keeps (record { flow = place; inode = inode }) known routed few
+    seen_keeps None place known routed few = c
+    seen_keeps (Some inode) place known routed few = at_keeps (record { flow = place; inode = inode }) known routed few
 
-    routed_keeps : (to : Routed) → route_fits to (slot_at s i).state s.flow_count ≡ true → ReopenFits (slot_at s i) → Checked (open_routed to s i time world).inputs l
+    routed_keeps : (to : Option Route) → route_fits to (slot_at s i).state s.flow_count ≡ true → ReopenFits (slot_at s i) → Checked (open_routed to s i time world).inputs l
     unfolding open_routed quiet route_fits
-    routed_keeps Nowhere fits few = c
-    routed_keeps (To route) fits few =
+    routed_keeps None fits few = c
+    routed_keeps (Some route) fits few =
         seen_keeps world.inode route.flow (ltb-true route.flow s.flow_count (both_true (ltb route.flow s.flow_count) (is_routed (slot_at s i).state) fits).0)
         (routed_state route (slot_at s i).state s.flow_count fits) few
 

@@ -1,4 +1,5 @@
 -- The definitions of watching as the code comes to them, each under what leads to it. Assumes nothing.
+use Rattle.std.specs.Prelude.{None, Option, Some}
 use Prim.Native.Nat.{ℕ, ◌+◌, ◌-◌, ◌<◌, ◌^◌}
 use mathlib.Core.Bool.{true, false}
 use mathlib.Core.Path.{◌≡◌, sym, ap, subst, ◌∙◌}
@@ -10,10 +11,6 @@ use Rattle.rules_record.specs.declared.Slot.{Slot}
 use Rattle.rules_record.specs.declared.Route.{Route}
 use Rattle.rules_record.specs.declared.Inputs.{Inputs}
 use Rattle.rules_record.specs.declared.State.TheVariants.{Waiting, Running, Stalled}
-use Rattle.rules_record.specs.declared.Routed.{Routed}
-use Rattle.rules_record.specs.declared.Routed.TheVariants.{Nowhere, To}
-use Rattle.rules_record.specs.declared.Inode.{Inode}
-use Rattle.rules_record.specs.declared.Inode.TheVariants.{Gone, Of}
 use Rattle.rules_record.specs.Slots.{with_state, with_head, with_reopens}
 use Rattle.rules_record.specs.States.{state_number}
 use Rattle.rules_record.specs.Inputs.{slot_at, put_slot}
@@ -68,40 +65,40 @@ module _ (slot : Slot) (s : Inputs) (i time : ℕ) (world : World) where
     head_stays h = yes_pick _ _ (eq-eqb _ _ same) ∙ no_pick _ _ h
 
 -- ---- the route and the inode
-module _ (s : Inputs) (i time : ℕ) (inode : Inode) (world : World) {slot : Slot} (e : slot ≡ slot_at s i) where
+module _ (s : Inputs) (i time : ℕ) (inode : Option ℕ) (world : World) {slot : Slot} (e : slot ≡ slot_at s i) where
   by_route : watch_of s i time inode world ≡ watch_routed slot.route inode slot s i time world
   unfolding watch_of watch_slot
   by_route = ap (λ (x : Slot). watch_slot x inode s i time world) (sym e)
 
-  pub watch_nowhere : slot.route ≡ Nowhere → watch_of s i time inode world ≡ quiet s
+  pub watch_nowhere : slot.route ≡ None → watch_of s i time inode world ≡ quiet s
   unfolding watch_routed
-  watch_nowhere h = by_route ∙ ap (λ (x : Routed). watch_routed x inode slot s i time world) h
+  watch_nowhere h = by_route ∙ ap (λ (x : Option Route). watch_routed x inode slot s i time world) h
 
-  module _ {route : Route} (to : slot.route ≡ To route) where
+  module _ {route : Route} (to : slot.route ≡ Some route) where
     by_seen : watch_of s i time inode world ≡ watch_seen inode slot s i time world
     unfolding watch_routed
-    by_seen = by_route ∙ ap (λ (x : Routed). watch_routed x inode slot s i time world) to
+    by_seen = by_route ∙ ap (λ (x : Option Route). watch_routed x inode slot s i time world) to
 
-    pub watch_gone : inode ≡ Gone → {waits : Slot} {all : Inputs} → waits ≡ lost_slot slot → all ≡ put_slot s i waits → watch_of s i time inode world ≡ send_first (clear_input i 0) (quiet all)
+    pub watch_gone : inode ≡ None → {waits : Slot} {all : Inputs} → waits ≡ lost_slot slot → all ≡ put_slot s i waits → watch_of s i time inode world ≡ send_first (clear_input i 0) (quiet all)
     unfolding watch_seen
     watch_gone h f g =
         by_seen
-        ∙ ap (λ (x : Inode). watch_seen x slot s i time world) h
+        ∙ ap (λ (x : Option ℕ). watch_seen x slot s i time world) h
         ∙ ap (λ (z : Inputs). send_first (clear_input i 0) (quiet z)) (sym (g ∙ ap (put_slot s i) f))
 
-    module _ {seen : ℕ} (of : inode ≡ Of seen) where
+    module _ {seen : ℕ} (of : inode ≡ Some seen) where
       by_stored : watch_of s i time inode world ≡ watch_stored slot.inode seen slot s i time world
       unfolding watch_seen
-      by_stored = by_seen ∙ ap (λ (x : Inode). watch_seen x slot s i time world) of
+      by_stored = by_seen ∙ ap (λ (x : Option ℕ). watch_seen x slot s i time world) of
 
-      pub watch_first : slot.inode ≡ Gone → watch_of s i time inode world ≡ try_open_of s i time world
+      pub watch_first : slot.inode ≡ None → watch_of s i time inode world ≡ try_open_of s i time world
       unfolding watch_stored
-      watch_first h = by_stored ∙ ap (λ (x : Inode). watch_stored x seen slot s i time world) h
+      watch_first h = by_stored ∙ ap (λ (x : Option ℕ). watch_stored x seen slot s i time world) h
 
-      module _ {mine : ℕ} (stored : slot.inode ≡ Of mine) where
+      module _ {mine : ℕ} (stored : slot.inode ≡ Some mine) where
         compared : watch_of s i time inode world ≡ pick (eqb mine seen) (watch_same slot s i time world) (try_open_of s i time world)
         unfolding watch_stored
-        compared = by_stored ∙ ap (λ (x : Inode). watch_stored x seen slot s i time world) stored
+        compared = by_stored ∙ ap (λ (x : Option ℕ). watch_stored x seen slot s i time world) stored
 
         pub watch_other : (mine ≡ seen → ⊥) → watch_of s i time inode world ≡ try_open_of s i time world
         watch_other h = compared ∙ no_pick _ _ (ne_eqb _ _ h)

@@ -1,4 +1,5 @@
 -- `watch` keeps a checked record checked, where one more reopen is below 2^63. Assumes nothing.
+use Rattle.std.specs.Prelude.{None, Option, Some}
 use Prim.Native.Nat.{ℕ, ◌+◌, ◌<◌, ◌≤◌}
 use mathlib.Core.Bool.{true}
 use mathlib.Core.Path.{◌≡◌, refl, sym, subst}
@@ -8,10 +9,6 @@ use Rattle.base.specs.Limits.{time_limit, counter_limit}
 use Rattle.base.proofs.Choices.{pick_all}
 use Rattle.rules_record.specs.declared.State.{State}
 use Rattle.rules_record.specs.declared.State.TheVariants.{Waiting, Running, Stalled}
-use Rattle.rules_record.specs.declared.Routed.{Routed}
-use Rattle.rules_record.specs.declared.Routed.TheVariants.{Nowhere, To}
-use Rattle.rules_record.specs.declared.Inode.{Inode}
-use Rattle.rules_record.specs.declared.Inode.TheVariants.{Gone, Of}
 use Rattle.rules_record.specs.declared.Slot.{Slot}
 use Rattle.rules_record.specs.declared.Inputs.{Inputs}
 use Rattle.rules_record.specs.Slots.{with_state, with_head}
@@ -28,6 +25,7 @@ use Rattle.rules_record.specs.Facts.{WholeSlot, Checked}
 use Rattle.rules_record.proofs.Keep.{slot_keeps}
 use Rattle.rules_routing.proofs.SettingsKept.{settings_put}
 use Rattle.rules_routing.proofs.TryOpenKeeps.{routed_state, route_state, reopens_fit, open_keeps}
+use Rattle.rules_record.specs.declared.Route.{Route}
 
 -- ---- the slot
 module _ (maximum n : ℕ) (slot : Slot) (w : WholeSlot maximum n slot) where
@@ -102,21 +100,21 @@ module _ (s : Inputs) (l : Lists) (i time : ℕ) (world : World) (c : Checked s 
         (slot_keeps s l i (moved_slot (slot_at s i) world.head time) c h (moved_fits s.policy.delay_max s.flow_count (slot_at s i) world.head time old routed soon)
         (moved_seconds (slot_at s i) world.head time) (moved_hold (slot_at s i) world.head time))
 
-    stored_inode_keeps : (stored : Inode) (inode : ℕ) → Checked (watch_stored stored inode (slot_at s i) s i time world).inputs l
+    stored_inode_keeps : (stored : Option ℕ) (inode : ℕ) → Checked (watch_stored stored inode (slot_at s i) s i time world).inputs l
     unfolding watch_stored
-    stored_inode_keeps Gone inode = open_now
-    stored_inode_keeps (Of mine) inode = pick_all (λ (done : Done). Checked done.inputs l) (eqb mine inode) same_keeps open_now
+    stored_inode_keeps None inode = open_now
+    stored_inode_keeps (Some mine) inode = pick_all (λ (done : Done). Checked done.inputs l) (eqb mine inode) same_keeps open_now
 
-    seen_keeps : (seen : Inode) → Checked (watch_seen seen (slot_at s i) s i time world).inputs l
+    seen_keeps : (seen : Option ℕ) → Checked (watch_seen seen (slot_at s i) s i time world).inputs l
     unfolding watch_seen send_first quiet lost_slot
-    seen_keeps Gone = slot_keeps s l i (lost_slot (slot_at s i)) c h (lost_fits s.policy.delay_max s.flow_count (slot_at s i) old routed few) refl refl
-    seen_keeps (Of inode) = stored_inode_keeps (slot_at s i).inode inode
+    seen_keeps None = slot_keeps s l i (lost_slot (slot_at s i)) c h (lost_fits s.policy.delay_max s.flow_count (slot_at s i) old routed few) refl refl
+    seen_keeps (Some inode) = stored_inode_keeps (slot_at s i).inode inode
 
-  routed_keeps : (to : Routed) (seen : Inode) → route_fits to (slot_at s i).state s.flow_count ≡ true → Checked (watch_routed to seen (slot_at s i) s i time world).inputs l
+  routed_keeps : (to : Option Route) (seen : Option ℕ) → route_fits to (slot_at s i).state s.flow_count ≡ true → Checked (watch_routed to seen (slot_at s i) s i time world).inputs l
   unfolding watch_routed quiet
-  routed_keeps Nowhere seen fits = c
-  routed_keeps (To route) seen fits = seen_keeps (routed_state route (slot_at s i).state s.flow_count fits) seen
+  routed_keeps None seen fits = c
+  routed_keeps (Some route) seen fits = seen_keeps (routed_state route (slot_at s i).state s.flow_count fits) seen
 
-  pub watch_keeps : (seen : Inode) → Checked (watch_of s i time seen world).inputs l
+  pub watch_keeps : (seen : Option ℕ) → Checked (watch_of s i time seen world).inputs l
   unfolding watch_of watch_slot
   watch_keeps seen = routed_keeps (slot_at s i).route seen old.route

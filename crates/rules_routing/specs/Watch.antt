@@ -1,19 +1,16 @@
 -- `watch`: a flow that is gone, created anew, moves or stands still. Assumes nothing.
-use Rattle.std.specs.Prelude.{ℕ, ◌+◌, ◌-◌, Bool, eqb, leb}
+use Rattle.std.specs.Prelude.{ℕ, ◌+◌, ◌-◌, Bool, eqb, leb, None, Option, Some}
 use Rattle.base.specs.Choice.{pick, both}
 use Rattle.rules_record.specs.declared.Slot.{Slot}
 use Rattle.rules_record.specs.declared.Inputs.{Inputs}
 use Rattle.rules_record.specs.declared.State.TheVariants.{Waiting, Running, Stalled}
-use Rattle.rules_record.specs.declared.Routed.{Routed}
-use Rattle.rules_record.specs.declared.Routed.TheVariants.{Nowhere, To}
-use Rattle.rules_record.specs.declared.Inode.{Inode}
-use Rattle.rules_record.specs.declared.Inode.TheVariants.{Gone, Of}
 use Rattle.rules_record.specs.Slots.{with_state, with_head, with_reopens}
 use Rattle.rules_record.specs.States.{is_running, is_stalled}
 use Rattle.rules_record.specs.Inputs.{slot_at, put_slot}
 use Rattle.rules_record.specs.Commands.{Done, clear_input, quiet, send_first}
 use Rattle.rules_routing.specs.declared.World.{World}
 use Rattle.rules_routing.specs.TryOpen.{try_open_of}
+use Rattle.rules_record.specs.declared.Route.{Route}
 
 -- "No inode: .. Waiting, reopens + 1."
 unfoldable pub lost_slot : Slot → Slot
@@ -35,22 +32,22 @@ watch_same slot s i time world =
     (quiet (put_slot s i (moved_slot slot world.head time)))
 
 -- "Other inode: `try_open`; either ends `watch`." by the inode that is stored
-unfoldable pub watch_stored : Inode → (inode : ℕ) (slot : Slot) (s : Inputs) (i time : ℕ) (world : World) → Done
-watch_stored Gone inode slot s i time world = try_open_of s i time world
-watch_stored (Of mine) inode slot s i time world = pick (eqb mine inode) (watch_same slot s i time world) (try_open_of s i time world)
+unfoldable pub watch_stored : Option ℕ → (inode : ℕ) (slot : Slot) (s : Inputs) (i time : ℕ) (world : World) → Done
+watch_stored None inode slot s i time world = try_open_of s i time world
+watch_stored (Some mine) inode slot s i time world = pick (eqb mine inode) (watch_same slot s i time world) (try_open_of s i time world)
 
 -- "No inode: ClearInput without forget .." by the inode that is seen
-unfoldable pub watch_seen : Inode → (slot : Slot) (s : Inputs) (i time : ℕ) (world : World) → Done
-watch_seen Gone slot s i time world = send_first (clear_input i 0) (quiet (put_slot s i (lost_slot slot)))
-watch_seen (Of inode) slot s i time world = watch_stored slot.inode inode slot s i time world
+unfoldable pub watch_seen : Option ℕ → (slot : Slot) (s : Inputs) (i time : ℕ) (world : World) → Done
+watch_seen None slot s i time world = send_first (clear_input i 0) (quiet (put_slot s i (lost_slot slot)))
+watch_seen (Some inode) slot s i time world = watch_stored slot.inode inode slot s i time world
 
 -- "An input without a route ends `watch` there."
-unfoldable pub watch_routed : Routed → (seen : Inode) (slot : Slot) (s : Inputs) (i time : ℕ) (world : World) → Done
-watch_routed Nowhere seen slot s i time world = quiet s
-watch_routed (To route) seen slot s i time world = watch_seen seen slot s i time world
+unfoldable pub watch_routed : Option Route → (seen : Option ℕ) (slot : Slot) (s : Inputs) (i time : ℕ) (world : World) → Done
+watch_routed None seen slot s i time world = quiet s
+watch_routed (Some route) seen slot s i time world = watch_seen seen slot s i time world
 
-unfoldable pub watch_slot : (slot : Slot) (seen : Inode) (s : Inputs) (i time : ℕ) (world : World) → Done
+unfoldable pub watch_slot : (slot : Slot) (seen : Option ℕ) (s : Inputs) (i time : ℕ) (world : World) → Done
 watch_slot slot seen s i time world = watch_routed slot.route seen slot s i time world
 
-unfoldable pub watch_of : (s : Inputs) (i time : ℕ) (seen : Inode) (world : World) → Done
+unfoldable pub watch_of : (s : Inputs) (i time : ℕ) (seen : Option ℕ) (world : World) → Done
 watch_of s i time seen world = watch_slot (slot_at s i) seen s i time world

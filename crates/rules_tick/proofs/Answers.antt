@@ -1,17 +1,14 @@
 -- What the parts of a tick come to, in document 01's words. Assumes nothing.
+use Rattle.std.specs.Prelude.{None, Some}
 use Prim.Native.Nat.{ℕ, ◌+◌, ◌<◌, max}
 use mathlib.Core.Bool.{Bool, true, false, not}
 use mathlib.Core.Path.{◌≡◌, refl, ap, ◌∙◌}
 use mathlib.Core.List.{List, ◌∷◌}
 use Rattle.base.specs.Choice.{both}
 use Rattle.base.proofs.Choices.{yes_pick, no_pick}
-use Rattle.delay_hold.specs.declared.Lag.TheVariants.{Of}
-use Rattle.delay_hold.specs.declared.Change.TheVariants.{To}
 use Rattle.delay_hold.specs.Step4Peaks.{greatest}
 use Rattle.rules_record.specs.declared.Slot.{Slot}
 use Rattle.rules_record.specs.declared.Inputs.{Inputs}
-use Rattle.rules_record.specs.declared.Proposal.TheVariants.{Nothing, Pending}
-use Rattle.rules_record.specs.declared.Extra.TheVariants as Extra
 use Rattle.rules_record.specs.Slots.{with_proposed}
 use Rattle.rules_record.specs.Inputs.{slot_at}
 use Rattle.rules_record.specs.Commands.{Done, send_first, quiet}
@@ -30,7 +27,7 @@ use Rattle.rules_tick.specs.Tick.{ticked_all, ticked}
 
 -- ---- the lags
 -- the largest lag is that of all the tick's lags: "one beyond it [the limit] hides the rest"
-pub largest_of_all : (lag : ℕ) (others : List ℕ) → largest_of (lag ∷ others) ≡ Of (max lag (greatest others))
+pub largest_of_all : (lag : ℕ) (others : List ℕ) → largest_of (lag ∷ others) ≡ Some (max lag (greatest others))
 largest_of_all lag others = refl
 
 -- "push lags and keep the last one": the seconds of the window with them, and the last of them, are stored
@@ -59,19 +56,19 @@ module _ (slot : Slot) where
 -- ---- the answer
 -- "current is the proposal or else the delay"
 module _ (slot : Slot) where
-  pub current_proposed : (proposed : ℕ) → current_of (with_proposed slot (Pending proposed)) ≡ proposed
+  pub current_proposed : (proposed : ℕ) → current_of (with_proposed slot (Some proposed)) ≡ proposed
   current_proposed proposed = refl
 
-  pub current_delay : current_of (with_proposed slot Nothing) ≡ slot.delay
+  pub current_delay : current_of (with_proposed slot None) ≡ slot.delay
   current_delay = refl
 
 -- "delay changes + 1 and `set_delay`", without confirmation
 module _ (i delay time : ℕ) (slot : Slot) (s : Inputs) (low : i < 16) (h : Sized s) (direct : s.confirm ≡ false) where
-  carried_out_law : answered (To delay) i time slot s ≡ set_delay_of (changing i slot s) i delay time
+  carried_out_law : answered (Some delay) i time slot s ≡ set_delay_of (changing i slot s) i delay time
   unfolding answered
   carried_out_law = no_pick _ _ direct
 
-  pub change_counts : (slot_at (answered (To delay) i time slot s).inputs i).delay_changes ≡ slot.delay_changes + 1
+  pub change_counts : (slot_at (answered (Some delay) i time slot s).inputs i).delay_changes ≡ slot.delay_changes + 1
   unfolding set_delay_of send_first quiet
   change_counts =
       ap (λ (d : Done). (slot_at d.inputs i).delay_changes) carried_out_law
@@ -88,4 +85,4 @@ module _ (looks : List Look) (lags : List ℕ) (time : ℕ) (s : Inputs) (l : Li
   -- pruning and saving leave the number of flows that are known
   pub flows_stay_known : (ticked looks lags time s l).inputs.flow_count ≡ (ticked_all looks lags time s l).inputs.flow_count
   unfolding ticked
-  flows_stay_known = ap (λ (z : Inputs). z.flow_count) (pruned_rest (ticked_all looks lags time s l).inputs Extra.Nothing)
+  flows_stay_known = ap (λ (z : Inputs). z.flow_count) (pruned_rest (ticked_all looks lags time s l).inputs None)

@@ -1,4 +1,5 @@
 -- `auto_delay`, case by case, as the code goes. Assumes nothing.
+use Rattle.std.specs.Prelude.{None, Option, Some}
 use Prim.Native.Nat.{ℕ, ◌*◌, ◌<◌}
 use mathlib.Core.Bool.{Bool, true, false}
 use mathlib.Core.Path.{◌≡◌, sym, ap, subst, ◌∙◌}
@@ -10,14 +11,9 @@ use Rattle.base.proofs.Choices.{yes_pick, no_pick}
 use Rattle.base.proofs.Points.{true_both}
 use Rattle.base.proofs.All.{both_no, both_yes}
 use Rattle.delay_hold.specs.declared.DelayHold.{DelayHold}
-use Rattle.delay_hold.specs.declared.Lag.{Lag}
-use Rattle.delay_hold.specs.declared.Change.{Change}
-use Rattle.delay_hold.specs.declared.Change.TheVariants.{Keep, To}
 use Rattle.delay_hold.specs.declared.Next.{Next}
 use Rattle.delay_hold.specs.Steps5To8.{timer_off, with_lower}
 use Rattle.delay_hold.specs.Next.{held, Decided, decided, next_of, one_millisecond, always_lower}
-use Rattle.rules_record.specs.declared.Proposal.{Proposal}
-use Rattle.rules_record.specs.declared.Proposal.TheVariants.{Nothing, Pending}
 use Rattle.rules_record.specs.declared.Slot.{Slot}
 use Rattle.rules_record.specs.declared.Inputs.{Inputs}
 use Rattle.rules_record.specs.Slots.{is_auto, with_hold}
@@ -30,7 +26,7 @@ use Rattle.rules_record.specs.Facts.{OwnSums}
 use Rattle.rules_record.specs.Effects.{silent, beside}
 use Rattle.rules_tick.specs.AutoDelay.{p999_of, proposed_or, current_of, next_for, Answered, proposing, changing, answered, decided_for, interrupted, goes_on, auto_delayed}
 
-module _ (i : ℕ) (largest : Lag) (time : ℕ) (s : Inputs) (l : Lists) where
+module _ (i : ℕ) (largest : Option ℕ) (time : ℕ) (s : Inputs) (l : Lists) where
   -- ---- whether it goes on
   pub auto_stalled : state_number (slot_at s i).state ≡ 3 → auto_delayed i largest time s l ≡ silent (interrupted i s) l
   unfolding auto_delayed
@@ -52,28 +48,28 @@ module _ (i : ℕ) (largest : Lag) (time : ℕ) (s : Inputs) (l : Lists) where
 
 -- ---- what it answers
 module _ (i time : ℕ) (slot : Slot) (s : Inputs) where
-  pub answered_keep : {change : Change} → change ≡ Keep → answered change i time slot s ≡ quiet (put_slot s i slot)
+  pub answered_keep : {change : Option ℕ} → change ≡ None → answered change i time slot s ≡ quiet (put_slot s i slot)
   unfolding answered
-  answered_keep e = ap (λ (x : Change). answered x i time slot s) e
+  answered_keep e = ap (λ (x : Option ℕ). answered x i time slot s) e
 
-  module _ {change : Change} (delay : ℕ) (answer : change ≡ To delay) where
+  module _ {change : Option ℕ} (delay : ℕ) (answer : change ≡ Some delay) where
     pub answered_proposal : s.confirm ≡ true → answered change i time slot s ≡ quiet (proposing i delay slot s)
     unfolding answered
-    answered_proposal h = ap (λ (x : Change). answered x i time slot s) answer ∙ yes_pick _ _ h
+    answered_proposal h = ap (λ (x : Option ℕ). answered x i time slot s) answer ∙ yes_pick _ _ h
 
     pub answered_change : s.confirm ≡ false → answered change i time slot s ≡ set_delay_of (changing i slot s) i delay time
     unfolding answered
-    answered_change h = ap (λ (x : Change). answered x i time slot s) answer ∙ no_pick _ _ h
+    answered_change h = ap (λ (x : Option ℕ). answered x i time slot s) answer ∙ no_pick _ _ h
 
 -- "current is the proposal or else the delay"
-pub current_none : (slot : Slot) → slot.proposed ≡ Nothing → slot.delay ≡ current_of slot
-current_none slot e = sym (ap (λ (x : Proposal). proposed_or x slot.delay) e)
+pub current_none : (slot : Slot) → slot.proposed ≡ None → slot.delay ≡ current_of slot
+current_none slot e = sym (ap (λ (x : Option ℕ). proposed_or x slot.delay) e)
 
-pub current_pending : (slot : Slot) (delay : ℕ) → slot.proposed ≡ Pending delay → delay ≡ current_of slot
-current_pending slot delay e = sym (ap (λ (x : Proposal). proposed_or x slot.delay) e)
+pub current_pending : (slot : Slot) (delay : ℕ) → slot.proposed ≡ Some delay → delay ≡ current_of slot
+current_pending slot delay e = sym (ap (λ (x : Option ℕ). proposed_or x slot.delay) e)
 
 -- ---- the steps of the code
-module _ (s : Inputs) (i : ℕ) (largest : Lag) (time : ℕ) (starts sums times lags : List ℕ) {slot : Slot} {p : Lag} {current k : ℕ} {times' lags' : List ℕ} {answer : Next}
+module _ (s : Inputs) (i : ℕ) (largest : Option ℕ) (time : ℕ) (starts sums times lags : List ℕ) {slot : Slot} {p : Option ℕ} {current k : ℕ} {times' lags' : List ℕ} {answer : Next}
     (is-slot : slot ≡ slot_at s i)
     (is-p : (totals counts times peaks : List ℕ) → OwnSums s (lists starts totals counts sums times peaks) i slot → p ≡ p999_of s.policy (window_for s (lists starts totals counts sums times peaks) i slot))
     (is-current : current ≡ current_of slot)
@@ -94,7 +90,7 @@ module _ (s : Inputs) (i : ℕ) (largest : Lag) (time : ℕ) (starts sums times 
           ∙ (λ t. next_of one_millisecond always_lower s.policy (held slot.hold (part (i * 600) (is-k t) times) (part (i * 600) (is-k t) lags)) (is-p totals counts times lags (subst (OwnSums s (lists starts totals counts sums times lags) i) (sym is-slot) own) t) largest (is-current t) time)
           ∙ ap (λ (x : Slot). next_of one_millisecond always_lower s.policy (held_for (lists starts totals counts sums times lags) i x) (p999_of s.policy (window_for s (lists starts totals counts sums times lags) i x)) largest (current_of x) time) is-slot
 
-module _ (s : Inputs) (i : ℕ) (largest : Lag) (time : ℕ) (l : Lists) {slot : Slot} (is-slot : slot ≡ slot_at s i) {code : ℕ} (is_code : code ≡ state_number slot.state) where
+module _ (s : Inputs) (i : ℕ) (largest : Option ℕ) (time : ℕ) (l : Lists) {slot : Slot} (is-slot : slot ≡ slot_at s i) {code : ℕ} (is_code : code ≡ state_number slot.state) where
   state_is : code ≡ state_number (slot_at s i).state
   state_is = is_code ∙ ap (λ (x : Slot). state_number x.state) is-slot
 

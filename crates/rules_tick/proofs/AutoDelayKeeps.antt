@@ -1,4 +1,5 @@
 -- What `auto_delay` leaves: the input's hold and its answer, all else as it was, and a checked record checked. Assumes nothing.
+use Rattle.std.specs.Prelude.{None, Option, Some}
 use Prim.Native.Nat.{ℕ, ◌+◌, ◌<◌, ◌≤◌}
 use mathlib.Core.Bool.{true, false}
 use mathlib.Core.Path.{◌≡◌, refl, sym, ap, subst, ◌∙◌}
@@ -7,15 +8,11 @@ use borrow.Author.Tests.{le-leb, eqb-true}
 use lib.ListN.{length}
 use Rattle.base.specs.Limits.{time_limit, counter_limit}
 use Rattle.base.proofs.Choices.{pick_rule}
-use Rattle.delay_hold.specs.declared.Lag.{Lag}
-use Rattle.delay_hold.specs.declared.Change.{Change}
-use Rattle.delay_hold.specs.declared.Change.TheVariants.{Keep, To}
 use Rattle.delay_hold.specs.Steps5To8.{timer_off, with_lower}
 use Rattle.delay_hold.specs.Next.{Decided, one_millisecond, always_lower}
 use Rattle.delay_hold.specs.Whole.{whole_hold}
 use Rattle.delay_hold.specs.Checks.{AskedFor}
 use Rattle.delay_hold.proofs.Keeps.{ChangeFits, next_keeps_whole, next_keeps_lengths, next_change_fits}
-use Rattle.rules_record.specs.declared.Proposal.TheVariants.{Pending}
 use Rattle.rules_record.specs.declared.Slot.{Slot}
 use Rattle.rules_record.specs.declared.Inputs.{Inputs}
 use Rattle.rules_record.specs.Slots.{with_hold, with_proposed, with_delay_changes, with_delay}
@@ -44,7 +41,7 @@ use Rattle.rules_tick.proofs.Interrupts.{interrupt_keeps_whole}
 use Rattle.rules_routing.proofs.SetDelayKeeps.{stored_keeps}
 
 -- ---- what `next` is asked, and what it keeps
-module _ (i : ℕ) (largest : Lag) (time : ℕ) (s : Inputs) (l : Lists) (r : Ready s l i) where
+module _ (i : ℕ) (largest : Option ℕ) (time : ℕ) (s : Inputs) (l : Lists) (r : Ready s l i) where
   pub next_asked : AskedFor s.width s.policy (held_of s l i) (p999_of s.policy (window_of s l i)) (current_of (slot_at s i))
   next_asked = record {
     sound = r.fitting.allowed.sound;
@@ -71,11 +68,11 @@ module _ (i : ℕ) (largest : Lag) (time : ℕ) (s : Inputs) (l : Lists) (r : Re
     unfolding next_for
     next_fits = next_change_fits one_millisecond always_lower s.width s.policy (held_of s l i) _ largest _ time next_asked soon
 
-    pub next_answer_fits : (delay : ℕ) → (next_for i largest time s l).change ≡ To delay → delay ≤ s.policy.delay_max
+    pub next_answer_fits : (delay : ℕ) → (next_for i largest time s l).change ≡ Some delay → delay ≤ s.policy.delay_max
     next_answer_fits delay e = subst (ChangeFits s.policy.delay_max) e next_fits
 
 -- ---- the five ways that `auto_delay` goes
-module _ (i : ℕ) (largest : Lag) (time : ℕ) (s : Inputs) (l : Lists) where
+module _ (i : ℕ) (largest : Option ℕ) (time : ℕ) (s : Inputs) (l : Lists) where
   abbrev decision : Decided
   decision = next_for i largest time s l
 
@@ -89,18 +86,18 @@ module _ (i : ℕ) (largest : Lag) (time : ℕ) (s : Inputs) (l : Lists) where
     pub auto_rule :
         (state_number (slot_at s i).state ≡ 3 → P (silent (interrupted i s) l)) →
         (goes_on (slot_at s i) ≡ false → P (silent s l)) →
-        (goes_on (slot_at s i) ≡ true → decision.change ≡ Keep → P (silent (put_slot s i slot) lists)) →
-        (goes_on (slot_at s i) ≡ true → (delay : ℕ) → decision.change ≡ To delay → s.confirm ≡ true → P (silent (proposing i delay slot s) lists)) →
-        (goes_on (slot_at s i) ≡ true → (delay : ℕ) → decision.change ≡ To delay → s.confirm ≡ false → P (beside lists (set_delay_of (changing i slot s) i delay time))) →
+        (goes_on (slot_at s i) ≡ true → decision.change ≡ None → P (silent (put_slot s i slot) lists)) →
+        (goes_on (slot_at s i) ≡ true → (delay : ℕ) → decision.change ≡ Some delay → s.confirm ≡ true → P (silent (proposing i delay slot s) lists)) →
+        (goes_on (slot_at s i) ≡ true → (delay : ℕ) → decision.change ≡ Some delay → s.confirm ≡ false → P (beside lists (set_delay_of (changing i slot s) i delay time))) →
         P (auto_delayed i largest time s l)
     unfolding auto_delayed decided_for answered quiet
     auto_rule stalled idle keep propose change =
         pick_rule P (is_stalled (slot_at s i).state) _ _ (λ e. stalled (eqb-true _ _ e))
         (λ e. pick_rule P (goes_on (slot_at s i)) _ _ (λ on. by on decision.change refl) idle)
       where
-        by : goes_on (slot_at s i) ≡ true → (answer : Change) → decision.change ≡ answer → P (beside lists (answered answer i time slot s))
-        by on Keep e = keep on e
-        by on (To delay) e = pick_rule (λ done. P (beside lists done)) s.confirm _ _ (λ h. propose on delay e h) (λ h. change on delay e h)
+        by : goes_on (slot_at s i) ≡ true → (answer : Option ℕ) → decision.change ≡ answer → P (beside lists (answered answer i time slot s))
+        by on None e = keep on e
+        by on (Some delay) e = pick_rule (λ done. P (beside lists done)) s.confirm _ _ (λ h. propose on delay e h) (λ h. change on delay e h)
 
   -- ---- what stays
   pub auto_other : (j : ℕ) → (j ≡ i → ⊥) → slot_at (auto_delayed i largest time s l).inputs j ≡ slot_at s j
@@ -110,7 +107,7 @@ module _ (i : ℕ) (largest : Lag) (time : ℕ) (s : Inputs) (l : Lists) where
       (λ e. slot_other s i _ j apart)
       (λ e. refl)
       (λ on e. slot_other s i slot j apart)
-      (λ on delay e h. slot_other s i (with_proposed slot (Pending delay)) j apart)
+      (λ on delay e h. slot_other s i (with_proposed slot (Some delay)) j apart)
       (λ on delay e h. stored_other (changing i slot s) i delay time j apart ∙ slot_other s i _ j apart)
 
   pub auto_settings : SameSettings s (auto_delayed i largest time s l).inputs
@@ -120,7 +117,7 @@ module _ (i : ℕ) (largest : Lag) (time : ℕ) (s : Inputs) (l : Lists) where
       (λ e. settings_put s i _)
       (λ e. refl)
       (λ on e. settings_put s i slot)
-      (λ on delay e h. settings_put s i (with_proposed slot (Pending delay)))
+      (λ on delay e h. settings_put s i (with_proposed slot (Some delay)))
       (λ on delay e h. settings_then s (changing i slot s) (delay_stored (changing i slot s) i delay time) (settings_put s i _) (settings_stored (changing i slot s) i delay time))
 
   module _ (r : Ready s l i) (soon : time ≤ time_limit) where
@@ -144,7 +141,7 @@ module _ (i : ℕ) (largest : Lag) (time : ℕ) (s : Inputs) (l : Lists) where
       (λ e. kept (with_hold (slot_at s i) (with_lower (slot_at s i).hold timer_off)) refl refl refl (slot_same s i _ low sized.slots))
       (λ e. kept (slot_at s i) refl refl refl refl)
       (λ on e. kept slot refl refl refl (slot_same s i slot low sized.slots))
-      (λ on delay e h. kept (with_proposed slot (Pending delay)) refl refl refl (slot_same s i (with_proposed slot (Pending delay)) low sized.slots))
+      (λ on delay e h. kept (with_proposed slot (Some delay)) refl refl refl (slot_same s i (with_proposed slot (Some delay)) low sized.slots))
       (λ on delay e h.
       raised_by 0 1 0 (slot_at s i)
       (stored_same (changing i slot s) i delay time low (sized_put s i _ sized) ∙ ap (λ (x : Slot). with_delay x delay time) (slot_same s i (with_delay_changes slot (slot.delay_changes + 1)) low sized.slots))
@@ -178,7 +175,7 @@ module _ (i : ℕ) (largest : Lag) (time : ℕ) (s : Inputs) (l : Lists) where
     keep_fits : WholeSlot s.policy.delay_max s.flow_count slot
     keep_fits = record { delay = old.delay; proposed = old.proposed; route = old.route; reopens = old.reopens; changes = old.changes; lates = old.lates; head = old.head; set = old.set; opened = old.opened }
 
-    propose_fits : (delay : ℕ) → delay ≤ s.policy.delay_max → WholeSlot s.policy.delay_max s.flow_count (with_proposed slot (Pending delay))
+    propose_fits : (delay : ℕ) → delay ≤ s.policy.delay_max → WholeSlot s.policy.delay_max s.flow_count (with_proposed slot (Some delay))
     propose_fits delay most =
         record { delay = old.delay; proposed = le-leb _ _ most; route = old.route; reopens = old.reopens; changes = old.changes; lates = old.lates; head = old.head; set = old.set; opened = old.opened }
 
@@ -192,7 +189,7 @@ module _ (i : ℕ) (largest : Lag) (time : ℕ) (s : Inputs) (l : Lists) where
         (λ e. interrupted_keeps)
         (λ e. c)
         (λ on e. decided_keeps slot refl refl keep_fits)
-        (λ on delay e g. decided_keeps (with_proposed slot (Pending delay)) refl refl (propose_fits delay (next_answer_fits i largest time s l ready soon delay e)))
+        (λ on delay e g. decided_keeps (with_proposed slot (Some delay)) refl refl (propose_fits delay (next_answer_fits i largest time s l ready soon delay e)))
         (λ on delay e g.
         stored_keeps (changing i slot s) lists i delay time (decided_keeps (with_delay_changes slot (slot.delay_changes + 1)) refl refl (change_fits few))
         (subst (λ (z : Inputs). i < z.count) (sym (settings_put s i _)) h)

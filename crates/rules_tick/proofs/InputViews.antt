@@ -1,4 +1,5 @@
 -- The window, the hold, the delay and the proposal of an input after each step of its tick. Assumes nothing.
+use Rattle.std.specs.Prelude.{None, Option, Some}
 use Prim.Native.Nat.{ℕ, ◌+◌, ◌*◌, ◌<◌, ◌≤◌}
 use mathlib.Core.Bool.{true, false}
 use mathlib.Core.Path.{◌≡◌, refl, sym, ap, ◌∙◌}
@@ -13,11 +14,7 @@ use Rattle.rules_window.specs.Window.{windowed}
 use Rattle.rules_window.specs.Parts.{part_of}
 use Rattle.rules_window.specs.Checks.{room_for}
 use Rattle.delay_hold.specs.declared.DelayHold.{DelayHold}
-use Rattle.delay_hold.specs.declared.Lag.{Lag}
-use Rattle.delay_hold.specs.declared.Change.{Change}
-use Rattle.delay_hold.specs.declared.Change.TheVariants.{Keep, To}
 use Rattle.delay_hold.specs.Next.{held, Decided, delay_after}
-use Rattle.rules_record.specs.declared.Proposal.TheVariants.{Pending}
 use Rattle.rules_record.specs.declared.Slot.{Slot}
 use Rattle.rules_record.specs.declared.Inputs.{Inputs}
 use Rattle.rules_record.specs.Slots.{is_auto, with_hold, with_proposed, with_delay_changes, with_delay}
@@ -43,9 +40,9 @@ use Rattle.rules_tick.proofs.LateKeeps.{late_slot_law, late_settings}
 use Rattle.rules_tick.proofs.AutoDelayKeeps.{auto_rule, auto_settings, next_long}
 
 -- the words of an answer that is carried out
-abbrev pub answer_words : ℕ → Change → List ℕ
-answer_words i Keep = []
-answer_words i (To delay) = set_delay i delay
+abbrev pub answer_words : ℕ → Option ℕ → List ℕ
+answer_words i None = []
+answer_words i (Some delay) = set_delay i delay
 
 -- a window whose seconds and lists stay, under the same settings
 pub window_kept : (s z : Inputs) (l : Lists) (i : ℕ) → SameSettings s z → (slot_at z i).lag_seconds ≡ (slot_at s i).lag_seconds → window_of z l i ≡ window_of s l i
@@ -67,7 +64,7 @@ module _ (i time : ℕ) (lags : List ℕ) (s : Inputs) (l : Lists) (r : Ready s 
   arrived_held = ap (λ (x : Slot). held x.hold (part (i * 600) 600 l.times) (part (i * 600) 600 l.peaks)) (arrived_slot_law i time lags s l (ready_low s l i r) sized)
 
 -- ---- after a late event
-module _ (i applied : ℕ) (largest : Lag) (s : Inputs) (l : Lists) (low : i < 16) (sized : length s.slots ≡ 16) where
+module _ (i applied : ℕ) (largest : Option ℕ) (s : Inputs) (l : Lists) (low : i < 16) (sized : length s.slots ≡ 16) where
   pub late_window : window_of (late_event i applied largest s) l i ≡ window_of s l i
   late_window = window_kept s (late_event i applied largest s) l i (late_settings i applied largest s) (ap (λ (x : Slot). x.lag_seconds) (late_slot_law i applied largest s low sized))
 
@@ -75,7 +72,7 @@ module _ (i applied : ℕ) (largest : Lag) (s : Inputs) (l : Lists) (low : i < 1
   late_held = ap (λ (x : Slot). held x.hold (part (i * 600) 600 l.times) (part (i * 600) 600 l.peaks)) (late_slot_law i applied largest s low sized)
 
 -- ---- after `auto_delay`
-module _ (i : ℕ) (largest : Lag) (time : ℕ) (s : Inputs) (l : Lists) (r : Ready s l i) (sized : Sized s) where
+module _ (i : ℕ) (largest : Option ℕ) (time : ℕ) (s : Inputs) (l : Lists) (r : Ready s l i) (sized : Sized s) where
   low : i < 16
   low = ready_low s l i r
 
@@ -99,7 +96,7 @@ module _ (i : ℕ) (largest : Lag) (time : ℕ) (s : Inputs) (l : Lists) (r : Re
       (λ e. ap (λ (x : Slot). x.lag_seconds) (put _))
       (λ e. refl)
       (λ on e. ap (λ (x : Slot). x.lag_seconds) (put slot))
-      (λ on delay e h. ap (λ (x : Slot). x.lag_seconds) (put (with_proposed slot (Pending delay))))
+      (λ on delay e h. ap (λ (x : Slot). x.lag_seconds) (put (with_proposed slot (Some delay))))
       (λ on delay e h. ap (λ (x : Slot). x.lag_seconds) (changed_slot delay))
 
   -- the window stays
@@ -134,7 +131,7 @@ module _ (i : ℕ) (largest : Lag) (time : ℕ) (s : Inputs) (l : Lists) (r : Re
         (λ e. absurd (not_stalled e))
         (λ e. absurd (not_both going e))
         (λ on e. with_slot (put_slot s i slot) slot (put slot) refl)
-        (λ on delay e h. with_slot (put_slot s i (with_proposed slot (Pending delay))) (with_proposed slot (Pending delay)) (put (with_proposed slot (Pending delay))) refl)
+        (λ on delay e h. with_slot (put_slot s i (with_proposed slot (Some delay))) (with_proposed slot (Some delay)) (put (with_proposed slot (Some delay))) refl)
         (λ on delay e h. with_slot (delay_stored (changing i slot s) i delay time) _ (changed_slot delay) refl)
       where
         with_slot : (z : Inputs) (new : Slot) → slot_at z i ≡ new → new.hold ≡ decision.held.hold → held_of z (with_held i decision.held l) i ≡ decision.held

@@ -1,4 +1,5 @@
 -- Late events, case by case. Assumes nothing.
+use Rattle.std.specs.Prelude.{None, Option, Some}
 use Prim.Native.Nat.{ℕ, ◌+◌, ◌<◌, ◌≤◌}
 use mathlib.Core.Bool.{Bool, true, false}
 use mathlib.Core.Path.{◌≡◌, sym, ap, ◌∙◌}
@@ -9,8 +10,6 @@ use Rattle.base.specs.Choice.{both}
 use Rattle.base.proofs.Choices.{le_yes, le_no}
 use Rattle.base.proofs.All.{both_yes, both_no}
 use Rattle.policy.specs.declared.DelayPolicy.{DelayPolicy}
-use Rattle.delay_hold.specs.declared.Lag.{Lag}
-use Rattle.delay_hold.specs.declared.Lag.TheVariants.{None, Of}
 use Rattle.delay_hold.specs.Steps1To3.{late_at, late_of}
 use Rattle.rules_record.specs.declared.Slot.{Slot}
 use Rattle.rules_record.specs.declared.Inputs.{Inputs}
@@ -20,7 +19,7 @@ use Rattle.rules_record.specs.Inputs.{put_slot, with_slots}
 use Rattle.rules_record.proofs.SlotFrame.{slot_same, put_rest, put_put, put_stores}
 use Rattle.rules_tick.specs.LateEvents.{late_now, late_events_of, late_slot, late_event}
 
-module _ (policy : DelayPolicy) (slot : Slot) (applied : ℕ) (largest : Lag) where
+module _ (policy : DelayPolicy) (slot : Slot) (applied : ℕ) (largest : Option ℕ) where
   pub late_not_running : (state_number slot.state ≡ 2 → ⊥) → false ≡ late_now policy slot applied largest
   unfolding late_now
   late_not_running h = both_no _ _ (ne_eqb _ _ h)
@@ -31,18 +30,18 @@ module _ (policy : DelayPolicy) (slot : Slot) (applied : ℕ) (largest : Lag) wh
     late_running e = both_yes _ _ _ (eq-eqb _ _ running) e
 
     pub late_none : largest ≡ None → false ≡ late_now policy slot applied largest
-    late_none e = late_running (sym (ap (λ (x : Lag). late_of policy x applied) e))
+    late_none e = late_running (sym (ap (λ (x : Option ℕ). late_of policy x applied) e))
 
-    module _ (lag : ℕ) (some : largest ≡ Of lag) where
+    module _ (lag : ℕ) (some : largest ≡ Some lag) where
       pub late_beyond : policy.read_offset + policy.delay_max < lag → false ≡ late_now policy slot applied largest
       late_beyond h =
           late_running
-          (sym (ap (λ (x : Lag). late_of policy x applied) some ∙ ap (λ (x : Lag). late_at x (policy.read_offset + applied)) (le_no lag (policy.read_offset + policy.delay_max) (Of lag) None h)))
+          (sym (ap (λ (x : Option ℕ). late_of policy x applied) some ∙ ap (λ (x : Option ℕ). late_at x (policy.read_offset + applied)) (le_no lag (policy.read_offset + policy.delay_max) (Some lag) None h)))
 
       pub late_within : lag ≤ policy.read_offset + policy.delay_max → ltb (policy.read_offset + applied) lag ≡ late_now policy slot applied largest
       late_within h =
           late_running
-          (sym (ap (λ (x : Lag). late_of policy x applied) some ∙ ap (λ (x : Lag). late_at x (policy.read_offset + applied)) (le_yes lag (policy.read_offset + policy.delay_max) (Of lag) None h)))
+          (sym (ap (λ (x : Option ℕ). late_of policy x applied) some ∙ ap (λ (x : Option ℕ). late_at x (policy.read_offset + applied)) (le_yes lag (policy.read_offset + policy.delay_max) (Some lag) None h)))
 
 -- ---- the counter
 module _ (slot : Slot) where
@@ -59,13 +58,13 @@ module _ (slot : Slot) where
   events_more late e before = rw (e, before)
 
 -- ---- the steps of the code
-pub late_by : (policy : DelayPolicy) (slot : Slot) (applied : ℕ) (largest : Lag) {late : Bool} {events : ℕ} {r : Slot} → late ≡ late_now policy slot applied largest → events ≡ late_events_of slot late → r ≡ with_late slot events late
+pub late_by : (policy : DelayPolicy) (slot : Slot) (applied : ℕ) (largest : Option ℕ) {late : Bool} {events : ℕ} {r : Slot} → late ≡ late_now policy slot applied largest → events ≡ late_events_of slot late → r ≡ with_late slot events late
     → r ≡ late_slot policy slot applied largest
 late_by policy slot applied largest {late} is-late is-events is-changed =
     is-changed ∙ ap (λ (n : ℕ). with_late slot n late) is-events ∙ ap (λ (b : Bool). with_late slot (late_events_of slot b) b) is-late
 
 -- a late event in a slot that is then stored is one in the record with that slot put
-pub late_stored : (s : Inputs) (i applied : ℕ) (largest : Lag) (slot : Slot) {heard : Slot} → i < 16 → length s.slots ≡ 16 → heard ≡ late_slot s.policy slot applied largest
+pub late_stored : (s : Inputs) (i applied : ℕ) (largest : Option ℕ) (slot : Slot) {heard : Slot} → i < 16 → length s.slots ≡ 16 → heard ≡ late_slot s.policy slot applied largest
     → with_slots s (set s.slots i heard) ≡ late_event i applied largest (put_slot s i slot)
 unfolding late_event
 late_stored s i applied largest slot {heard} low sized is-heard =

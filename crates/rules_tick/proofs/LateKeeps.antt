@@ -1,4 +1,5 @@
 -- What a late event leaves: one counter and one mark of the input's slot, and a checked record checked. Assumes nothing.
+use Rattle.std.specs.Prelude.{Option}
 use Prim.Native.Nat.{ℕ, ◌+◌, ◌<◌, ◌≤◌}
 use mathlib.Core.Bool.{Bool, not}
 use mathlib.Core.Path.{◌≡◌, refl}
@@ -7,7 +8,6 @@ use lib.ListN.{length}
 use Rattle.base.specs.Choice.{both}
 use Rattle.base.specs.Limits.{counter_limit}
 use Rattle.base.proofs.Choices.{pick_all}
-use Rattle.delay_hold.specs.declared.Lag.{Lag}
 use Rattle.rules_record.specs.declared.Slot.{Slot}
 use Rattle.rules_record.specs.declared.Inputs.{Inputs}
 use Rattle.rules_record.specs.Inputs.{slot_at}
@@ -25,7 +25,7 @@ pub events_most : (slot : Slot) (late : Bool) → late_events_of slot late ≤ s
 unfolding late_events_of
 events_most slot late = pick_all (λ (n : ℕ). n ≤ slot.late_events + 1) (both late (not slot.late_before)) (omega arith) (omega arith)
 
-module _ (i applied : ℕ) (largest : Lag) (s : Inputs) where
+module _ (i applied : ℕ) (largest : Option ℕ) (s : Inputs) where
   abbrev after : Inputs
   after = late_event i applied largest s
 

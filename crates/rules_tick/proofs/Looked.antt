@@ -1,4 +1,5 @@
 -- What an input that is looked at keeps of its slot, and the ways that looking ends. Assumes nothing.
+use Rattle.std.specs.Prelude.{Some}
 use Prim.Native.Nat.{ℕ, ◌+◌, ◌≤◌, ◌<◌}
 use mathlib.Core.Bool.{true}
 use mathlib.Core.Path.{◌≡◌, refl}
@@ -8,13 +9,11 @@ use Rattle.base.proofs.Choices.{pick_all}
 use Rattle.rules_record.specs.declared.Slot.{Slot}
 use Rattle.rules_record.specs.declared.Inputs.{Inputs}
 use Rattle.rules_record.specs.declared.State.TheVariants.{Stalled}
-use Rattle.rules_record.specs.declared.Inode.TheVariants.{Of}
 use Rattle.rules_record.specs.Slots.{with_state, with_reopens}
 use Rattle.rules_record.specs.States.{is_waiting, is_stalled, is_open}
 use Rattle.rules_record.specs.Inputs.{slot_at}
 use Rattle.rules_record.specs.Sized.{Sized}
 use Rattle.rules_record.specs.Commands.{Done, set_input, clear_input, set_delay, quiet}
-use Rattle.rules_routing.specs.declared.Reader.TheVariants.{Open}
 use Rattle.rules_routing.specs.TryOpen.{running_slot, opened_slot, starts_anew}
 use Rattle.rules_routing.proofs.TryOpenOutcomes.{started_slot, open_outcomes}
 use Rattle.rules_routing.specs.Watch.{lost_slot, moved_slot, stalls_now}
@@ -35,11 +34,11 @@ module _ (i : ℕ) (look : Look) (time : ℕ) (s : Inputs) where
       → P (slot_at s i) []
       → P (lost_slot (slot_at s i)) (clear_input i 0)
       → P (moved_slot (slot_at s i) look.world.head time) []
-      → ((inode channels : ℕ) → look.world.inode ≡ Of inode → look.world.reader ≡ Open channels → P (opened_slot (slot_at s i) inode look.world.head time) (set_input i channels))
-      → ((inode channels delay : ℕ) → look.world.inode ≡ Of inode → look.world.reader ≡ Open channels → starts_anew (slot_at s i) ≡ true → delay ≤ s.policy.delay_max
+      → ((inode channels : ℕ) → look.world.inode ≡ Some inode → look.world.reader ≡ Some channels → P (opened_slot (slot_at s i) inode look.world.head time) (set_input i channels))
+      → ((inode channels delay : ℕ) → look.world.inode ≡ Some inode → look.world.reader ≡ Some channels → starts_anew (slot_at s i) ≡ true → delay ≤ s.policy.delay_max
       → P (started_slot (opened_slot (slot_at s i) inode look.world.head time) delay time) (set_input i channels ++ set_delay i delay))
       → (stalls_now (slot_at s i) time s.stall ≡ true → P (with_state (slot_at s i) Stalled) [])
-      → ((inode channels : ℕ) → stalls_now (slot_at s i) time s.stall ≡ true → look.world.inode ≡ Of inode → look.world.reader ≡ Open channels
+      → ((inode channels : ℕ) → stalls_now (slot_at s i) time s.stall ≡ true → look.world.inode ≡ Some inode → look.world.reader ≡ Some channels
       → P (opened_slot (with_state (slot_at s i) Stalled) inode look.world.head time) (set_input i channels))
       → P (slot_at (looked i look time s).inputs i) (looked i look time s).words
   unfolding looked quiet

@@ -1,4 +1,5 @@
 -- An input is looked at: the cases as the code goes, what stays, and that the input is ready after it. Assumes nothing.
+use Rattle.std.specs.Prelude.{None, Option, Some}
 use Prim.Native.Nat.{ℕ, ◌<◌, ◌≤◌}
 use mathlib.Core.Bool.{true}
 use mathlib.Core.Path.{◌≡◌, refl, sym, ap, subst, ◌∙◌}
@@ -14,10 +15,6 @@ use Rattle.delay_hold.specs.Next.{held}
 use Rattle.delay_hold.specs.Whole.{whole_hold}
 use Rattle.delay_hold.proofs.Marks.{seeded_whole}
 use Rattle.rules_record.specs.declared.State.TheVariants.{Stalled}
-use Rattle.rules_record.specs.declared.Inode.{Inode}
-use Rattle.rules_record.specs.declared.Inode.TheVariants.{Gone}
-use Rattle.rules_record.specs.declared.Routed.{Routed}
-use Rattle.rules_record.specs.declared.Routed.TheVariants.{Nowhere, To}
 use Rattle.rules_record.specs.declared.Slot.{Slot}
 use Rattle.rules_record.specs.declared.Inputs.{Inputs}
 use Rattle.rules_record.specs.Slots.{with_state}
@@ -39,6 +36,7 @@ use Rattle.rules_tick.specs.InputReady.{Ready}
 use Rattle.rules_tick.proofs.Readiness.{ready_low}
 use Rattle.rules_tick.specs.declared.Look.{Look}
 use Rattle.rules_tick.specs.Tick.{looked}
+use Rattle.rules_record.specs.declared.Route.{Route}
 
 -- ---- the cases
 module _ (i : ℕ) (look : Look) (time : ℕ) (s : Inputs) {slot : Slot} (is-slot : slot ≡ slot_at s i) {code : ℕ} (is_code : code ≡ state_number slot.state) where
@@ -59,16 +57,16 @@ module _ (i : ℕ) (look : Look) (time : ℕ) (s : Inputs) {slot : Slot} (is-slo
     looked_watches h = no_pick _ _ (ne_eqb _ _ (λ e. waits (sym state_is ∙ e))) ∙ yes_pick _ _ (le-leb 2 (state_number (slot_at s i).state) (omega (arith, state_is)))
 
 -- ---- the cases by the slot, of any record that has it
-open_none : (s : Inputs) (i time : ℕ) (world : World) (to : Routed) → world.inode ≡ Gone → open_routed to s i time world ≡ quiet s
+open_none : (s : Inputs) (i time : ℕ) (world : World) (to : Option Route) → world.inode ≡ None → open_routed to s i time world ≡ quiet s
 unfolding open_routed open_seen
-open_none s i time world Nowhere e = refl
-open_none s i time world (To route) e = ap (λ (x : Inode). open_seen x route.flow s i time world) e
+open_none s i time world None e = refl
+open_none s i time world (Some route) e = ap (λ (x : Option ℕ). open_seen x route.flow s i time world) e
 
 module _ (look : Look) (slot : Slot) {code : ℕ} (is_code : code ≡ state_number slot.state) where
   pub still_unrouted : code < 2 → (code ≡ 1 → ⊥) → (state_number slot.state < 2) × ((s : Inputs) (i time : ℕ) → slot_at s i ≡ slot → looked i look time s ≡ quiet s)
   still_unrouted low waits = (omega (arith, is_code), λ s i time e. looked_rests i look time s (sym e) is_code waits low)
 
-  pub still_waiting : code ≡ 1 → look.world.inode ≡ Gone → (state_number slot.state < 2) × ((s : Inputs) (i time : ℕ) → slot_at s i ≡ slot → looked i look time s ≡ quiet s)
+  pub still_waiting : code ≡ 1 → look.world.inode ≡ None → (state_number slot.state < 2) × ((s : Inputs) (i time : ℕ) → slot_at s i ≡ slot → looked i look time s ≡ quiet s)
   unfolding try_open_of
   still_waiting waits gone =
       (omega (arith, is_code), λ s i time e. looked_opens i look time s (sym e) is_code waits ∙ open_none s i time look.world (slot_at s i).route gone)

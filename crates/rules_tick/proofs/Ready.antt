@@ -1,4 +1,5 @@
 -- What the callees of the steps ask, from what the steps ask of their caller. Assumes nothing.
+use Rattle.std.specs.Prelude.{None, Option, Some}
 use Prim.Native.Nat.{ℕ, ◌*◌, ◌≤◌}
 use mathlib.Core.Bool.{true}
 use mathlib.Core.Path.{◌≡◌, sym, ap, subst, ◌∙◌}
@@ -9,12 +10,9 @@ use lib.ListN.{length}
 use Rattle.base.specs.Lists.{part}
 use Rattle.rules_window.specs.WholeWindow.{Sound}
 use Rattle.rules_window.proofs.Parting.{held_sound}
-use Rattle.delay_hold.specs.declared.Lag.{Lag}
 use Rattle.delay_hold.specs.Next.{held}
 use Rattle.delay_hold.specs.Whole.{peak_most, whole_hold}
 use Rattle.delay_hold.specs.Checks.{lag_up_to, Asked}
-use Rattle.rules_record.specs.declared.Proposal.{Proposal}
-use Rattle.rules_record.specs.declared.Proposal.TheVariants.{Nothing, Pending}
 use Rattle.rules_record.specs.declared.Slot.{Slot}
 use Rattle.rules_record.specs.declared.Inputs.{Inputs}
 use Rattle.rules_record.specs.Inputs.{slot_at}
@@ -51,9 +49,9 @@ ready_window s l i r = record {
   sums = right_own s l r.fitting i (slot_at s i) r.input r.sums;
 }
 
-proposed_fits : (p : Proposal) (delay maximum : ℕ) → delay ≤ maximum → proposal_fits p maximum ≡ true → proposed_or p delay ≤ maximum
-proposed_fits Nothing delay maximum h f = h
-proposed_fits (Pending proposed) delay maximum h f = leb-true _ _ f
+proposed_fits : (p : Option ℕ) (delay maximum : ℕ) → delay ≤ maximum → proposal_fits p maximum ≡ true → proposed_or p delay ≤ maximum
+proposed_fits None delay maximum h f = h
+proposed_fits (Some proposed) delay maximum h f = leb-true _ _ f
 
 pub current_fits : (s : Inputs) (l : Lists) (i : ℕ) → Ready s l i → current_of (slot_at s i) ≤ s.policy.delay_max
 current_fits s l i r = proposed_fits (slot_at s i).proposed (slot_at s i).delay s.policy.delay_max r.delay r.proposed
@@ -76,7 +74,7 @@ module _ (s : Inputs) (i : ℕ) (starts sums times lags : List ℕ) (asked : Aut
   auto_own = subst (OwnSums s around i) (sym is-slot) (ready_window s around i asked.ready).sums
 
   -- what `p999` told, of every window whose sums these are, is within the limit: the input's own is one
-  pub next_asks : {p : Lag} {current k : ℕ} → ((totals counts times peaks : List ℕ) → OwnSums s (lists starts totals counts sums times peaks) i slot → p ≡ p999_of s.policy (window_for s (lists starts totals counts sums times peaks) i slot)) → current ≡ current_of slot → k ≡ 600
+  pub next_asks : {p : Option ℕ} {current k : ℕ} → ((totals counts times peaks : List ℕ) → OwnSums s (lists starts totals counts sums times peaks) i slot → p ≡ p999_of s.policy (window_for s (lists starts totals counts sums times peaks) i slot)) → current ≡ current_of slot → k ≡ 600
       → Asked s.policy (held slot.hold (part (i * 600) k times) (part (i * 600) k lags)) p current
   next_asks {p} is-p is-current is-k =
       let r : Ready s around i = asked.ready in
@@ -92,6 +90,6 @@ module _ (s : Inputs) (i : ℕ) (starts sums times lags : List ℕ) (asked : Aut
               lags_long = ap (λ (x : ℕ). length (part (i * 600) x lags)) is-k ∙ held_lags s around r.fitting i r.input;
               whole = (λ t. whole_hold s.policy s.width (held (is-slot t).hold (part (i * 600) (is-k t) times) (part (i * 600) (is-k t) lags))) ∙ r.hold;
               current_in = subst (λ (x : ℕ). x ≤ s.policy.delay_max) (sym (is-current ∙ ap current_of is-slot)) (current_fits s around i r);
-              p999_in = ap (λ (x : Lag). lag_up_to x (peak_most s.policy s.width)) (is-p asked.totals asked.counts times lags auto_own) ∙ p999_most s.policy (window_for s around i slot);
+              p999_in = ap (λ (x : Option ℕ). lag_up_to x (peak_most s.policy s.width)) (is-p asked.totals asked.counts times lags auto_own) ∙ p999_most s.policy (window_for s around i slot);
             };
       }

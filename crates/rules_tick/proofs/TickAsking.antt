@@ -1,11 +1,11 @@
 -- What the steps of one input's tick ask, from what the tick asks of its caller, and the steps in a row. Assumes nothing.
+use Rattle.std.specs.Prelude.{Option}
 use Prim.Native.Nat.{ℕ, ◌<◌, ◌≤◌}
 use mathlib.Core.Path.{◌≡◌, refl, sym, ap, subst, ◌∙◌}
 use mathlib.Core.List.{List, []}
 use native.Mathlib.Omega.{arith}
 use lib.ListN.{length, set}
 use Rattle.base.specs.Limits.{time_limit, counter_limit}
-use Rattle.delay_hold.specs.declared.Lag.{Lag}
 use Rattle.rules_record.specs.declared.Inputs.{Inputs}
 use Rattle.rules_record.specs.declared.Slot.{Slot}
 use Rattle.rules_record.specs.States.{state_number}
@@ -66,7 +66,7 @@ module _ (s : Inputs) (l : Lists) (i : ℕ) (look : Look) (lags : List ℕ) (tim
         (omega (arith, (arrived_raised i time lags s l low sized.slots).lates, asked.lates));
   }
 
-  module _ (largest : Lag) where
+  module _ (largest : Option ℕ) where
     abbrev second : Inputs
     second = late_event i look.applied largest first
 
@@ -119,7 +119,7 @@ module _ (s : Inputs) (l : Lists) (i : ℕ) (look : Look) (lags : List ℕ) (tim
         auto_sums = (ready_window seen.inputs (lists a b c d l.times l.peaks) i third_ready).sums
 
 -- ---- the steps in a row
-module _ (i : ℕ) (look : Look) (lags : List ℕ) (time : ℕ) (s : Inputs) (l : Lists) (slot : Slot) {heard_slot : Slot} {largest : Lag} {seen answer : Sent} {a b c d times peaks before middle after : List ℕ} {used : ℕ}
+module _ (i : ℕ) (look : Look) (lags : List ℕ) (time : ℕ) (s : Inputs) (l : Lists) (slot : Slot) {heard_slot : Slot} {largest : Option ℕ} {seen answer : Sent} {a b c d times peaks before middle after : List ℕ} {used : ℕ}
     (low : i < 16) (sized : length s.slots ≡ 16)
     (is-arrived : (times peaks : List ℕ) → silent (put_slot s i slot) (lists a b c d times peaks) ≡ arrived i time lags s (lists l.starts l.totals l.counts l.sums times peaks))
     (is-largest : largest ≡ largest_of lags)
@@ -146,7 +146,7 @@ module _ (i : ℕ) (look : Look) (lags : List ℕ) (time : ℕ) (s : Inputs) (l 
   heard_by =
       effected_then 0 0 (arrived i time lags s l) (λ z m. silent (late_event i look.applied (largest_of lags) z) m)
       (subst (λ (x : Effect). Effected 0 x (record { inputs = all; used = used }) (lists a b c d l.times l.peaks) before before used) first_is (effected_silent refl refl))
-      (effected_silent (late_stored s i look.applied largest slot low sized is-late ∙ ap (λ (x : Lag). late_event i look.applied x all) is-largest) refl)
+      (effected_silent (late_stored s i look.applied largest slot low sized is-late ∙ ap (λ (x : Option ℕ). late_event i look.applied x all) is-largest) refl)
 
   seen_by : Effected 6 (beside (lists a b c d l.times l.peaks) (looked i look time after_late)) seen (lists a b c d l.times l.peaks) before middle used
   seen_by = effected_done is_seen refl
@@ -156,13 +156,13 @@ module _ (i : ℕ) (look : Look) (lags : List ℕ) (time : ℕ) (s : Inputs) (l 
   ticked_by =
       effected_then 6 3 _ (auto_delayed i (largest_of lags) time)
       (effected_then 0 6 (heard i look lags time s l) (λ z m. beside m (looked i look time z)) heard_by seen_by)
-      (subst (λ (x : Lag). Effected 3 (auto_delayed i x time seen.inputs (lists a b c d l.times l.peaks)) answer (lists a b c d times peaks) middle after seen.used) is-largest is-answer)
+      (subst (λ (x : Option ℕ). Effected 3 (auto_delayed i x time seen.inputs (lists a b c d l.times l.peaks)) answer (lists a b c d times peaks) middle after seen.used) is-largest is-answer)
 
 -- ---- the ways of an input that goes through no other function
 stored_slot : (s : Inputs) (i : ℕ) (slot : Slot) → i < 16 → length s.slots ≡ 16 → slot_at (with_slots s (set s.slots i slot)) i ≡ slot
 stored_slot s i slot low sized = ap (λ (z : Inputs). slot_at z i) (sym (put_stores s i slot low)) ∙ slot_same s i slot low sized
 
-pub rested_by : (i : ℕ) (look : Look) (lags : List ℕ) (time : ℕ) (s : Inputs) (l : Lists) (slot heard_slot : Slot) {largest : Lag} {a b c d words : List ℕ} {used : ℕ}
+pub rested_by : (i : ℕ) (look : Look) (lags : List ℕ) (time : ℕ) (s : Inputs) (l : Lists) (slot heard_slot : Slot) {largest : Option ℕ} {a b c d words : List ℕ} {used : ℕ}
     → i < 16 → length s.slots ≡ 16
     → ((times peaks : List ℕ) → silent (put_slot s i slot) (lists a b c d times peaks) ≡ arrived i time lags s (lists l.starts l.totals l.counts l.sums times peaks))
     → largest ≡ largest_of lags

@@ -1,4 +1,5 @@
 -- What the tick of one input, of the first inputs and of all leaves as it was: the settings, the other inputs, the lengths. Assumes nothing.
+use Rattle.std.specs.Prelude.{None, Option}
 use Prim.Native.Nat.{ℕ, zero, suc, ◌<◌, ◌≤◌}
 use mathlib.Core.Bool.{true}
 use mathlib.Core.Path.{◌≡◌, refl, sym, ap, subst, ◌∙◌}
@@ -11,13 +12,11 @@ use Rattle.base.specs.Limits.{time_limit}
 use Rattle.base.proofs.Choices.{accepted_all}
 use Rattle.rules_window.specs.Window.{Window}
 use Rattle.rules_window.specs.Checks.{room_for}
-use Rattle.delay_hold.specs.declared.Lag.{Lag}
 use Rattle.rules_record.specs.declared.Inputs.{Inputs}
 use Rattle.rules_record.specs.Inputs.{slot_at, with_flows, with_instances}
 use Rattle.rules_record.proofs.Sized.{sized_put}
 use Rattle.rules_record.specs.Sized.{Sized}
 use Rattle.rules_record.specs.Commands.{quiet, send_first}
-use Rattle.rules_record.specs.declared.Extra.TheVariants.{Nothing}
 use Rattle.rules_record.specs.Prune.{pruned}
 use Rattle.rules_record.proofs.InstanceKeys.{pruned_rest, pruned_sized}
 use Rattle.rules_routing.specs.SetDelay.{set_delay_of}
@@ -46,7 +45,7 @@ use Rattle.rules_tick.proofs.Looked.{looked_settings}
 use Rattle.rules_tick.proofs.TickSteps.{lagged_inputs, heard_inputs, heard_lists, looked_inputs}
 
 -- ---- the steps of one input
-auto_sized : (i : ℕ) (largest : Lag) (time : ℕ) (s : Inputs) (l : Lists) → Sized s → Sized (auto_delayed i largest time s l).inputs
+auto_sized : (i : ℕ) (largest : Option ℕ) (time : ℕ) (s : Inputs) (l : Lists) → Sized s → Sized (auto_delayed i largest time s l).inputs
 unfolding set_delay_of send_first quiet
 auto_sized i largest time s l h =
     auto_rule i largest time s l (λ effect. Sized effect.inputs)
@@ -219,8 +218,8 @@ module _ (looks : List Look) (lags : List ℕ) (time : ℕ) (s : Inputs) (l : Li
 
 -- ---- "Last, prune; the unsaved mark is .. cleared"
 module _ (s : Inputs) where
-  lastly_is : lastly s ≡ with_flows (with_instances s (pruned s Nothing).instances (pruned s Nothing).instance_count) (lastly s).flows (lastly s).flow_count (lastly s).unsaved
-  lastly_is = ap (λ (z : Inputs). with_flows z (lastly s).flows (lastly s).flow_count (lastly s).unsaved) (pruned_rest s Nothing)
+  lastly_is : lastly s ≡ with_flows (with_instances s (pruned s None).instances (pruned s None).instance_count) (lastly s).flows (lastly s).flow_count (lastly s).unsaved
+  lastly_is = ap (λ (z : Inputs). with_flows z (lastly s).flows (lastly s).flow_count (lastly s).unsaved) (pruned_rest s None)
 
   pub lastly_slots : (j : ℕ) → slot_at (lastly s) j ≡ slot_at s j
   unfolding slot_at
@@ -230,7 +229,7 @@ module _ (s : Inputs) where
   lastly_settings = subst (SameSettings s) (sym lastly_is) refl
 
   pub lastly_sized : Sized s → Sized (lastly s)
-  lastly_sized h = let w : Sized (pruned s Nothing) = pruned_sized s Nothing h in record { slots = w.slots; flows = w.flows; instances = w.instances }
+  lastly_sized h = let w : Sized (pruned s None) = pruned_sized s None h in record { slots = w.slots; flows = w.flows; instances = w.instances }
 
   pub lastly_same : (l : Lists) (j : ℕ) → SameInput s l (lastly s) l j
   unfolding buckets_in slot_at

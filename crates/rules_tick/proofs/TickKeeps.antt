@@ -1,4 +1,5 @@
 -- A tick keeps a checked record checked, where one more of each counter is below 2^63. Assumes nothing.
+use Rattle.std.specs.Prelude.{None}
 use Prim.Native.Nat.{ℕ, zero, suc, ◌+◌, ◌<◌, ◌≤◌}
 use mathlib.Core.Bool.{true}
 use mathlib.Core.Path.{◌≡◌, sym, subst}
@@ -14,7 +15,6 @@ use Rattle.rules_record.specs.declared.Inputs.{Inputs}
 use Rattle.rules_record.specs.States.{state_number, is_waiting, is_open}
 use Rattle.rules_record.specs.Inputs.{slot_at}
 use Rattle.rules_record.specs.Commands.{Done, quiet}
-use Rattle.rules_record.specs.declared.Extra.TheVariants.{Nothing}
 use Rattle.rules_record.specs.Prune.{pruned}
 use Rattle.rules_record.specs.Lent.{Lists, window_of}
 use Rattle.rules_record.specs.Effects.{followed_by}
@@ -79,7 +79,7 @@ module _ (i : ℕ) (look : Look) (lags : List ℕ) (time : ℕ) (s : Inputs) (l 
 
 -- ---- "Last, prune; the unsaved mark is .. cleared"
 pub lastly_keeps : (s : Inputs) (l : Lists) → Checked s l → Checked (lastly s) l
-lastly_keeps s l c = mark_keeps (pruned s Nothing) l (prune_keeps s l c Nothing) _
+lastly_keeps s l c = mark_keeps (pruned s None) l (prune_keeps s l c None) _
 
 -- ---- all inputs
 module _ (looks : List Look) (lags : List ℕ) (time : ℕ) (s : Inputs) (l : Lists) (c : Checked s l) (a : Accepted s l looks lags time) (few : (j : ℕ) → j < s.count → MayCount (slot_at s j)) where

@@ -1,4 +1,5 @@
 -- Without confirmation a tick leaves every proposal as it is: where there is none, there is none after it. Assumes nothing.
+use Rattle.std.specs.Prelude.{None}
 use Prim.Native.Nat.{ℕ, ◌<◌, ◌≤◌}
 use mathlib.Core.Bool.{true, false}
 use mathlib.Core.Path.{◌≡◌, ap, ◌∙◌}
@@ -8,7 +9,6 @@ use lib.ListN.{length}
 use Rattle.base.specs.Limits.{time_limit}
 use Rattle.base.proofs.Choices.{by_le, accepted_all}
 use Rattle.rules_window.specs.Checks.{room_for}
-use Rattle.rules_record.specs.declared.Proposal.TheVariants.{Nothing}
 use Rattle.rules_record.specs.declared.Slot.{Slot}
 use Rattle.rules_record.specs.declared.Inputs.{Inputs}
 use Rattle.rules_record.specs.Inputs.{slot_at}
@@ -77,7 +77,7 @@ module _ (looks : List Look) (lags : List ℕ) (time : ℕ) (s : Inputs) (l : Li
 -- confirmation is off, and no input has a proposal
 pub record NoProposals (s : Inputs) : Type 0 where
   pub off : s.confirm ≡ false
-  pub none : (j : ℕ) → (slot_at s j).proposed ≡ Nothing
+  pub none : (j : ℕ) → (slot_at s j).proposed ≡ None
 
 pub tick_proposes_none : (s : Inputs) (l : Lists) (commands : List ℕ) (looks : List Look) (lags : List ℕ) (time : ℕ) → Sized s → NoProposals s → NoProposals (tick_reply s l commands looks lags time).inputs
 unfolding tick_reply

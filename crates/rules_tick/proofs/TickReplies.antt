@@ -10,18 +10,18 @@ use Rattle.rules_record.specs.Lent.{Lists}
 use Rattle.rules_record.specs.Reply.{carried_out}
 use Rattle.rules_record.proofs.Replies.{reply_refused}
 use Rattle.rules_tick.specs.declared.Look.{Look}
-use Rattle.rules_tick.specs.declared.TickAnswer.{TickAnswer}
 use Rattle.rules_tick.specs.TickChecks.{tick_number}
 use Rattle.rules_tick.specs.Tick.{ticked, unsaved_at}
 use Rattle.rules_tick.specs.TickReply.{tick_reply, tick_unsaved}
-use Rattle.rules_tick.specs.TickAnswer.{told, carried}
+use Rattle.rules_record.specs.Reply.{Reply}
+use Rattle.rules_tick.specs.TickAnswer.{TickReply, carried}
 use Rattle.rules_tick.specs.TickLeaves.{tick_leaves}
 
 module _ (s : Inputs) (l : Lists) (commands : List ℕ) (looks : List Look) (lags : List ℕ) (time : ℕ) {n : ℕ} (is_number : n ≡ tick_number s l (length commands) looks lags time) where
   abbrev number : ℕ
   number = tick_number s l (length commands) looks lags time
 
-  pub leaves_refused : (n ≡ 0 → ⊥) → told (record { number = n; inputs = s; unsaved = false }) l commands ≡ tick_leaves s l commands looks lags time
+  pub leaves_refused : (n ≡ 0 → ⊥) → ◌≡◌ {A = TickReply} (record { reply = record { number = n; inputs = s; lists = l; commands = commands }; unsaved = false }) (tick_leaves s l commands looks lags time)
   unfolding tick_leaves tick_reply tick_unsaved
   leaves_refused h = λ t. record {
     reply = reply_refused s l commands (ticked looks lags time s l) number is_number h t;
@@ -32,8 +32,7 @@ module _ (s : Inputs) (l : Lists) (commands : List ℕ) (looks : List Look) (lag
     pub passes : number ≡ 0
     passes = sym is_number ∙ passed
 
-    pub leaves_accepted : {answer : TickAnswer} {m : Lists} {after : List ℕ} → told answer m after ≡ carried commands (ticked looks lags time s l) (unsaved_at looks lags time s l)
-        → told answer m after ≡ tick_leaves s l commands looks lags time
+    pub leaves_accepted : {left : TickReply} → left ≡ carried commands (ticked looks lags time s l) (unsaved_at looks lags time s l) → left ≡ tick_leaves s l commands looks lags time
     unfolding tick_leaves tick_reply tick_unsaved
     leaves_accepted e =
         e

@@ -1,21 +1,15 @@
 -- Document 01, "Supervision": `auto_delay` of one input. Assumes nothing.
-use Rattle.std.specs.Prelude.{ℕ, ◌+◌, Bool, ◌≡◌, leb}
+use Rattle.std.specs.Prelude.{ℕ, ◌+◌, Bool, ◌≡◌, leb, None, Option, Some}
 use Rattle.base.specs.Choice.{pick, both}
 use Rattle.base.specs.Limits.{nanos}
-use Rattle.rules_window.specs.declared.Quantile.{Quantile}
+use Rattle.rules_window.specs.Quantile.{Quantile}
 use Rattle.base.specs.Rows.{span_of}
 use Rattle.rules_window.specs.Window.{Window}
 use Rattle.rules_window.specs.Quantile.{quantile_upto, thousandths}
 use Rattle.policy.specs.declared.DelayPolicy.{DelayPolicy}
-use Rattle.delay_hold.specs.declared.Lag.{Lag}
-use Rattle.delay_hold.specs.declared.Lag.TheVariants.{None, Of}
-use Rattle.delay_hold.specs.declared.Change.{Change}
-use Rattle.delay_hold.specs.declared.Change.TheVariants.{Keep, To}
 use Rattle.delay_hold.specs.declared.Next.{Next}
 use Rattle.delay_hold.specs.Steps5To8.{timer_off, with_lower}
 use Rattle.delay_hold.specs.Next.{Decided, next_of, one_millisecond, always_lower}
-use Rattle.rules_record.specs.declared.Proposal.{Proposal}
-use Rattle.rules_record.specs.declared.Proposal.TheVariants.{Nothing, Pending}
 use Rattle.rules_record.specs.declared.Slot.{Slot}
 use Rattle.rules_record.specs.declared.Inputs.{Inputs}
 use Rattle.rules_record.specs.Slots.{is_auto, with_hold, with_proposed, with_delay_changes}
@@ -31,25 +25,25 @@ abbrev pub reach_of : DelayPolicy → ℕ
 reach_of policy = policy.read_offset + policy.delay_max
 
 -- a quantile, where there is one, as a lag
-abbrev pub quantile_lag : Quantile → Lag
-quantile_lag (Quantile.End end) = Of end
-quantile_lag Quantile.None = None
+abbrev pub quantile_lag : Quantile → Option ℕ
+quantile_lag (Quantile.End end) = Some end
+quantile_lag Quantile.NoLags = None
 quantile_lag (Quantile.Refused number) = None
 
 -- "p999 is 0.999 up to offset + maximum where span is at least 1 s"
-unfoldable pub p999_of : (policy : DelayPolicy) (w : Window) → Lag
+unfoldable pub p999_of : (policy : DelayPolicy) (w : Window) → Option ℕ
 p999_of policy w = pick (leb nanos (span_of w.seconds w.starts)) (quantile_lag (quantile_upto (thousandths 999) (reach_of policy) w)) None
 
 -- "current is the proposal or else the delay"
-abbrev pub proposed_or : Proposal → (delay : ℕ) → ℕ
-proposed_or Nothing delay = delay
-proposed_or (Pending proposed) delay = proposed
+abbrev pub proposed_or : Option ℕ → (delay : ℕ) → ℕ
+proposed_or None delay = delay
+proposed_or (Some proposed) delay = proposed
 
 abbrev pub current_of : Slot → ℕ
 current_of slot = proposed_or slot.proposed slot.delay
 
 -- what `next` decides for input i
-unfoldable pub next_for : (i : ℕ) (largest : Lag) (time : ℕ) (s : Inputs) (l : Lists) → Decided
+unfoldable pub next_for : (i : ℕ) (largest : Option ℕ) (time : ℕ) (s : Inputs) (l : Lists) → Decided
 next_for i largest time s l =
     next_of one_millisecond always_lower s.policy (held_of s l i) (p999_of s.policy (window_of s l i)) largest (current_of (slot_at s i)) time
 
@@ -61,16 +55,16 @@ pub record Answered (i : ℕ) (d : Decided) (answer : Next) (l m : Lists) : Type
 
 -- "an answer becomes the proposal (confirmation on)"
 abbrev pub proposing : (i delay : ℕ) (slot : Slot) (s : Inputs) → Inputs
-proposing i delay slot s = put_slot s i (with_proposed slot (Pending delay))
+proposing i delay slot s = put_slot s i (with_proposed slot (Some delay))
 
 -- "or delay changes + 1"
 abbrev pub changing : (i : ℕ) (slot : Slot) (s : Inputs) → Inputs
 changing i slot s = put_slot s i (with_delay_changes slot (slot.delay_changes + 1))
 
 -- ".. and `set_delay`": input i, whose slot this is now, carries the answer out
-unfoldable pub answered : Change → (i time : ℕ) (slot : Slot) (s : Inputs) → Done
-answered Keep i time slot s = quiet (put_slot s i slot)
-answered (To delay) i time slot s =
+unfoldable pub answered : Option ℕ → (i time : ℕ) (slot : Slot) (s : Inputs) → Done
+answered None i time slot s = quiet (put_slot s i slot)
+answered (Some delay) i time slot s =
     pick s.confirm
     (quiet (proposing i delay slot s))
     (set_delay_of (changing i slot s) i delay time)
@@ -87,7 +81,7 @@ interrupted i s = put_slot s i (with_hold (slot_at s i) (with_lower (slot_at s i
 unfoldable pub goes_on : Slot → Bool
 goes_on slot = both (is_running slot.state) (is_auto slot.config.extra_delay)
 
-unfoldable pub auto_delayed : (i : ℕ) (largest : Lag) (time : ℕ) (s : Inputs) (l : Lists) → Effect
+unfoldable pub auto_delayed : (i : ℕ) (largest : Option ℕ) (time : ℕ) (s : Inputs) (l : Lists) → Effect
 auto_delayed i largest time s l =
     pick (is_stalled (slot_at s i).state)
     (silent (interrupted i s) l)

@@ -1,7 +1,6 @@
 -- Document 01, "Supervision", the start of an input's tick: "push lags and keep the last one", and the largest of them. Assumes nothing.
-use Rattle.std.specs.Prelude.{ℕ, ◌-◌, List, length, get_or}
+use Rattle.std.specs.Prelude.{ℕ, ◌-◌, List, length, get_or, Option}
 use Rattle.rules_window.specs.Window.{Window, pushed_all}
-use Rattle.delay_hold.specs.declared.Lag.{Lag}
 use Rattle.delay_hold.specs.Step4Peaks.{worst_of}
 use Rattle.rules_record.specs.declared.Slot.{Slot}
 use Rattle.rules_record.specs.declared.Inputs.{Inputs}
@@ -29,5 +28,5 @@ arrived i time lags s l =
     (with_window (buckets_in s) i (window_after i time lags s l) l)
 
 -- the largest lag of the tick, of all its lags: "one beyond it [the limit] hides the rest"
-abbrev pub largest_of : List ℕ → Lag
+abbrev pub largest_of : List ℕ → Option ℕ
 largest_of lags = worst_of lags

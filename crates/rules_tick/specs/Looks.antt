@@ -1,13 +1,11 @@
 -- What a tick brings: a look at each input, and the lags of all inputs in one list, those of input 0 first. Assumes nothing.
-use Rattle.std.specs.Prelude.{ℕ, false, List, get_or}
+use Rattle.std.specs.Prelude.{ℕ, false, List, get_or, None}
 use Rattle.base.specs.Lists.{sum, part}
-use Rattle.rules_record.specs.declared.Inode.TheVariants.{Gone}
-use Rattle.rules_routing.specs.declared.Reader.TheVariants.{Shut}
 use Rattle.rules_tick.specs.declared.Look.{Look}
 
 -- nothing is seen
 unfoldable pub no_look : Look
-no_look = record { seen = Gone; world = record { inode = Gone; made = false; reader = Shut; head = 0 }; applied = 0; lags = 0 }
+no_look = record { seen = None; world = record { inode = None; made = false; reader = None; head = 0 }; applied = 0; lags = 0 }
 
 -- the look at input i
 unfoldable pub look_at : (looks : List Look) (i : ℕ) → Look

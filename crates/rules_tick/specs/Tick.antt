@@ -1,11 +1,10 @@
 -- Document 01, "Supervision": what `tick` does. Assumes nothing.
-use Rattle.std.specs.Prelude.{ℕ, zero, suc, Bool, false, List}
+use Rattle.std.specs.Prelude.{ℕ, zero, suc, Bool, false, List, None}
 use Rattle.base.specs.Choice.{pick}
 use Rattle.rules_record.specs.declared.Inputs.{Inputs}
 use Rattle.rules_record.specs.States.{is_waiting, is_open}
 use Rattle.rules_record.specs.Inputs.{slot_at, with_flows}
 use Rattle.rules_record.specs.Commands.{Done, quiet}
-use Rattle.rules_record.specs.declared.Extra.TheVariants.{Nothing}
 use Rattle.rules_record.specs.Prune.{pruned}
 use Rattle.rules_routing.specs.TryOpen.{try_open_of}
 use Rattle.rules_routing.specs.Watch.{watch_of}
@@ -51,7 +50,7 @@ saved s = with_flows s s.flows s.flow_count false
 
 -- "Last, prune; the unsaved mark is reported and cleared."
 abbrev pub lastly : Inputs → Inputs
-lastly s = saved (pruned s Nothing)
+lastly s = saved (pruned s None)
 
 unfoldable pub ticked : (looks : List Look) (lags : List ℕ) (time : ℕ) (s : Inputs) (l : Lists) → Effect
 ticked looks lags time s l =

@@ -2,14 +2,14 @@
 // No code: the code that is proved equal to them stands in inputs_auto_delay, inputs_tick_input and inputs_tick.
 #![tactic(auto)]
 
-use rules_record::{Inode, Inputs};
+use rules_record::Inputs;
 use rules_routing::World;
 
 // What a tick brings for one input.
 #[derive(Clone, Copy)]
 pub struct Look {
     // The inode that `watch` sees.
-    pub seen: Inode,
+    pub seen: Option<u64>,
     // What `try_open` sees.
     pub world: World,
     // The delay that the mixer applies.
@@ -18,10 +18,9 @@ pub struct Look {
     pub lags: usize,
 }
 
-// The number of the first check that says no, or 0, and the record; and whether the table of remembered delays is to be saved.
+// The record after a tick, and whether the table of remembered delays is to be saved.
 #[derive(Clone, Copy)]
-pub struct TickAnswer {
-    pub number: u32,
+pub struct Ticked {
     pub inputs: Inputs,
     pub unsaved: bool,
 }

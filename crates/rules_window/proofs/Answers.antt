@@ -10,7 +10,7 @@ use Rattle.base.specs.Lists.{padded, sum}
 use Rattle.buckets.specs.Ranges.{buckets_of}
 use Rattle.doubles.specs.Doubles.{ceil_of}
 use Rattle.doubles.specs.Quantile.{target_of}
-use Rattle.rules_window.specs.declared.Quantile.TheVariants.{End}
+use Rattle.rules_window.specs.Quantile.{End}
 use Rattle.rules_window.specs.Window.{Window, fresh, in_use, laid, opened, dropped, counted, pushed, pushed_all}
 use Rattle.rules_window.specs.Quantile.{column, within, running, reach, quantile_in, quantile_upto, quantile_of, thousandths}
 

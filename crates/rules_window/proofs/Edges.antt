@@ -8,12 +8,12 @@ use lib.IntN.{pos}
 use lib.Ieee.{Float, fin, nan, binary64, round, le, mul, of_int}
 use lib.ListN.{replicate}
 use Rattle.base.specs.Choice.{both, ask}
-use Rattle.base.specs.Lists.{padded, sum, all, blank_from, listed, sum_from}
+use Rattle.base.specs.Lists.{padded, sum, all, each_from, listed, sum_from}
 use Rattle.base.specs.Rows.{apart, up_to}
 use Rattle.buckets.specs.Ranges.{reaches_allowed, width_allowed, buckets_of, buckets_few, buckets_allowed, ranges_number}
 use Rattle.doubles.specs.Doubles.{ceil_of}
 use Rattle.doubles.specs.Quantile.{target_of}
-use Rattle.rules_window.specs.declared.Quantile.TheVariants.{End, None, Refused}
+use Rattle.rules_window.specs.Quantile.{End, NoLags, Refused}
 use Rattle.rules_window.specs.Window.{Window, windowed, fresh, cleared, in_use, laid, opened, dropped, bucket_of, counted, pushed, pushed_all}
 use Rattle.rules_window.specs.WholeWindow.{summed, whole_window}
 use Rattle.rules_window.specs.Quantile.{column, within, running, reach, quantile_in, quantile_upto, quantile_of}
@@ -57,7 +57,7 @@ second_goes_after_10_s = refl
 pub span_to_the_newest :
     span_reply (fresh 3 4800) (column_sums (fresh 3 4800)) ∷ span_reply (twice 1000000004) (2 ∷ 0 ∷ 0 ∷ []) ∷ span_reply (twice 1000000005) (2 ∷ 0 ∷ 0 ∷ []) ∷ []
     ≡ record { number = 0; span = 0 } ∷ record { number = 0; span = 0 } ∷ record { number = 0; span = 1000000000 } ∷ []
-unfolding both ask padded sum all blank_from sum_from apart up_to fresh in_use laid opened dropped counted pushed summed whole_window listed column column_sums right_sums width_allowed buckets_few buckets_allowed checked span_reply
+unfolding both ask padded sum all each_from sum_from apart up_to fresh in_use laid opened dropped counted pushed summed whole_window listed column column_sums right_sums width_allowed buckets_few buckets_allowed checked span_reply
 span_to_the_newest = refl
 
 -- document 02, §5: "a push, a dropped second, a cleared window and a fresh start must all leave it true"; a refused call leaves the row as it came
@@ -70,7 +70,7 @@ pub sums_through_the_calls :
     ∷ (clear_reply (pushed 4800 1000000005 (pushed 0 5 (fresh 3 4800))) (1 ∷ 1 ∷ 1 ∷ [])).sums
     ∷ []
     ≡ (0 ∷ 0 ∷ 0 ∷ []) ∷ (1 ∷ 0 ∷ 0 ∷ []) ∷ (1 ∷ 1 ∷ 0 ∷ []) ∷ (0 ∷ 1 ∷ 1 ∷ []) ∷ (0 ∷ 0 ∷ 0 ∷ []) ∷ (1 ∷ 1 ∷ 1 ∷ []) ∷ []
-unfolding both ask padded sum all blank_from sum_from apart up_to fresh in_use laid opened dropped counted pushed summed whole_window listed column column_sums right_sums reaches_allowed width_allowed buckets_of buckets_few buckets_allowed ranges_number checked newest_of new_number push_number new_reply push_reply clear_reply
+unfolding both ask padded sum all each_from sum_from apart up_to fresh in_use laid opened dropped counted pushed summed whole_window listed column column_sums right_sums reaches_allowed width_allowed buckets_of buckets_few buckets_allowed ranges_number checked newest_of new_number push_number new_reply push_reply clear_reply
 sums_through_the_calls = refl
 
 -- "quantiles .. without limit": a lag of 9,600 counts, and one far beyond the last bucket, which ends at 212 times 48
@@ -84,7 +84,7 @@ unfolding quantile_reply
 quantile_call_without_limit q w sums e = ap (λ (n : ℕ). answered n (quantile_of q w)) e
 
 -- "Total 0: none": no lag at all, or none up to the limit
-pub quantile_of_none : quantile_of one (after []) ∷ quantile_upto one 9599 (after (9600 ∷ [])) ∷ [] ≡ None ∷ None ∷ []
+pub quantile_of_none : quantile_of one (after []) ∷ quantile_upto one 9599 (after (9600 ∷ [])) ∷ [] ≡ NoLags ∷ NoLags ∷ []
 unfolding padded sum buckets_of fresh in_use laid opened dropped counted pushed pushed_all column within running reach quantile_in target_of ceil_of round mul of_int
 quantile_of_none = refl
 
@@ -116,7 +116,7 @@ pub window_asked_17_18_5_6 :
     ∷ checked (windowed 0 1 1 (replicate 11 0) (replicate 11 0) (replicate 11 0)) (0 ∷ []) 14
     ∷ []
     ≡ 17 ∷ 17 ∷ 18 ∷ 18 ∷ 5 ∷ 5 ∷ 5 ∷ 5 ∷ 6 ∷ 6 ∷ 14 ∷ 14 ∷ []
-unfolding both ask sum all blank_from sum_from apart up_to summed whole_window column right_sums width_allowed buckets_few buckets_allowed checked
+unfolding both ask sum all each_from sum_from apart up_to summed whole_window column right_sums width_allowed buckets_few buckets_allowed checked
 window_asked_17_18_5_6 = refl
 
 -- those of `new`: 2, 17 and 18 of offset, maximum and W before the four lengths
@@ -144,7 +144,7 @@ refused_new_is_zero = refl
 
 -- document 01's number and value of each answer of a quantile
 pub answers_have_numbers_and_values :
-    (number_of (End 48) ∷ number_of None ∷ number_of (Refused 14) ∷ [] ≡ 0 ∷ 0 ∷ 14 ∷ []) × (value_of (End 48) ∷ value_of None ∷ value_of (Refused 14) ∷ [] ≡ 48 ∷ 0 ∷ 0 ∷ [])
+    (number_of (End 48) ∷ number_of NoLags ∷ number_of (Refused 14) ∷ [] ≡ 0 ∷ 0 ∷ 14 ∷ []) × (value_of (End 48) ∷ value_of NoLags ∷ value_of (Refused 14) ∷ [] ≡ 48 ∷ 0 ∷ 0 ∷ [])
 answers_have_numbers_and_values = (refl, refl)
 
 -- the window of one input stands in its 11 places of each list: of three inputs the middle one is written

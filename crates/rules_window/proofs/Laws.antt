@@ -1,4 +1,5 @@
 -- What the layers above use of the definitions: windows stay sound, seconds are recent, and where a quantile stands. Assumes nothing.
+use Rattle.std.specs.Prelude.{None, Option, Some}
 use Prim.Native.Nat.{ℕ, zero, suc, ◌+◌, ◌-◌, ◌*◌, ◌<◌, ◌≤◌}
 use mathlib.Core.Bool.{Bool, true, false}
 use mathlib.Core.Path.{◌≡◌, refl, sym, ap, subst, ◌∙◌}
@@ -18,9 +19,7 @@ use Rattle.base.proofs.Choices.{by_le, by_bool, no_pick, yes_pick}
 use Rattle.base.proofs.Points.{zeros_at, sum_at_le}
 use Rattle.doubles.specs.Quantile as places
 use Rattle.doubles.proofs.Places.{place_at_least, place_at_most}
-use Rattle.rules_window.specs.declared.Quantile.TheVariants.{End, None}
-use Rattle.rules_window.specs.declared.Found.{Found}
-use Rattle.rules_window.specs.declared.Found.TheVariants.{At, Nowhere}
+use Rattle.rules_window.specs.Quantile.{End, NoLags}
 use Rattle.base.specs.Rows.{span_of}
 use Rattle.base.specs.Limits.{nanos, time_limit, width_limit, buckets_limit, window_reach}
 use Rattle.rules_window.specs.Window.{Window, fresh, cleared, opens, counted, pushed, pushed_all}
@@ -194,22 +193,22 @@ module _ (limit W B n : ℕ) (cs : List ℕ) where
 
   module _ (target : ℕ) where
     -- the bucket that is found is the first to reach the target
-    found_first : (d c b : ℕ) → running limit W B n cs c < target → reach target limit W B n cs d c ≡ At b → (running limit W B n cs b < target) × (target ≤ running limit W B n cs (b + 1))
+    found_first : (d c b : ℕ) → running limit W B n cs c < target → reach target limit W B n cs d c ≡ Some b → (running limit W B n cs b < target) × (target ≤ running limit W B n cs (b + 1))
     unfolding reach
     found_first zero c b l e = let z : ◌≡◌ {A = ℕ} 0 1 = cc in absurd (omega arith)
     found_first (suc d) c b l e = go (leb target (running limit W B n cs (c + 1))) refl e (λ k f. found_first d (c + 1) b k f)
       where
-        go : (y : Bool) → leb target (running limit W B n cs (c + 1)) ≡ y → pick y (At c) (reach target limit W B n cs d (c + 1)) ≡ At b → (running limit W B n cs (c + 1) < target → reach target limit W B n cs d (c + 1) ≡ At b → (running limit W B n cs b < target) × (target ≤ running limit W B n cs (b + 1))) → (running limit W B n cs b < target) × (target ≤ running limit W B n cs (b + 1))
+        go : (y : Bool) → leb target (running limit W B n cs (c + 1)) ≡ y → pick y (Some c) (reach target limit W B n cs d (c + 1)) ≡ Some b → (running limit W B n cs (c + 1) < target → reach target limit W B n cs d (c + 1) ≡ Some b → (running limit W B n cs b < target) × (target ≤ running limit W B n cs (b + 1))) → (running limit W B n cs b < target) × (target ≤ running limit W B n cs (b + 1))
         go true u f g = let q : c ≡ b = cc in rw (← q) (l, leb-true target (running limit W B n cs (c + 1)) u)
         go false u f g = g (leb-false target (running limit W B n cs (c + 1)) u) f
 
     -- a target that the running count reaches is found
-    found_some : (d c : ℕ) → target ≤ running limit W B n cs (c + suc d) → (b : ℕ) × (reach target limit W B n cs (suc d) c ≡ At b)
+    found_some : (d c : ℕ) → target ≤ running limit W B n cs (c + suc d) → (b : ℕ) × (reach target limit W B n cs (suc d) c ≡ Some b)
     unfolding reach
     found_some zero c l = (c, rw (le-leb target (running limit W B n cs (c + 1)) l))
     found_some (suc d) c l = go (leb target (running limit W B n cs (c + 1))) (found_some d (c + 1) (let q : c + suc (suc d) ≡ c + 1 + suc d = omega arith in rw q at l))
       where
-        go : (y : Bool) → (b : ℕ) × (reach target limit W B n cs (suc d) (c + 1) ≡ At b) → (b : ℕ) × (pick y (At c) (reach target limit W B n cs (suc d) (c + 1)) ≡ At b)
+        go : (y : Bool) → (b : ℕ) × (reach target limit W B n cs (suc d) (c + 1) ≡ Some b) → (b : ℕ) × (pick y (Some c) (reach target limit W B n cs (suc d) (c + 1)) ≡ Some b)
         go true g = (c, refl)
         go false g = g
 
@@ -228,17 +227,17 @@ module _ (q : Float) (limit : ℕ) (w : Window) where
       at : ℕ → ℕ
       at b = running limit w.width w.buckets w.seconds w.counts b
 
-      holds : (b : ℕ) → reach target limit w.width w.buckets w.seconds w.counts w.buckets 0 ≡ At b → Holds limit w b
+      holds : (b : ℕ) → reach target limit w.width w.buckets w.seconds w.counts w.buckets 0 ≡ Some b → Holds limit w b
       holds b f =
           let first = found_first limit w.width w.buckets w.seconds w.counts target w.buckets 0 b (omega (arith, place_at_least total q, running_none limit w.width w.buckets w.seconds w.counts)) f in
           let more = running_next limit w.width w.buckets w.seconds w.counts b in
           let k = within_some limit w.width w.buckets w.seconds w.counts b (omega (arith, first.0, first.1, more)) in
           record { inside = omega (arith, found_below target limit w.width w.buckets w.seconds w.counts w.buckets 0 b f); shown = k.0; some = k.1 }
 
-      go : (y : Bool) (f : Found) → reach target limit w.width w.buckets w.seconds w.counts w.buckets 0 ≡ f → pick y None (end_of w.width f) ≡ End e → (b : ℕ) × ((Holds limit w b) × (e ≡ (b + 1) * w.width))
+      go : (y : Bool) (f : Option ℕ) → reach target limit w.width w.buckets w.seconds w.counts w.buckets 0 ≡ f → pick y NoLags (end_of w.width f) ≡ End e → (b : ℕ) × ((Holds limit w b) × (e ≡ (b + 1) * w.width))
       go true f r k = let z : ◌≡◌ {A = ℕ} 0 1 = cc in absurd (omega arith)
-      go false (At b) r k = (b, (holds b r, cc))
-      go false Nowhere r k = let z : ◌≡◌ {A = ℕ} 0 1 = cc in absurd (omega arith)
+      go false (Some b) r k = (b, (holds b r, cc))
+      go false None r k = let z : ◌≡◌ {A = ℕ} 0 1 = cc in absurd (omega arith)
 
   -- so it is never above the end of the last counted bucket that holds a lag
   pub quantile_at_most : (e last : ℕ) → quantile_upto q limit w ≡ End e → ((b : ℕ) → Holds limit w b → b ≤ last) → e ≤ (last + 1) * w.width
@@ -264,25 +263,25 @@ module _ (q : Float) (limit : ℕ) (w : Window) where
       let all : 0 + suc (w.buckets - 1) ≡ w.buckets = omega (arith, h.inside) in
       let last : suc (w.buckets - 1) ≡ w.buckets = omega (arith, h.inside) in
       let found = found_some limit w.width w.buckets w.seconds w.counts (places.target_of (total_upto limit w) q) (w.buckets - 1) 0 (rw all (place_at_most (total_upto limit w) q one p)) in
-      let is : reach (places.target_of (total_upto limit w) q) limit w.width w.buckets w.seconds w.counts w.buckets 0 ≡ At found.0 = ap (λ (d : ℕ). reach (places.target_of (total_upto limit w) q) limit w.width w.buckets w.seconds w.counts d 0) (sym last) ∙ found.1 in
+      let is : reach (places.target_of (total_upto limit w) q) limit w.width w.buckets w.seconds w.counts w.buckets 0 ≡ Some found.0 = ap (λ (d : ℕ). reach (places.target_of (total_upto limit w) q) limit w.width w.buckets w.seconds w.counts d 0) (sym last) ∙ found.1 in
       ((found.0 + 1) * w.width, rw (ne_eqb (total_upto limit w) 0 (λ z. omega arith), is))
 
   -- and is none exactly where none does
-  pub quantile_none : Placeable q limit w → quantile_upto q limit w ≡ None → (b : ℕ) → Holds limit w b → ⊥
+  pub quantile_none : Placeable q limit w → quantile_upto q limit w ≡ NoLags → (b : ℕ) → Holds limit w b → ⊥
   quantile_none p e b h =
       let some = quantile_exists p b h in
       let f = some.1 in
       let z : ◌≡◌ {A = ℕ} 0 1 = cc in
       omega arith
 
-  pub quantile_cases : (quantile_upto q limit w ≡ None) ⊎ ((e : ℕ) × (quantile_upto q limit w ≡ End e))
+  pub quantile_cases : (quantile_upto q limit w ≡ NoLags) ⊎ ((e : ℕ) × (quantile_upto q limit w ≡ End e))
   unfolding quantile_in
   quantile_cases = go (eqb (total_upto limit w) 0) (reach (places.target_of (total_upto limit w) q) limit w.width w.buckets w.seconds w.counts w.buckets 0)
     where
-      go : (y : Bool) (f : Found) → (pick y None (end_of w.width f) ≡ None) ⊎ ((e : ℕ) × (pick y None (end_of w.width f) ≡ End e))
+      go : (y : Bool) (f : Option ℕ) → (pick y NoLags (end_of w.width f) ≡ NoLags) ⊎ ((e : ℕ) × (pick y NoLags (end_of w.width f) ≡ End e))
       go true f = inl refl
-      go false (At b) = inr ((b + 1) * w.width, refl)
-      go false Nowhere = inl refl
+      go false (Some b) = inr ((b + 1) * w.width, refl)
+      go false None = inl refl
 
   -- the answer has document 01's number, and its value where that is 0, else the value 0
   pub reply_number : (sums : List ℕ) → number_of (quantile_upto_reply q limit w sums) ≡ quantile_number q w sums

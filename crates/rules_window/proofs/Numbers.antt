@@ -10,8 +10,8 @@ use lib.ListN.{length}
 use Rattle.base.specs.Choice.{ask}
 use Rattle.base.proofs.Choices.{asked, yes_ask, no_ask, refused_old}
 use Rattle.base.proofs.Points.{both_true}
-use Rattle.rules_window.specs.declared.Quantile.{Quantile}
-use Rattle.rules_window.specs.declared.Quantile.TheVariants.{Refused}
+use Rattle.rules_window.specs.Quantile.{Quantile}
+use Rattle.rules_window.specs.Quantile.{Refused}
 use Rattle.base.specs.Rows.{span_of}
 use Rattle.base.specs.Limits.{samples_limit, time_limit, width_limit, buckets_limit}
 use Rattle.buckets.specs.Ranges.{buckets_of}

@@ -1,4 +1,5 @@
 -- The quantile of a window is that of its row of sums, read as one second. Assumes nothing.
+use Rattle.std.specs.Prelude.{Option, Some}
 use Prim.Native.Nat.{ℕ, zero, suc, ◌+◌, ◌*◌, ◌<◌, ◌≤◌}
 use mathlib.Core.Path.{◌≡◌, refl, sym, ap, subst, ◌∙◌}
 use mathlib.Core.List.{List}
@@ -10,9 +11,7 @@ use Rattle.base.specs.Choice.{pick}
 use Rattle.base.specs.Lists.{sum}
 use Rattle.base.proofs.Points.{sum_cong}
 use Rattle.doubles.specs.Quantile as places
-use Rattle.rules_window.specs.declared.Quantile.TheVariants.{None}
-use Rattle.rules_window.specs.declared.Found.{Found}
-use Rattle.rules_window.specs.declared.Found.TheVariants.{At}
+use Rattle.rules_window.specs.Quantile.{NoLags}
 use Rattle.rules_window.specs.Window.{Window}
 use Rattle.rules_window.specs.Quantile.{column, within, running, reach, end_of, quantile_in, quantile_upto, lags_in, total_upto, Placeable}
 use Rattle.rules_window.specs.ColumnSums.{column_sums, as_one_second}
@@ -46,7 +45,7 @@ module _ (w : Window) where
     pub row_placeable : (q : Float) {sums : List ℕ} → sums ≡ column_sums w → Placeable q limit w → Placeable q limit (as_one_second w.buckets w.width sums)
     row_placeable q own p = subst (λ (row : List ℕ). Placeable q limit (as_one_second w.buckets w.width row)) (sym own) (rw same_total p)
 
-    abbrev reached : Window → ℕ → ℕ → ℕ → Found
+    abbrev reached : Window → ℕ → ℕ → ℕ → Option ℕ
     reached v target m b = reach target limit v.width v.buckets v.seconds v.counts m b
 
     same_reach : (target m b : ℕ) → b + m ≤ w.buckets → reached summed_up target m b ≡ reached w target m b
@@ -55,11 +54,11 @@ module _ (w : Window) where
     same_reach target (suc m) b h =
         let e = same_running (b + 1) (omega arith) in
         let r = same_reach target m (b + 1) (omega arith) in
-        (λ i. pick (leb target (e i)) (At b) (r i))
+        (λ i. pick (leb target (e i)) (Some b) (r i))
 
     pub same_quantile : (q : Float) → quantile_upto q limit summed_up ≡ quantile_upto q limit w
     unfolding quantile_in
     same_quantile q =
         let t = same_total in
         let r : (n : ℕ) → reached summed_up (places.target_of n q) w.buckets 0 ≡ reached w (places.target_of n q) w.buckets 0 = λ n. same_reach (places.target_of n q) w.buckets 0 (omega arith) in
-        (λ i. pick (eqb (t i) 0) None (end_of w.width (r (t i) i)))
+        (λ i. pick (eqb (t i) 0) NoLags (end_of w.width (r (t i) i)))

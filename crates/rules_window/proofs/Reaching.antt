@@ -1,4 +1,5 @@
 -- The sums and the search of a quantile over a row of sums, as the loops go, and only in the buckets up to the limit. Assumes nothing.
+use Rattle.std.specs.Prelude.{None, Option, Some}
 use Prim.Native.Nat.{ℕ, zero, suc, ◌+◌, ◌-◌, ◌*◌, ◌/◌, ◌<◌, ◌≤◌, min}
 use mathlib.Core.Bool.{Bool, true, false}
 use mathlib.Core.Path.{◌≡◌, refl, sym, ap, ◌∙◌}
@@ -15,9 +16,7 @@ use Rattle.base.proofs.Choices.{by_le, no_pick, yes_pick}
 use Rattle.base.proofs.All.{sum_none, sum_more, sum_end}
 use Rattle.base.proofs.Points.{sum_cong}
 use Rattle.doubles.specs.Quantile as places
-use Rattle.rules_window.specs.declared.Quantile.TheVariants.{End, None}
-use Rattle.rules_window.specs.declared.Found.{Found}
-use Rattle.rules_window.specs.declared.Found.TheVariants.{At, Nowhere}
+use Rattle.rules_window.specs.Quantile.{End, NoLags}
 use Rattle.rules_window.specs.Quantile.{column, within, running, reach, end_of, quantile_in}
 use Rattle.rules_window.proofs.Sums.{sum_split, sum_rises, sum_past}
 use Rattle.rules_window.proofs.OneSecond.{one_column}
@@ -85,7 +84,7 @@ module _ (limit W B : ℕ) (us : List ℕ) (pos : 1 ≤ W) (m : ℕ) (em : m ≡
     pub next_few : (b s v : ℕ) → s ≡ running limit W B 1 us b → v ≡ get_or us b 0 → b < m → s + v ≤ most
     next_few b s v e h l = omega (arith, running_more b s v e h l, running_rises limit W B 1 us (b + 1) B (omega arith))
 
-  module _ (target : ℕ) (whole : Found) (b : ℕ) (inv : whole ≡ reach target limit W B 1 us (B - b) b) where
+  module _ (target : ℕ) (whole : Option ℕ) (b : ℕ) (inv : whole ≡ reach target limit W B 1 us (B - b) b) where
     -- a running count below the target: nothing is reached in the buckets that it counts
     below : (k : ℕ) → b + k ≤ B → running limit W B 1 us (b + k) < target → whole ≡ reach target limit W B 1 us (B - (b + k)) (b + k)
     unfolding reach
@@ -102,7 +101,7 @@ module _ (limit W B : ℕ) (us : List ℕ) (pos : 1 ≤ W) (m : ℕ) (em : m ≡
     pub reach_block : (d s v : ℕ) → s ≡ running limit W B 1 us b → v ≡ sum_from b d us → b + d ≤ m → s + v < target → whole ≡ reach target limit W B 1 us (B - (b + d)) (b + d)
     reach_block d s v e h l k = below d (omega arith) (rw (← running_block b d s v e h l) k)
 
-    pub reach_stop : (s v : ℕ) → s ≡ running limit W B 1 us b → v ≡ get_or us b 0 → b < m → target ≤ s + v → At b ≡ whole
+    pub reach_stop : (s v : ℕ) → s ≡ running limit W B 1 us b → v ≡ get_or us b 0 → b < m → target ≤ s + v → Some b ≡ whole
     unfolding reach
     reach_stop s v e h l k =
         let q : B - b ≡ suc (B - (b + 1)) = omega arith in
@@ -110,52 +109,52 @@ module _ (limit W B : ℕ) (us : List ℕ) (pos : 1 ≤ W) (m : ℕ) (em : m ≡
         sym (inv ∙ rw (q, u))
 
     -- past the limit nothing is reached any more
-    none_past : (d c : ℕ) → m ≤ c → c + d ≤ B → running limit W B 1 us m < target → reach target limit W B 1 us d c ≡ Nowhere
+    none_past : (d c : ℕ) → m ≤ c → c + d ≤ B → running limit W B 1 us m < target → reach target limit W B 1 us d c ≡ None
     unfolding reach
     none_past zero c l k t = refl
     none_past (suc d) c l k t =
         let u : leb target (running limit W B 1 us (c + 1)) ≡ false = lt-leb target (running limit W B 1 us (c + 1)) (omega (arith, running_past (c + 1) (omega arith) (omega arith))) in
         rw u (none_past d (c + 1) (omega arith) (omega arith) t)
 
-    pub reach_past : (s : ℕ) → s ≡ running limit W B 1 us b → (1 ≤ b → s < target) → b ≤ m → m ≤ b → Nowhere ≡ whole
+    pub reach_past : (s : ℕ) → s ≡ running limit W B 1 us b → (1 ≤ b → s < target) → b ≤ m → m ≤ b → None ≡ whole
     unfolding reach
     reach_past s e t h l = by_le B b done (λ g. sym (inv ∙ none_past (B - b) b l (omega arith) (rw same (rw e at (t (omega arith))))))
       where
         same : m ≡ b
         same = omega arith
 
-        done : B ≤ b → Nowhere ≡ whole
+        done : B ≤ b → None ≡ whole
         done g = let q : B - b ≡ 0 = omega arith in sym (inv ∙ rw q)
 
 -- ---- the quantile
 -- a bucket that is found is one of the buckets
-pub found_below : (target limit W B n : ℕ) (cs : List ℕ) (d c b : ℕ) → reach target limit W B n cs d c ≡ At b → b < c + d
+pub found_below : (target limit W B n : ℕ) (cs : List ℕ) (d c b : ℕ) → reach target limit W B n cs d c ≡ Some b → b < c + d
 unfolding reach
 found_below target limit W B n cs zero c b e = let z : ◌≡◌ {A = ℕ} 0 1 = cc in absurd (omega arith)
 found_below target limit W B n cs (suc d) c b e = go (leb target (running limit W B n cs (c + 1))) e (λ f. found_below target limit W B n cs d (c + 1) b f)
   where
-    go : (y : Bool) → pick y (At c) (reach target limit W B n cs d (c + 1)) ≡ At b → (reach target limit W B n cs d (c + 1) ≡ At b → b < c + 1 + d) → b < c + suc d
+    go : (y : Bool) → pick y (Some c) (reach target limit W B n cs d (c + 1)) ≡ Some b → (reach target limit W B n cs d (c + 1) ≡ Some b → b < c + 1 + d) → b < c + suc d
     go true f g = let q : c ≡ b = cc in omega arith
     go false f g = omega (arith, g f)
 
 module _ (q : Float) (limit W B n : ℕ) (cs : List ℕ) (t : ℕ) (et : t ≡ running limit W B n cs B) where
-  pub quantile_none : t ≡ 0 → None ≡ quantile_in q limit W B n cs
+  pub quantile_none : t ≡ 0 → NoLags ≡ quantile_in q limit W B n cs
   unfolding quantile_in
   quantile_none z = simp (← et, eq-eqb _ _ z)
 
   pub place_asks : places.TargetAsked (running limit W B n cs B) q → places.TargetAsked t q
   place_asks h = rw et h
 
-  module _ (target : ℕ) (ep : target ≡ places.target_of t q) (found : Found) (ef : found ≡ reach target limit W B n cs B 0) where
+  module _ (target : ℕ) (ep : target ≡ places.target_of t q) (found : Option ℕ) (ef : found ≡ reach target limit W B n cs B 0) where
     quantile_is : (t ≡ 0 → ⊥) → end_of W found ≡ quantile_in q limit W B n cs
     unfolding quantile_in
     quantile_is z = simp (← et, ne_eqb _ _ z, ← ep, ← ef)
 
-    pub quantile_nowhere : (t ≡ 0 → ⊥) → found ≡ Nowhere → None ≡ quantile_in q limit W B n cs
+    pub quantile_nowhere : (t ≡ 0 → ⊥) → found ≡ None → NoLags ≡ quantile_in q limit W B n cs
     quantile_nowhere z f = ap (end_of W) (sym f) ∙ quantile_is z
 
-    pub quantile_end : (t ≡ 0 → ⊥) → (b a : ℕ) → found ≡ At b → a ≡ (b + 1) * W → End a ≡ quantile_in q limit W B n cs
+    pub quantile_end : (t ≡ 0 → ⊥) → (b a : ℕ) → found ≡ Some b → a ≡ (b + 1) * W → End a ≡ quantile_in q limit W B n cs
     quantile_end z b a f e = rw e (ap (end_of W) (sym f) ∙ quantile_is z)
 
-    pub bucket_found : (b : ℕ) → found ≡ At b → b < B
+    pub bucket_found : (b : ℕ) → found ≡ Some b → b < B
     bucket_found b f = omega (arith, found_below target limit W B n cs B 0 b (sym ef ∙ f))

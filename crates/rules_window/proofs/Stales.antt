@@ -1,42 +1,34 @@
--- How many of the oldest seconds are more than 10 s old: as a loop counts them, and what it says of each second. Assumes nothing.
-use Prim.Native.Nat.{ℕ, zero, suc, ◌+◌, ◌-◌, ◌<◌, ◌≤◌}
+-- How many of the oldest seconds are more than 10 s old: and what it says of each second. Assumes nothing.
+use Prim.Native.Nat.{ℕ, zero, suc, ◌-◌, ◌<◌, ◌≤◌}
 use mathlib.Core.Bool.{Bool, true, false}
-use mathlib.Core.Path.{◌≡◌, refl}
+use mathlib.Core.Path.{◌≡◌, refl, sym, ap, ◌∙◌}
 use mathlib.Core.List.{List, [], ◌∷◌}
 use native.Mathlib.Nat.{not-suc-le-zero, le_of_suc-le-suc}
 use native.Mathlib.Numerals.{add-one}
 use native.Mathlib.Omega.{arith}
-use borrow.Author.Rules.{rules}
 use borrow.Author.Tests.{lt-ltb, le-ltb, ltb-true, ltb-false}
 use lib.Dec.{ltb}
-use lib.ListN.{length, get_or, drop}
-use lib.Seq.{drop-cons}
+use lib.ListN.{length, get_or, take, length-take}
+use Rattle.std.proofs.Common.{Option}
+use Rattle.std.proofs.lemmas.Iterator.{index_from_first}
+use Rattle.std.specs.List.{AllWithin, HoldsAt}
+use Rattle.std.specs.Option.{MatchOption, unwrap_or}
 use Rattle.base.specs.Choice.{pick}
 use Rattle.base.specs.Limits.{window_reach}
 use Rattle.rules_window.specs.Window.{stale, opens}
 
-module _ (t n : ℕ) (xs : List ℕ) (h : n ≤ length xs) (k : ℕ) (inv : stale t n xs ≡ k + stale t (n - k) (drop k xs)) where
-  pub stale_more : {a : ℕ} → k < n → a ≡ t - get_or xs k 0 → window_reach < a → stale t n xs ≡ k + 1 + stale t (n - (k + 1)) (drop (k + 1) xs)
-  stale_more {a} l e u =
-      let q : n - k ≡ suc (n - suc k) = omega arith in
-      let v : ltb window_reach (t - get_or xs k 0) ≡ true = lt-ltb window_reach (t - get_or xs k 0) (omega arith) in
-      let w : stale t (n - k) (drop k xs) ≡ suc (stale t (n - suc k) (drop (suc k) xs)) = rw (q, drop-cons xs k 0 (omega arith), v) in
-      rw (add-one k) (omega arith)
+stale_part : (t n : ℕ) (xs : List ℕ) → n ≤ length xs → stale t n xs ≡ stale t (length (take n xs)) (take n xs)
+stale_part t zero xs h = refl
+stale_part t (suc n) [] h = absurd (omega arith)
+stale_part t (suc n) (x ∷ xs) h = ap (λ (k : ℕ). pick (ltb window_reach (t - x)) (suc k) 0) (stale_part t n xs (omega arith))
 
-  pub stale_stop : {a : ℕ} → k < n → a ≡ t - get_or xs k 0 → a ≤ window_reach → k ≡ stale t n xs
-  stale_stop {a} l e u =
-      let q : n - k ≡ suc (n - suc k) = omega arith in
-      let v : ltb window_reach (t - get_or xs k 0) ≡ false = le-ltb window_reach (t - get_or xs k 0) (omega arith) in
-      let w : stale t (n - k) (drop k xs) ≡ 0 = rw (q, drop-cons xs k 0 (omega arith), v) in
-      omega arith
-
-  pub stale_end : n ≤ k → k ≡ stale t n xs
-  stale_end l =
-      let q : n - k ≡ 0 = omega arith in
-      let w : stale t (n - k) (drop k xs) ≡ 0 = rw q in
-      omega arith
-
-pub ruleset stales = (rules, stale_more, stale_stop, stale_end)
+-- they are those before the first that is not
+pub stale_told : (t n : ℕ) (xs : List ℕ) → n ≤ length xs → (r : Option ℕ) → MatchOption r (AllWithin (λ x. window_reach < t - x) (take n xs) 0 (length (take n xs))) (λ i. (i < length (take n xs)) × HoldsAt (λ x. t - x ≤ window_reach) (take n xs) i × AllWithin (λ x. window_reach < t - x) (take n xs) 0 i) → {k : ℕ} → k ≡ unwrap_or r n → k ≡ stale t n xs
+stale_told t n xs h r first {k} e =
+    let long : length (take n xs) ≡ n = omega (arith, length-take n xs) in
+    let all : stale t (length (take n xs)) (take n xs) ≡ unwrap_or r (length (take n xs)) =
+    index_from_first (λ (ys : List ℕ). stale t (length ys) ys) (λ x. t - x ≤ window_reach) (λ x. window_reach < t - x) refl (λ x ys l. rw (le-ltb window_reach (t - x) l)) (λ x ys l. rw (lt-ltb window_reach (t - x) l, add-one)) (take n xs) r first in
+    e ∙ ap (unwrap_or r) (sym long) ∙ sym (stale_part t n xs h ∙ all)
 
 pub stale_le : (t n : ℕ) (xs : List ℕ) → stale t n xs ≤ n
 stale_le t zero xs = omega arith

@@ -6,7 +6,6 @@ use native.Mathlib.Nat.{add_assoc, not-suc-le-zero, suc-mul}
 use native.Mathlib.Omega.{arith}
 use lib.ListN.{get_or}
 use Rattle.base.specs.Lists.{sum, sum_from}
-use Rattle.base.proofs.All.{sum_more}
 use Rattle.base.proofs.Choices.{by_le}
 use Rattle.base.proofs.Points.{sum_cong, sum_zero}
 
@@ -50,11 +49,6 @@ sum_bound f most zero h = omega arith
 sum_bound f most (suc n) h = omega (arith, sum_bound f most n (λ i l. h i (omega arith)), h n (omega arith), suc-mul n most)
 
 -- ---- the numbers of a list
--- the first ones and the next are no more than all
-pub from_next : (a i n s : ℕ) (xs : List ℕ) → s ≡ sum_from a i xs → i < n → s + get_or xs (a + i) 0 ≤ sum_from a n xs
-unfolding sum_from
-from_next a i n s xs e h = omega (arith, sum_more (λ b. get_or xs (a + b) 0) i s _ e refl, sum_rises (λ b. get_or xs (a + b) 0) (i + 1) n (omega arith))
-
 pub from_split : (a m n : ℕ) (xs : List ℕ) → sum_from a (m + n) xs ≡ sum_from a m xs + sum_from (a + m) n xs
 unfolding sum_from
 from_split a m n xs = sum_split (λ i. get_or xs (a + i) 0) m n ∙ ap (λ (x : ℕ). sum (λ i. get_or xs (a + i) 0) m + x) (sum_cong _ _ n (λ i l. ap (λ (x : ℕ). get_or xs x 0) (sym (add_assoc a m i))))

@@ -1,17 +1,16 @@
 -- The checks of the calls on one window, in their order (document 01's, with document 02's 17 and 18), and what each call answers and leaves. Assumes nothing.
-use Rattle.std.specs.Prelude.{ℕ, zero, suc, ◌+◌, ◌-◌, ◌*◌, Bool, false, List, leb, eqb, pos, Float, length, get_or}
+use Rattle.std.specs.Prelude.{Result, ℕ, zero, suc, ◌+◌, ◌-◌, ◌*◌, Bool, false, List, leb, eqb, pos, Float, length, get_or}
 use Rattle.std.specs.Float.{fin}
 use Rattle.std.specs.Float.Ieee.{le}
 use Rattle.base.specs.Choice.{pick, both, ask, accepted}
-use Rattle.rules_window.specs.declared.SpanAnswer.{SpanAnswer}
-use Rattle.rules_window.specs.declared.Quantile.{Quantile}
-use Rattle.rules_window.specs.declared.Quantile.TheVariants.{End, None, Refused}
+use Rattle.refusals.specs.declared.Refusal.{Refusal}
+use Rattle.refusals.specs.Numbers as refusals
 use Rattle.base.specs.Limits.{timely}
 use Rattle.base.specs.Rows.{span_of}
 use Rattle.buckets.specs.Ranges.{width_allowed, buckets_of, buckets_allowed, ranges_number}
 use Rattle.rules_window.specs.Window.{Window, fresh, cleared, opens, pushed}
 use Rattle.rules_window.specs.WholeWindow.{whole_with_sums}
-use Rattle.rules_window.specs.Quantile.{quantile_upto, quantile_of}
+use Rattle.rules_window.specs.Quantile.{Quantile, End, NoLags, Refused, quantile_upto, quantile_of}
 use Rattle.rules_window.specs.ColumnSums.{column_sums}
 
 -- what every call on a window asks: 17 ("W outside 1 to 4,800"), 18 ("more than 4,096 buckets", or none),
@@ -83,6 +82,14 @@ push_reply lag time w sums = replied (push_number time w sums) w sums (pushed la
 unfoldable pub clear_reply : (w : Window) (sums : List ℕ) → Reply
 clear_reply w sums = replied (checked w sums 0) w sums (cleared w)
 
+-- a span in nanoseconds, and the number of the check that refuses, or 0; and of each case of what a call gives
+pub record SpanAnswer : Type 0 where
+  pub number : ℕ
+  pub span : ℕ
+
+abbrev pub told_span : Result ℕ Refusal → SpanAnswer
+told_span result = record { number = refusals.number_in result; span = refusals.value_in 0 result }
+
 -- "Span is newest start − oldest start, 0 with no second"
 unfoldable pub span_reply : (w : Window) (sums : List ℕ) → SpanAnswer
 span_reply w sums = record { number = checked w sums 0; span = accepted (checked w sums 0) 0 (span_of w.seconds w.starts) }
@@ -101,10 +108,10 @@ quantile_reply q w sums = answered (quantile_number q w sums) (quantile_of q w)
 -- document 01's number of each answer, and its value, a bucket's end (0 where there is none)
 abbrev pub number_of : Quantile → ℕ
 number_of (End e) = 0
-number_of None = 0
+number_of NoLags = 0
 number_of (Refused k) = k
 
 abbrev pub value_of : Quantile → ℕ
 value_of (End e) = e
-value_of None = 0
+value_of NoLags = 0
 value_of (Refused k) = 0

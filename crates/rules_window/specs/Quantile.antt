@@ -1,15 +1,28 @@
 -- Document 01, "LagWindow": the quantile of the counted lags up to a limit. Assumes nothing.
-use Rattle.std.specs.Prelude.{ℕ, zero, suc, ◌+◌, ◌*◌, List, false, leb, eqb, get_or, Float}
+use Rattle.std.specs.Prelude.{ℕ, Result, Ok, Err, zero, suc, ◌+◌, ◌*◌, List, false, leb, eqb, get_or, Float, None, Option, Some}
 use Rattle.std.specs.Float.{binary64}
 use Rattle.std.specs.Float.Ieee.{round}
 use Rattle.base.specs.Choice.{pick}
 use Rattle.base.specs.Lists.{sum}
 use Rattle.doubles.specs.Quantile as places
-use Rattle.rules_window.specs.declared.Quantile.{Quantile}
-use Rattle.rules_window.specs.declared.Quantile.TheVariants.{End, None}
-use Rattle.rules_window.specs.declared.Found.{Found}
-use Rattle.rules_window.specs.declared.Found.TheVariants.{At, Nowhere}
+use Rattle.refusals.specs.declared.Refusal.{Refusal}
+use Rattle.refusals.specs.Numbers as refusals
 use Rattle.rules_window.specs.Window.{Window}
+
+-- the end of the bucket that holds a quantile, none where no lag counts, or the number of the check that refuses
+pub data Quantile : Type 0 where
+  End : ℕ → Quantile
+  NoLags : Quantile
+  Refused : ℕ → Quantile
+
+-- .. of what is found of lags that are counted, and of each case of what a call gives
+abbrev pub found : Option ℕ → Quantile
+found None = NoLags
+found (Some end) = End end
+
+abbrev pub told : Result (Option ℕ) Refusal → Quantile
+told (Ok quantile) = found quantile
+told (Err refusal) = Refused (refusals.number_of refusal)
 
 -- the lags of bucket b in the n seconds
 unfoldable pub column : (buckets b n : ℕ) (counts : List ℕ) → ℕ
@@ -24,21 +37,21 @@ unfoldable pub running : (limit width buckets n : ℕ) (counts : List ℕ) (m : 
 running limit width buckets n counts m = sum (within limit width buckets n counts) m
 
 -- "the first bucket where the running count reaches it", of m buckets from b on
-unfoldable pub reach : (target limit width buckets n : ℕ) (counts : List ℕ) → ℕ → (b : ℕ) → Found
-reach target limit width buckets n counts zero b = Nowhere
+unfoldable pub reach : (target limit width buckets n : ℕ) (counts : List ℕ) → ℕ → (b : ℕ) → Option ℕ
+reach target limit width buckets n counts zero b = None
 reach target limit width buckets n counts (suc m) b =
-    pick (leb target (running limit width buckets n counts (b + 1))) (At b) (reach target limit width buckets n counts m (b + 1))
+    pick (leb target (running limit width buckets n counts (b + 1))) (Some b) (reach target limit width buckets n counts m (b + 1))
 
 -- "the answer is the end (b + 1) times W"
-abbrev pub end_of : (width : ℕ) → Found → Quantile
-end_of width (At b) = End ((b + 1) * width)
-end_of width Nowhere = None
+abbrev pub end_of : (width : ℕ) → Option ℕ → Quantile
+end_of width (Some b) = End ((b + 1) * width)
+end_of width None = NoLags
 
 -- "Total 0: none. Else target = total times q as a double, raised to the next whole number, at least 1"
 unfoldable pub quantile_in : (q : Float) (limit width buckets n : ℕ) (counts : List ℕ) → Quantile
 quantile_in q limit width buckets n counts =
     let total = running limit width buckets n counts buckets in
-    pick (eqb total 0) None (end_of width (reach (places.target_of total q) limit width buckets n counts buckets 0))
+    pick (eqb total 0) NoLags (end_of width (reach (places.target_of total q) limit width buckets n counts buckets 0))
 
 -- k thousandths as a double: "0.5, 0.99 and 0.999"
 unfoldable pub thousandths : ℕ → Float

@@ -1,6 +1,7 @@
 -- An input's delay in the record that an accepted call leaves is the samples of the last SetDelay among its commands, or where there is none
 -- the delay that it had before, and so are the times of the last SetDelay and SetInput: of `new`, `route`, `update`, `confirm_delay` and `tick`.
 -- Assumes nothing.
+use Rattle.std.specs.Prelude.{Option}
 use Prim.Native.Nat.{ℕ, ◌<◌}
 use mathlib.Core.Path.{◌≡◌, refl, sym, ap, subst, ◌∙◌}
 use mathlib.Core.List.{List}
@@ -25,7 +26,6 @@ use Rattle.rules_calls.specs.NewChecks.{new_number}
 use Rattle.rules_calls.proofs.NewAccepted.{accepted_of}
 use Rattle.rules_calls.specs.NewStart.{started}
 use Rattle.rules_calls.specs.NewReply.{new_reply}
-use Rattle.rules_calls.specs.declared.Wanted.{Wanted}
 use Rattle.rules_calls.specs.RouteChecks.{route_number}
 use Rattle.rules_calls.specs.Route.{routed}
 use Rattle.rules_calls.specs.RouteReply.{route_reply}
@@ -46,6 +46,7 @@ use Rattle.sent_delays.proofs.Steps.{TellsEffect}
 use Rattle.sent_delays.proofs.Ticks.{tells_ticked}
 use Rattle.sent_delays.proofs.OneInput.{tells_routed, tells_updated, tells_confirmed}
 use Rattle.sent_delays.proofs.Starts.{nothing, blank_notes, tells_started}
+use Rattle.rules_calls.specs.declared.Source.{Source}
 
 -- the same of an accepted call
 pub accepted_told : {s : Inputs} {reply : Reply} → Told s reply → reply.number ≡ 0 → (j : ℕ) → j < 16 → (slot_at reply.inputs j).delay ≡ last_delay j (slot_at s j).delay reply.commands
@@ -83,7 +84,7 @@ module _ (number : ℕ) (s : Inputs) (l : Lists) (commands : List ℕ) (effect :
 
 -- ---- the calls on a record, accepted or refused
 module _ (s : Inputs) (sized : Sized s) (l : Lists) (commands : List ℕ) where
-  module _ (input : ℕ) (wanted : Wanted) (time : ℕ) (world : World) where
+  module _ (input : ℕ) (wanted : Option Source) (time : ℕ) (world : World) where
     route_tells : route_number s l (length commands) input wanted time world ≡ 0 → TellsEffect time s (routed input wanted time world s l)
     unfolding route_number
     route_tells e = tells_routed input (call_low s l (length commands) input time _ e) time wanted world s l sized

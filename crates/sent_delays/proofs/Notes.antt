@@ -1,10 +1,9 @@
 -- What a record notes of the commands to an input: its delay, when the last SetDelay went, when the last SetInput; and what commands make of it. Assumes nothing.
+use Rattle.std.specs.Prelude.{Option, Some}
 use Prim.Native.Nat.{ℕ}
 use mathlib.Core.Path.{◌≡◌, refl, ap, ◌∙◌}
 use mathlib.Core.List.{List, [], ◌++◌}
 use Rattle.base.specs.Lists.{padded}
-use Rattle.delay_hold.specs.declared.Moment.{Moment}
-use Rattle.delay_hold.specs.declared.Moment.TheVariants.{At}
 use Rattle.rules_record.specs.declared.Slot.{Slot}
 use Rattle.rules_record.specs.Commands.{set_input, clear_input, set_delay}
 use Rattle.sent_delays.specs.Last.{last_delay}
@@ -13,8 +12,8 @@ use Rattle.sent_delays.proofs.Words.{WholeCommands, last_append, last_padded, la
 
 pub record Notes : Type 0 where
   pub delay : ℕ
-  pub set : Moment
-  pub input : Moment
+  pub set : Option ℕ
+  pub input : Option ℕ
 
 abbrev pub notes_of : Slot → Notes
 notes_of slot = record { delay = slot.delay; set = slot.last_set; input = slot.last_input }
@@ -30,10 +29,10 @@ notes_after i time before words =
 
 -- with a SetInput, with a SetDelay
 abbrev pub opened : (time : ℕ) (before : Notes) → Notes
-opened time before = record { delay = before.delay; set = before.set; input = At time }
+opened time before = record { delay = before.delay; set = before.set; input = Some time }
 
 abbrev pub delayed : (delay time : ℕ) (before : Notes) → Notes
-delayed delay time before = record { delay = delay; set = At time; input = before.input }
+delayed delay time before = record { delay = delay; set = Some time; input = before.input }
 
 module _ (i time : ℕ) (before : Notes) where
   pub notes_none : notes_after i time before [] ≡ before

@@ -1,4 +1,5 @@
 -- `new` tells the delays and the times, from a record in which the delays are 0 and no command ever went. Assumes nothing.
+use Rattle.std.specs.Prelude.{None}
 use Prim.Native.Nat.{ℕ, zero, suc, ◌≤◌, ◌<◌, min}
 use mathlib.Core.Path.{◌≡◌, refl, ap, ◌∙◌}
 use mathlib.Core.List.{List, []}
@@ -7,7 +8,6 @@ use lib.Dec.{ltb}
 use lib.ListN.{length, get_or, length-set, get_or-replicate}
 use Rattle.base.proofs.Choices.{pick_all, lt_yes}
 use Rattle.doubles.specs.Doubles.{samples_of}
-use Rattle.delay_hold.specs.declared.Moment.TheVariants.{Never}
 use Rattle.rules_record.specs.declared.ExtraDelay.{ExtraDelay}
 use Rattle.rules_record.specs.declared.ExtraDelay.TheVariants.{Auto, Ms}
 use Rattle.rules_record.specs.declared.Flow.{Flow}
@@ -64,7 +64,7 @@ tells_started_below (suc n) most kinds time s h =
 
 -- a slot that is not in use has delay 0, and no command went to it
 abbrev pub nothing : Notes
-nothing = record { delay = 0; set = Never; input = Never }
+nothing = record { delay = 0; set = None; input = None }
 
 pub blank_notes : (settings : Settings) (j : ℕ) → j < 16 → notes_of (slot_at (blank_for settings) j) ≡ nothing
 unfolding blank_for blank slot_at empty_slot

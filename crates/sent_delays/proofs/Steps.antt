@@ -1,6 +1,7 @@
 -- A step at a time tells what it did: an input's delay in the record that it leaves is the samples of the last SetDelay that it sent, and the
 -- two times are its own where it sent a SetDelay or a SetInput; else they are those of before. One step after another tells it; so does each
 -- step on one input. Assumes nothing.
+use Rattle.std.specs.Prelude.{Option}
 use Prim.Native.Nat.{ℕ, ◌<◌}
 use mathlib.Core.Path.{◌≡◌, refl, sym, ap, subst, ◌∙◌}
 use mathlib.Core.List.{List, [], ◌++◌}
@@ -9,7 +10,6 @@ use borrow.Author.Tests.{eqb-true, eqb-false}
 use Rattle.base.proofs.Choices.{by_bool}
 use Rattle.rules_record.specs.declared.Slot.{Slot}
 use Rattle.rules_record.specs.declared.Inputs.{Inputs}
-use Rattle.rules_record.specs.declared.Inode.{Inode}
 use Rattle.rules_record.specs.declared.State.TheVariants.{Stalled}
 use Rattle.rules_record.specs.Slots.{with_state}
 use Rattle.rules_record.specs.Inputs.{slot_at, put_slot}
@@ -174,7 +174,7 @@ module _ (i : ℕ) (input : i < 16) (s : Inputs) (sized : Sized s) (time : ℕ) 
       (λ inode channels of to. own_opened i time _ _ (opened_notes (slot_at s i) inode world.head time) channels)
       (λ inode channels delay of to anew most. own_started i time _ _ delay (ap (delayed delay time) (opened_notes (slot_at s i) inode world.head time)) channels))
 
-  pub tells_watch : (seen : Inode) (world : World) → TellsDone time s (watch_of s i time seen world)
+  pub tells_watch : (seen : Option ℕ) (world : World) → TellsDone time s (watch_of s i time seen world)
   tells_watch seen world =
       let f = watch_leaves i s time seen world in
       tells_own i time (f.sized sized) f.others

@@ -1,12 +1,10 @@
 -- `tick` tells the delays and the times, whether confirmation is on or off. Assumes nothing.
+use Rattle.std.specs.Prelude.{None, Option, Some}
 use Prim.Native.Nat.{ℕ, zero, suc, ◌≤◌, ◌<◌}
 use mathlib.Core.Path.{◌≡◌, refl, ap}
 use mathlib.Core.List.{List, []}
 use native.Mathlib.Omega.{arith}
 use Rattle.base.proofs.Choices.{pick_all}
-use Rattle.delay_hold.specs.declared.Lag.{Lag}
-use Rattle.delay_hold.specs.declared.Change.{Change}
-use Rattle.delay_hold.specs.declared.Change.TheVariants.{Keep, To}
 use Rattle.delay_hold.specs.Next.{Decided}
 use Rattle.rules_record.specs.declared.Slot.{Slot}
 use Rattle.rules_record.specs.declared.Inputs.{Inputs}
@@ -15,8 +13,6 @@ use Rattle.rules_record.specs.States.{is_waiting, is_stalled, is_open}
 use Rattle.rules_record.specs.Inputs.{slot_at}
 use Rattle.rules_record.specs.Sized.{Sized}
 use Rattle.rules_record.specs.Commands.{quiet}
-use Rattle.rules_record.specs.declared.Extra.{Extra}
-use Rattle.rules_record.specs.declared.Extra.TheVariants.{Nothing}
 use Rattle.rules_record.specs.Prune.{pruned}
 use Rattle.rules_record.proofs.InstanceKeys.{pruned_sized, pruned_rest}
 use Rattle.rules_record.specs.Lent.{Lists}
@@ -29,6 +25,7 @@ use Rattle.rules_tick.specs.Looks.{look_at, lags_of}
 use Rattle.rules_tick.specs.Tick.{heard, looked, ticked_input, ticked_below, ticked_all, saved, lastly, ticked}
 use Rattle.sent_delays.proofs.Notes.{notes_of}
 use Rattle.sent_delays.proofs.Steps.{Tells, TellsDone, TellsEffect, tells_then, tells_followed, tells_changed, tells_same, tells_none, tells_quiet, tells_put, tells_set, tells_open, tells_watch}
+use Rattle.rules_record.specs.declared.Instance.{Instance}
 
 -- ---- one input
 module _ (i : ℕ) (input : i < 16) where
@@ -36,7 +33,7 @@ module _ (i : ℕ) (input : i < 16) where
   unfolding arrived
   tells_arrived time lags s l h = tells_put i input s h time _ refl
 
-  pub tells_late : (time applied : ℕ) (largest : Lag) (s : Inputs) → Sized s → Tells time s (late_event i applied largest s) []
+  pub tells_late : (time applied : ℕ) (largest : Option ℕ) (s : Inputs) → Sized s → Tells time s (late_event i applied largest s) []
   unfolding late_event
   tells_late time applied largest s h = tells_put i input s h time _ refl
 
@@ -54,10 +51,10 @@ module _ (i : ℕ) (input : i < 16) where
       (pick_all (TellsDone time s) (is_open (slot_at s i).state) (tells_watch i input s h time look.seen look.world) (tells_quiet h))
 
   -- "an answer becomes the proposal (confirmation on) or delay changes + 1 and `set_delay`"
-  pub tells_answered : (change : Change) (time : ℕ) (slot : Slot) (s : Inputs) → Sized s → notes_of slot ≡ notes_of (slot_at s i) → TellsDone time s (answered change i time slot s)
+  pub tells_answered : (change : Option ℕ) (time : ℕ) (slot : Slot) (s : Inputs) → Sized s → notes_of slot ≡ notes_of (slot_at s i) → TellsDone time s (answered change i time slot s)
   unfolding answered quiet
-  tells_answered Keep time slot s h same = tells_put i input s h time slot same
-  tells_answered (To delay) time slot s h same =
+  tells_answered None time slot s h same = tells_put i input s h time slot same
+  tells_answered (Some delay) time slot s h same =
       let f : Tells time s (changing i slot s) [] = tells_put i input s h time _ same in
       pick_all (TellsDone time s) s.confirm
       (tells_put i input s h time _ same)
@@ -67,7 +64,7 @@ module _ (i : ℕ) (input : i < 16) where
   unfolding decided_for
   tells_decided d time s l h = tells_answered d.change time (with_hold (slot_at s i) d.held.hold) s h refl
 
-  pub tells_auto : (largest : Lag) (time : ℕ) (s : Inputs) (l : Lists) → Sized s → TellsEffect time s (auto_delayed i largest time s l)
+  pub tells_auto : (largest : Option ℕ) (time : ℕ) (s : Inputs) (l : Lists) → Sized s → TellsEffect time s (auto_delayed i largest time s l)
   unfolding auto_delayed
   tells_auto largest time s l h =
       pick_all (TellsEffect time s) (is_stalled (slot_at s i).state)
@@ -91,7 +88,7 @@ tells_below (suc n) most looks lags time s l h =
     tells_followed s (ticked_below n looks lags time s l) _ f (tells_input n (omega arith) (look_at looks n) (lags_of looks lags n) time _ _ f.sized)
 
 -- pruning and saving change no slot
-pub tells_pruned : {time : ℕ} (s : Inputs) (extra : Extra) → Sized s → Tells time s (pruned s extra) []
+pub tells_pruned : {time : ℕ} (s : Inputs) (extra : Option Instance) → Sized s → Tells time s (pruned s extra) []
 unfolding slot_at
 tells_pruned s extra h = tells_same (pruned_sized s extra h) (λ j. ap (λ (z : Inputs). slot_at z j) (pruned_rest s extra))
 
@@ -100,7 +97,7 @@ unfolding slot_at
 tells_saved s h = tells_same (record { slots = h.slots; flows = h.flows; instances = h.instances }) (λ j. refl)
 
 pub tells_lastly : {time : ℕ} (s : Inputs) → Sized s → Tells time s (lastly s) []
-tells_lastly s h = let f = tells_pruned s Nothing h in tells_then f (tells_saved (pruned s Nothing) f.sized)
+tells_lastly s h = let f = tells_pruned s None h in tells_then f (tells_saved (pruned s None) f.sized)
 
 pub tells_ticked : (looks : List Look) (lags : List ℕ) (time : ℕ) (s : Inputs) (l : Lists) → Sized s → s.count ≤ 16 → TellsEffect time s (ticked looks lags time s l)
 unfolding ticked ticked_all

@@ -1,4 +1,5 @@
 -- What lists of whole commands tell: one list after another, zeros, and each kind of command. Assumes nothing.
+use Rattle.std.specs.Prelude.{Option, Some}
 use Prim.Native.Nat.{ℕ, zero, suc, ◌-◌}
 use mathlib.Core.Path.{◌≡◌, refl, sym, ◌∙◌}
 use mathlib.Core.List.{List, [], ◌∷◌, ◌++◌}
@@ -8,8 +9,6 @@ use Rattle.base.specs.Choice.{both}
 use Rattle.base.specs.Lists.{padded}
 use Rattle.base.proofs.Choices.{yes_pick, no_pick}
 use Rattle.rules_record.specs.Commands.{set_input, clear_input, set_delay}
-use Rattle.delay_hold.specs.declared.Moment.{Moment}
-use Rattle.delay_hold.specs.declared.Moment.TheVariants.{At}
 use Rattle.sent_delays.specs.Last.{delay_told, last_delay}
 use Rattle.sent_delays.specs.Times.{input_kind, delay_kind, time_told, last_time}
 
@@ -69,7 +68,7 @@ module _ (i before input word : ℕ) where
 
 -- ---- the times: the same of each
 module _ (wanted i time : ℕ) where
-  pub time_append : (before : Moment) (a b : List ℕ) → WholeCommands a → last_time wanted i time before (a ++ b) ≡ last_time wanted i time (last_time wanted i time before a) b
+  pub time_append : (before : Option ℕ) (a b : List ℕ) → WholeCommands a → last_time wanted i time before (a ++ b) ≡ last_time wanted i time (last_time wanted i time before a) b
   unfolding last_time
   time_append before [] b w = refl
   time_append before (kind ∷ []) b w = absurd w
@@ -78,29 +77,29 @@ module _ (wanted i time : ℕ) where
 
 -- of SetInput and SetDelay; no kind is 0
 module _ (i time : ℕ) where
-  set_zeros : (before : Moment) (n : ℕ) → last_time delay_kind i time before (replicate n 0) ≡ before
+  set_zeros : (before : Option ℕ) (n : ℕ) → last_time delay_kind i time before (replicate n 0) ≡ before
   unfolding last_time time_told both
   set_zeros before zero = refl
   set_zeros before (suc zero) = refl
   set_zeros before (suc (suc zero)) = refl
   set_zeros before (suc (suc (suc n))) = set_zeros before n
 
-  input_zeros : (before : Moment) (n : ℕ) → last_time input_kind i time before (replicate n 0) ≡ before
+  input_zeros : (before : Option ℕ) (n : ℕ) → last_time input_kind i time before (replicate n 0) ≡ before
   unfolding last_time time_told both
   input_zeros before zero = refl
   input_zeros before (suc zero) = refl
   input_zeros before (suc (suc zero)) = refl
   input_zeros before (suc (suc (suc n))) = input_zeros before n
 
-  pub set_padded : (before : Moment) (n : ℕ) (words : List ℕ) → WholeCommands words → last_time delay_kind i time before (padded n words) ≡ last_time delay_kind i time before words
+  pub set_padded : (before : Option ℕ) (n : ℕ) (words : List ℕ) → WholeCommands words → last_time delay_kind i time before (padded n words) ≡ last_time delay_kind i time before words
   unfolding padded
   set_padded before n words w = time_append delay_kind i time before words (replicate (n - length words) 0) w ∙ set_zeros (last_time delay_kind i time before words) (n - length words)
 
-  pub input_padded : (before : Moment) (n : ℕ) (words : List ℕ) → WholeCommands words → last_time input_kind i time before (padded n words) ≡ last_time input_kind i time before words
+  pub input_padded : (before : Option ℕ) (n : ℕ) (words : List ℕ) → WholeCommands words → last_time input_kind i time before (padded n words) ≡ last_time input_kind i time before words
   unfolding padded
   input_padded before n words w = time_append input_kind i time before words (replicate (n - length words) 0) w ∙ input_zeros (last_time input_kind i time before words) (n - length words)
 
-  module _ (before : Moment) (input word : ℕ) where
+  module _ (before : Option ℕ) (input word : ℕ) where
     -- SetDelay has no time of a SetInput, SetInput none of a SetDelay, ClearInput none of either
     pub set_of_set_input : last_time delay_kind i time before (set_input input word) ≡ before
     unfolding last_time time_told both
@@ -128,10 +127,10 @@ module _ (i time : ℕ) where
     input_other apart = no_pick _ _ (ne_eqb _ _ (λ e. apart (sym e)))
 
     -- .. and one to its own its time
-    pub set_own : i ≡ input → last_time delay_kind i time before (set_delay input word) ≡ At time
+    pub set_own : i ≡ input → last_time delay_kind i time before (set_delay input word) ≡ Some time
     unfolding last_time time_told both
     set_own e = yes_pick _ _ (eq-eqb _ _ (sym e))
 
-    pub input_own : i ≡ input → last_time input_kind i time before (set_input input word) ≡ At time
+    pub input_own : i ≡ input → last_time input_kind i time before (set_input input word) ≡ Some time
     unfolding last_time time_told both
     input_own e = yes_pick _ _ (eq-eqb _ _ (sym e))

@@ -1,8 +1,6 @@
 -- Document 02, §4: the times by which `settled` goes are those of the last SetDelay and the last SetInput to the input, after every call. Assumes nothing.
-use Rattle.std.specs.Prelude.{ℕ, ◌<◌, ◌≡◌, List, [], ◌∷◌, eqb}
+use Rattle.std.specs.Prelude.{ℕ, ◌<◌, ◌≡◌, List, [], ◌∷◌, eqb, None, Option, Some}
 use Rattle.base.specs.Choice.{pick, both, accepted}
-use Rattle.delay_hold.specs.declared.Moment.{Moment}
-use Rattle.delay_hold.specs.declared.Moment.TheVariants.{Never, At}
 use Rattle.rules_record.specs.declared.ExtraDelay.{ExtraDelay}
 use Rattle.rules_record.specs.declared.Inputs.{Inputs}
 use Rattle.rules_record.specs.Inputs.{slot_at}
@@ -13,11 +11,11 @@ use Rattle.rules_routing.specs.declared.World.{World}
 use Rattle.rules_tick.specs.declared.Look.{Look}
 use Rattle.rules_tick.specs.TickReply.{tick_reply}
 use Rattle.rules_calls.specs.declared.Settings.{Settings}
-use Rattle.rules_calls.specs.declared.Wanted.{Wanted}
 use Rattle.rules_calls.specs.NewReply.{new_reply}
 use Rattle.rules_calls.specs.RouteReply.{route_reply}
 use Rattle.rules_calls.specs.declared.DelaySetting.{DelaySetting}
 use Rattle.rules_calls.specs.UpdateReply.{update_reply, confirm_reply}
+use Rattle.rules_calls.specs.declared.Source.{Source}
 
 -- "kind (1 SetInput, 2 ClearInput, 3 SetDelay)"
 abbrev pub input_kind : ℕ
@@ -27,11 +25,11 @@ abbrev pub delay_kind : ℕ
 delay_kind = 3
 
 -- one command of three words, sent at this time: is it of the wanted kind, and to this input?
-unfoldable pub time_told : (wanted i time : ℕ) (before : Moment) (kind input : ℕ) → Moment
-time_told wanted i time before kind input = pick (both (eqb kind wanted) (eqb input i)) (At time) before
+unfoldable pub time_told : (wanted i time : ℕ) (before : Option ℕ) (kind input : ℕ) → Option ℕ
+time_told wanted i time before kind input = pick (both (eqb kind wanted) (eqb input i)) (Some time) before
 
 -- the time of the last command of that kind to input i, where a call at this time sent these, or what it was before them
-unfoldable pub last_time : (wanted i time : ℕ) (before : Moment) → List ℕ → Moment
+unfoldable pub last_time : (wanted i time : ℕ) (before : Option ℕ) → List ℕ → Option ℕ
 last_time wanted i time before [] = before
 last_time wanted i time before (kind ∷ []) = before
 last_time wanted i time before (kind ∷ (input ∷ [])) = before
@@ -44,8 +42,8 @@ pub record Timed (s : Inputs) (time : ℕ) (reply : Reply) : Type 0 where
 
 -- of an accepted `new`: "or none ever went"
 pub record TimedFresh (time : ℕ) (reply : Reply) : Type 0 where
-  pub set : (j : ℕ) → j < 16 → (slot_at reply.inputs j).last_set ≡ last_time delay_kind j time Never reply.commands
-  pub input : (j : ℕ) → j < 16 → (slot_at reply.inputs j).last_input ≡ last_time input_kind j time Never reply.commands
+  pub set : (j : ℕ) → j < 16 → (slot_at reply.inputs j).last_set ≡ last_time delay_kind j time None reply.commands
+  pub input : (j : ℕ) → j < 16 → (slot_at reply.inputs j).last_input ≡ last_time input_kind j time None reply.commands
 
 -- the claim, of each call that sends
 pub record SentTimes : Type 0 where
@@ -53,7 +51,7 @@ pub record SentTimes : Type 0 where
       (settings : Settings) (kinds : List ExtraDelay) (bytes delays : List ℕ) (time : ℕ) (l : Lists) (commands : List ℕ) →
       (new_reply settings kinds bytes delays time l commands).number ≡ 0 → TimedFresh time (new_reply settings kinds bytes delays time l commands)
   pub route :
-      (s : Inputs) → Sized s → (l : Lists) (commands : List ℕ) (input : ℕ) (wanted : Wanted) (time : ℕ) (world : World) → Timed s time (route_reply s l commands input wanted time world)
+      (s : Inputs) → Sized s → (l : Lists) (commands : List ℕ) (input : ℕ) (wanted : Option Source) (time : ℕ) (world : World) → Timed s time (route_reply s l commands input wanted time world)
   pub update : (s : Inputs) → Sized s → (l : Lists) (commands : List ℕ) (input : ℕ) (setting : DelaySetting) (time : ℕ) → Timed s time (update_reply s l commands input setting time)
   pub confirm : (s : Inputs) → Sized s → (l : Lists) (commands : List ℕ) (input time : ℕ) → Timed s time (confirm_reply s l commands input time)
   pub tick : (s : Inputs) → Sized s → (l : Lists) (commands : List ℕ) (looks : List Look) (lags : List ℕ) (time : ℕ) → Timed s time (tick_reply s l commands looks lags time)

@@ -1,4 +1,5 @@
 -- No call on a `Schedule` breaks a whole record, and a whole record is not refused by 6. Assumes nothing.
+use Rattle.std.specs.Prelude.{Some}
 use Prim.Native.Nat.{ℕ, ◌+◌, ◌≤◌}
 use mathlib.Core.Bool.{true}
 use mathlib.Core.Path.{◌≡◌, refl}
@@ -9,7 +10,6 @@ use Rattle.base.proofs.Points.{true_both}
 use Rattle.base.specs.Limits.{time_limit, span_limit}
 use Rattle.base.proofs.Calls.{accepted_call, whole_call}
 use Rattle.sources.specs.Queries.{wait_limit, fresh_schedule, whole_down, whole_schedule, schedule_number, next_wait, query_failed_of}
-use Rattle.sources.specs.declared.QueryDown.TheVariants.{Until}
 use Rattle.sources.specs.declared.Schedule.{Schedule}
 use Rattle.sources.proofs.Cases.{wait_short}
 
@@ -17,7 +17,7 @@ pub fresh_whole : whole_schedule fresh_schedule ≡ true
 unfolding whole_schedule whole_down
 fresh_whole = refl
 
-down_whole : (time wait : ℕ) → time ≤ time_limit → wait ≤ wait_limit → whole_down (Until (time + wait) wait) ≡ true
+down_whole : (time wait : ℕ) → time ≤ time_limit → wait ≤ wait_limit → whole_down (Some (record { until = time + wait; wait = wait })) ≡ true
 unfolding whole_down
 down_whole time wait t w = true_both _ _ (le-leb (time + wait) (time_limit + span_limit) (omega arith)) (le-leb wait wait_limit w)
 

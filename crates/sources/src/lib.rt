@@ -2,9 +2,10 @@
 #![tactic(auto)]
 
 ghost use Rattle.std.specs.Prelude.{◌≡◌};
-ghost use Rattle.sources.specs.Queries.{fresh_schedule, whole_schedule, query_up_of, next_wait, query_failed_of};
+ghost use Rattle.sources.specs.Queries.{fresh_schedule, whole_schedule, query_up_of, next_wait, query_failed_of, told, left_failed};
 
 use base::{NANOS, RECORD_LIMIT, TIME_LIMIT};
+use refusals::Refusal;
 
 // The first and the longest wait after the Query API did not answer.
 pub const BACKOFF_MIN: u64 = 5 * NANOS;
@@ -12,30 +13,21 @@ pub const BACKOFF_MIN: u64 = 5 * NANOS;
 pub const BACKOFF_MAX: u64 = 60 * NANOS;
 
 // The Query API is left alone until then; the wait that set it.
-#[derive(Clone, Copy)]
-pub enum QueryDown {
-    Never,
-    Until { until: u64, wait: u64 },
+#[derive(Clone, Copy, Debug, PartialEq, Eq)]
+pub struct Down {
+    pub until: u64,
+    pub wait: u64,
 }
 
-#[derive(Clone, Copy)]
+#[derive(Clone, Copy, Debug, PartialEq, Eq)]
 pub struct Schedule {
-    pub query_down: QueryDown,
+    pub query_down: Option<Down>,
 }
 
-// Yes or no. In every answer an accepted call has number 0; a refused one has the number of its check, a zero value,
-// and the record as it came.
-#[derive(Clone, Copy)]
-pub struct Answer {
-    pub number: u32,
-    pub value: bool,
-}
-
-// The wait, and the record after it.
-#[derive(Clone, Copy)]
-pub struct Failure {
-    pub number: u32,
-    pub value: u64,
+// The wait after a failure, and the record after it.
+#[derive(Clone, Copy, Debug, PartialEq, Eq)]
+pub struct Failed {
+    pub wait: u64,
     pub schedule: Schedule,
 }
 
@@ -44,9 +36,7 @@ impl Schedule {
     pub fn new() -> Self
         ensures { result ≡ fresh_schedule }
     {
-        Schedule {
-            query_down: QueryDown::Never,
-        }
+        Schedule { query_down: None }
     }
 
     // Is the record whole (check 6)?
@@ -54,7 +44,7 @@ impl Schedule {
         ensures { result ≡ whole_schedule self }
     {
         let down = self.query_down;
-        let QueryDown::Until { until, wait } = down else {
+        let Some(Down { until, wait }) = down else {
             return true;
         };
         if until > RECORD_LIMIT {
@@ -68,7 +58,7 @@ impl Schedule {
         ensures { result ≡ next_wait self.query_down }
     {
         let down = self.query_down;
-        let QueryDown::Until { until: _, wait } = down else {
+        let Some(Down { until: _, wait }) = down else {
             return BACKOFF_MIN;
         };
         if wait > BACKOFF_MAX / 2 {
@@ -78,62 +68,41 @@ impl Schedule {
     }
 
     // May the Query API be asked?
-    pub fn query_up(self, time: u64) -> Answer
-        ensures { result ≡ query_up_of self time }
+    pub fn query_up(self, time: u64) -> Result<bool, Refusal>
+        ensures { told result ≡ query_up_of self time }
     {
         if !self.whole() {
-            return Answer {
-                number: 6,
-                value: false,
-            };
+            return Err(Refusal::NotWhole);
         }
         if time > TIME_LIMIT {
-            return Answer {
-                number: 8,
-                value: false,
-            };
+            return Err(Refusal::Time);
         }
         let down = self.query_down;
         match down {
-            QueryDown::Never => Answer {
-                number: 0,
-                value: true,
-            },
-            QueryDown::Until { until, wait: _ } => Answer {
-                number: 0,
-                value: until <= time,
-            },
+            None => Ok(true),
+            Some(Down { until, wait: _ }) => Ok(until <= time),
         }
     }
 
     // The Query API did not answer: wait twice as long as last time.
-    pub fn query_failed(self, time: u64) -> Failure
-        ensures { result ≡ query_failed_of self time }
+    pub fn query_failed(self, time: u64) -> Result<Failed, Refusal>
+        ensures { left_failed self result ≡ query_failed_of self time }
     {
         if !self.whole() {
-            return Failure {
-                number: 6,
-                value: 0,
-                schedule: self,
-            };
+            return Err(Refusal::NotWhole);
         }
         if time > TIME_LIMIT {
-            return Failure {
-                number: 8,
-                value: 0,
-                schedule: self,
-            };
+            return Err(Refusal::Time);
         }
         let wait = self.next_wait();
-        Failure {
-            number: 0,
-            value: wait,
+        Ok(Failed {
+            wait,
             schedule: Schedule {
-                query_down: QueryDown::Until {
+                query_down: Some(Down {
                     until: time + wait,
                     wait,
-                },
+                }),
             },
-        }
+        })
     }
 }

@@ -1,4 +1,5 @@
 -- Document 01's sentences about `Coalesce`, each at its edge, computed on the definitions. Assumes nothing.
+use Rattle.std.specs.Prelude.{None, Some}
 use Prim.Native.Nat.{ℕ}
 use mathlib.Core.Bool.{true, false}
 use mathlib.Core.Path.{◌≡◌, refl}
@@ -6,15 +7,14 @@ use mathlib.Core.List.{[], ◌∷◌}
 use Rattle.base.specs.Choice.{ask}
 use Rattle.base.specs.Limits.{call_number}
 use Rattle.state.specs.Coalesce.{fresh_coalesce, whole_due, whole_coalesce, due_after_change, changed_number, is_set, record_number, pending_of, is_due, take_due_of, take_of}
-use Rattle.state.specs.declared.Due.TheVariants.{Unset, At}
 use Rattle.state.specs.declared.Coalesce.{Coalesce}
 
 -- a record that is due then
 abbrev due_at : ℕ → Coalesce
-due_at time = record { due = At time }
+due_at time = record { due = Some time }
 
 -- "`changed` sets due to now + delay where none is set"
-pub first_change_sets_due : due_after_change Unset 7 5 ∷ due_after_change (At 3) 7 5 ∷ [] ≡ At 12 ∷ At 3 ∷ []
+pub first_change_sets_due : due_after_change None 7 5 ∷ due_after_change (Some 3) 7 5 ∷ [] ≡ Some 12 ∷ Some 3 ∷ []
 unfolding due_after_change
 first_change_sets_due = refl
 

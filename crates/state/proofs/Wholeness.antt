@@ -1,4 +1,5 @@
 -- No call on a `Coalesce` breaks a whole record, and a whole record is not refused by 6. Assumes nothing.
+use Rattle.std.specs.Prelude.{None, Option, Some}
 use Prim.Native.Nat.{ℕ, ◌+◌, ◌≤◌}
 use mathlib.Core.Bool.{Bool, true}
 use mathlib.Core.Path.{◌≡◌, refl, sym, ◌∙◌}
@@ -9,18 +10,16 @@ use Rattle.base.proofs.Choices.{yes_ask, no_ask, asked, accepted_all, by_le, pic
 use Rattle.base.specs.Limits.{time_limit, span_limit, call_number}
 use Rattle.base.proofs.Calls.{accepted_call, whole_call}
 use Rattle.state.specs.Coalesce.{fresh_coalesce, whole_due, whole_coalesce, due_after_change, changed_number, changed_of, is_set, record_number, is_due, taken_by, take_due_of, take_of}
-use Rattle.state.specs.declared.Due.{Due}
-use Rattle.state.specs.declared.Due.TheVariants.{Unset, At}
 use Rattle.state.specs.declared.Coalesce.{Coalesce}
 
 pub fresh_whole : whole_coalesce fresh_coalesce ≡ true
 unfolding whole_coalesce whole_due
 fresh_whole = refl
 
-set_whole : (due : Due) (time delay : ℕ) → whole_due due ≡ true → time ≤ time_limit → delay ≤ span_limit → whole_due (due_after_change due time delay) ≡ true
+set_whole : (due : Option ℕ) (time delay : ℕ) → whole_due due ≡ true → time ≤ time_limit → delay ≤ span_limit → whole_due (due_after_change due time delay) ≡ true
 unfolding whole_due due_after_change
-set_whole Unset time delay h t d = le-leb (time + delay) (time_limit + span_limit) (omega arith)
-set_whole (At at) time delay h t d = h
+set_whole None time delay h t d = le-leb (time + delay) (time_limit + span_limit) (omega arith)
+set_whole (Some at) time delay h t d = h
 
 module _ (coalesce : Coalesce) (whole : whole_coalesce coalesce ≡ true) where
   pub changed_stays_whole : (time delay : ℕ) → whole_coalesce (changed_of coalesce time delay).coalesce ≡ true

@@ -2,42 +2,20 @@
 #![tactic(auto)]
 
 ghost use Rattle.std.specs.Prelude.{◌≡◌};
-ghost use Rattle.state.specs.Coalesce.{fresh_coalesce, whole_coalesce, changed_of, pending_of, take_due_of, take_of};
+ghost use Rattle.state.specs.Coalesce.{fresh_coalesce, whole_coalesce, changed_of, pending_of, take_due_of, take_of, left_change, told, left_take};
 
 use base::{RECORD_LIMIT, SPAN_LIMIT, TIME_LIMIT};
+use refusals::Refusal;
 
-// When a write is due, if one waits.
-#[derive(Clone, Copy)]
-pub enum Due {
-    Unset,
-    At(u64),
-}
-
-#[derive(Clone, Copy)]
+#[derive(Clone, Copy, Debug, PartialEq, Eq)]
 pub struct Coalesce {
-    pub due: Due,
-}
-
-// What `changed` leaves. In every answer an accepted call has number 0; a refused one has the number of its check,
-// a zero value, and the record as it came.
-#[derive(Clone, Copy)]
-pub struct Change {
-    pub number: u32,
-    pub coalesce: Coalesce,
-}
-
-// Yes or no.
-#[derive(Clone, Copy)]
-pub struct Answer {
-    pub number: u32,
-    pub value: bool,
+    pub due: Option<u64>,
 }
 
 // Whether to write now, and the record after it.
-#[derive(Clone, Copy)]
+#[derive(Clone, Copy, Debug, PartialEq, Eq)]
 pub struct Taken {
-    pub number: u32,
-    pub value: bool,
+    pub write: bool,
     pub coalesce: Coalesce,
 }
 
@@ -46,7 +24,7 @@ impl Coalesce {
     pub fn new() -> Self
         ensures { result ≡ fresh_coalesce }
     {
-        Coalesce { due: Due::Unset }
+        Coalesce { due: None }
     }
 
     // Is the record whole (check 6)?
@@ -55,134 +33,89 @@ impl Coalesce {
     {
         let due = self.due;
         match due {
-            Due::Unset => true,
-            Due::At(at) => at <= RECORD_LIMIT,
+            None => true,
+            Some(at) => at <= RECORD_LIMIT,
         }
     }
 
     // Something changed at `time`.
-    pub fn changed(self, time: u64, delay: u64) -> Change
-        ensures { result ≡ changed_of self time delay }
+    pub fn changed(self, time: u64, delay: u64) -> Result<Self, Refusal>
+        ensures { left_change self result ≡ changed_of self time delay }
     {
         if delay > SPAN_LIMIT {
-            return Change {
-                number: 3,
-                coalesce: self,
-            };
+            return Err(Refusal::Pause);
         }
         if !self.whole() {
-            return Change {
-                number: 6,
-                coalesce: self,
-            };
+            return Err(Refusal::NotWhole);
         }
         if time > TIME_LIMIT {
-            return Change {
-                number: 8,
-                coalesce: self,
-            };
+            return Err(Refusal::Time);
         }
         let due = self.due;
         match due {
-            Due::Unset => Change {
-                number: 0,
-                coalesce: Coalesce {
-                    due: Due::At(time + delay),
-                },
-            },
-            Due::At(_) => Change {
-                number: 0,
-                coalesce: self,
-            },
+            None => Ok(Coalesce {
+                due: Some(time + delay),
+            }),
+            Some(_) => Ok(self),
         }
     }
 
     // A write is waiting.
-    pub fn pending(self) -> Answer
-        ensures { result ≡ pending_of self }
+    pub fn pending(self) -> Result<bool, Refusal>
+        ensures { told result ≡ pending_of self }
     {
         if !self.whole() {
-            return Answer {
-                number: 6,
-                value: false,
-            };
+            return Err(Refusal::NotWhole);
         }
-        let due = self.due;
-        match due {
-            Due::Unset => Answer {
-                number: 0,
-                value: false,
-            },
-            Due::At(_) => Answer {
-                number: 0,
-                value: true,
-            },
-        }
+        Ok(self.due.is_some())
     }
 
     // It is time to write; the caller writes now.
-    pub fn take_due(self, time: u64) -> Taken
-        ensures { result ≡ take_due_of self time }
+    pub fn take_due(self, time: u64) -> Result<Taken, Refusal>
+        ensures { left_take self result ≡ take_due_of self time }
     {
         if !self.whole() {
-            return Taken {
-                number: 6,
-                value: false,
-                coalesce: self,
-            };
+            return Err(Refusal::NotWhole);
         }
         if time > TIME_LIMIT {
-            return Taken {
-                number: 8,
-                value: false,
-                coalesce: self,
-            };
+            return Err(Refusal::Time);
         }
         let due = self.due;
-        let Due::At(at) = due else {
-            return Taken {
-                number: 0,
-                value: false,
+        let Some(at) = due else {
+            return Ok(Taken {
+                write: false,
                 coalesce: self,
-            };
+            });
         };
         if at <= time {
-            return Taken {
-                number: 0,
-                value: true,
-                coalesce: Coalesce { due: Due::Unset },
-            };
+            return Ok(Taken {
+                write: true,
+                coalesce: Coalesce { due: None },
+            });
         }
-        Taken {
-            number: 0,
-            value: false,
+        Ok(Taken {
+            write: false,
             coalesce: self,
-        }
+        })
     }
 
     // Write now whatever is waiting (shutdown, an operator's explicit action).
-    pub fn take(self) -> Taken
-        ensures { result ≡ take_of self }
+    pub fn take(self) -> Result<Taken, Refusal>
+        ensures { left_take self result ≡ take_of self }
     {
         if !self.whole() {
-            return Taken {
-                number: 6,
-                value: false,
-                coalesce: self,
-            };
+            return Err(Refusal::NotWhole);
         }
         let due = self.due;
         match due {
-            Due::Unset => Taken {
-                number: 0,
-                value: false,
+            None => Ok(Taken {
+                write: false,
                 coalesce: self,
-            },
-            Due::At(_) => Taken {
-                number: 0,
-                value: true,
-                coalesce: Coalesce { due: Due::Unset },
-            },
+            }),
+            Some(_) => Ok(Taken {
+                write: true,
+                coalesce: Coalesce { due: None },
+            }),
         }
     }
 }

@@ -2,23 +2,19 @@
 // A line becomes a request (text_read), a request an answer (text_alone, text_called, text_crafted), an answer a line (text_shown).
 #![tactic(auto)]
 
-use base::product_usize;
 use rules_record::{ExtraDelay, Inputs};
 use rules_tick::Look;
 use std::io::{Read, Write};
 use text_alone::Alone;
-use text_answers::Answer;
-use text_called::Called;
+use text_answers::{Answer, Left};
 use text_files::file_at;
 use text_lending::{
-    Bytes, Counts, Heard, LONE_COUNTS, LONE_PEAKS, LONE_SECONDS, LONE_SUMS, Peaks, Seconds, Sums,
-    Times, Words, buckets_in, first_u32,
+    LONE_COUNTS, LONE_PEAKS, LONE_SECONDS, LONE_SUMS, Lists, buckets_in, first_u32,
 };
-use text_lines::Cursor;
-use text_print::{Out, put_text};
+use text_lines::{Cursor, Output};
+use text_print::Printer;
 use text_requests::lists::{kinds_at, loads_at, looks_at};
-use text_requests::{Call, Known, Lone, PutAsked, Request};
-use text_scan::bytes::part;
+use text_requests::{Call, Known, Lone, Request};
 
 // The input buffer: the longest line, its newline, and a little more.
 type Input = [u8; 1_048_640];
@@ -32,18 +28,9 @@ pub struct State {
     // There may be more lines.
     pub more: bool,
     pub cursor: Cursor,
-    // The place in the output buffer.
-    pub place: usize,
     // Whole records are shown.
     pub full: bool,
     pub alone: Alone,
-}
-
-// What a line leaves that is no call on a supervisor, and its answer.
-#[derive(Clone, Copy)]
-pub struct Told {
-    pub state: State,
-    pub answer: Answer,
 }
 
 // What a line leaves of all that is kept.
@@ -54,14 +41,11 @@ pub struct Turn {
 }
 
 fn begin() -> State {
-    let cursor = text_lines::begin();
-    let alone = text_alone::begin();
     State {
         more: true,
-        cursor,
-        place: 0,
+        cursor: Cursor::new(),
         full: false,
-        alone,
+        alone: text_alone::begin(),
     }
 }
 
@@ -76,32 +60,13 @@ fn known(inputs: Inputs, alone: Alone) -> Known {
 }
 
 // ---- calls alone
-// How many bytes of a file a line brings, and where its answer goes.
-#[derive(Clone, Copy)]
-pub struct Brought {
-    pub length: usize,
-    pub place: usize,
-}
-
-// The bytes of a file go to the output buffer, whose answers are written out first.
-fn bring<W: Write>(
-    writer: &mut W,
-    request: Request,
-    s: &[u8],
-    out: &mut Out,
-    place: usize,
-) -> Brought {
-    let Request::Alone(call) = request else {
-        return Brought { length: 0, place };
+// How many bytes of a file a line brings: they go to the output buffer, whose answers are written out first.
+fn bring<W: Write>(output: &mut Output<'_, W>, request: Request, s: &[u8]) -> usize {
+    let Request::Alone(Lone::ReadDelays(at)) = request else {
+        return 0;
     };
-    let Lone::ReadDelays(at) = call else {
-        return Brought { length: 0, place };
-    };
-    text_lines::write(writer, out, place);
-    Brought {
-        length: file_at(s, at, out),
-        place: 0,
-    }
+    output.flush();
+    file_at(s, at, output.printer.out)
 }
 
 // A call alone, or what a line crafts of the window and the hold alone.
@@ -111,20 +76,17 @@ fn lone(
     short: bool,
     s: &[u8],
     file: &[u8],
-    starts: &mut Seconds,
-    totals: &mut Seconds,
-    counts: &mut Counts,
-    sums: &mut Sums,
-    times: &mut Times,
-    peaks: &mut Peaks,
-    bytes: &mut Bytes,
-    heard: &mut Heard,
-) -> text_alone::Answered {
+    lists: &mut Lists<'_>,
+) -> Left<Alone> {
     match request {
-        Lone::ReadDelays(_) => text_alone::Answered {
-            alone: kept,
-            answer: text_alone::read_delays(file, short, bytes, heard),
-        },
+        Lone::ReadDelays(_) => {
+            let flows = &mut *lists.bytes;
+            let delays = &mut *lists.heard;
+            Left {
+                left: kept,
+                answer: text_alone::read_delays(file, short, flows, delays),
+            }
+        }
         Lone::WindowSet(asked) => {
             let mut window = kept.window;
             text_crafted::rows(
@@ -134,34 +96,49 @@ fn lone(
                 LONE_SECONDS,
                 LONE_COUNTS,
                 LONE_SUMS,
-                starts,
-                totals,
-                counts,
-                sums,
+                lists.starts,
+                lists.totals,
+                lists.counts,
+                lists.sums,
             );
             window.seconds = asked.seconds;
-            text_alone::Answered {
-                alone: Alone { window, ..kept },
+            Left {
+                left: Alone { window, ..kept },
                 answer: Answer::Done,
             }
         }
         Lone::WindowSum(asked) => {
-            text_crafted::sum(asked, LONE_SUMS, sums);
-            text_alone::Answered {
-                alone: kept,
+            text_crafted::sum(asked, LONE_SUMS, lists.sums);
+            Left {
+                left: kept,
                 answer: Answer::Done,
             }
         }
         Lone::HoldSet(asked) => {
             let hold = asked.hold;
-            text_crafted::peaks(s, asked.at, hold.peaks, LONE_PEAKS, times, peaks);
-            text_alone::Answered {
-                alone: Alone { hold, ..kept },
+            text_crafted::peaks(
+                s,
+                asked.at,
+                hold.peaks,
+                LONE_PEAKS,
+                lists.times,
+                lists.peaks,
+            );
+            Left {
+                left: Alone { hold, ..kept },
                 answer: Answer::Done,
             }
         }
         _ => text_alone::answer(
-            request, kept, short, starts, totals, counts, sums, times, peaks,
+            request,
+            kept,
+            short,
+            lists.starts,
+            lists.totals,
+            lists.counts,
+            lists.sums,
+            lists.times,
+            lists.peaks,
         ),
     }
 }
@@ -173,35 +150,23 @@ fn alone_by(
     short: bool,
     s: &[u8],
     file: &[u8],
-    starts: &mut Seconds,
-    totals: &mut Seconds,
-    counts: &mut Counts,
-    sums: &mut Sums,
-    times: &mut Times,
-    peaks: &mut Peaks,
-    bytes: &mut Bytes,
-    heard: &mut Heard,
-) -> Told {
+    lists: &mut Lists<'_>,
+) -> Left<State> {
     match request {
-        Request::Full(full) => Told {
-            state: State { full, ..state },
+        Request::Full(full) => Left {
+            left: State { full, ..state },
             answer: Answer::Done,
         },
         Request::Alone(call) => {
-            let kept = state.alone;
-            let done = lone(
-                call, kept, short, s, file, starts, totals, counts, sums, times, peaks, bytes,
-                heard,
-            );
-            let alone = done.alone;
-            let answer = done.answer;
-            Told {
-                state: State { alone, ..state },
-                answer,
+            let done = lone(call, state.alone, short, s, file, lists);
+            let alone = done.left;
+            Left {
+                left: State { alone, ..state },
+                answer: done.answer,
             }
         }
-        _ => Told {
-            state,
+        _ => Left {
+            left: state,
             answer: Answer::BadLine,
         },
     }
@@ -226,19 +191,17 @@ fn looks_for(call: Call, s: &[u8], count: usize) -> [Look; 16] {
 }
 
 // The delays that `new` loads: their flows go to the output buffer, whose answers are written out first.
-fn load<W: Write>(
-    writer: &mut W,
-    call: Call,
-    s: &[u8],
-    out: &mut Out,
-    place: usize,
-    heard: &mut Heard,
-) {
-    let Call::New(asked) = call else {
-        return;
-    };
-    text_lines::write(writer, out, place);
-    loads_at(s, asked.loads, asked.loaded, out, heard);
+fn load<W: Write>(output: &mut Output<'_, W>, call: Call, s: &[u8], lists: &mut Lists<'_>) {
+    if let Call::New(asked) = call {
+        output.flush();
+        loads_at(
+            s,
+            asked.loads,
+            asked.loaded,
+            output.printer.out,
+            lists.heard,
+        );
+    }
 }
 
 // How many numbers a call has heard: the lags of a tick, the delays that `new` loads.
@@ -250,62 +213,39 @@ fn heard_by(call: Call) -> usize {
     }
 }
 
-// What a call does that changes nothing, or changes the record by a call, or crafts a part of it.
-#[derive(Clone, Copy)]
-enum Deed {
-    Ask,
-    Change,
-    Craft(PutAsked),
-    // A dry tick is read, and nothing is done.
-    Nothing,
-}
-
-fn deed_of(call: Call) -> Deed {
-    match call {
-        Call::New(_) | Call::Route(_) | Call::Update(_) | Call::Confirm(_) => Deed::Change,
-        Call::Tick(asked) => {
-            if asked.dry {
-                return Deed::Nothing;
-            }
-            Deed::Change
-        }
-        Call::Put(asked) => Deed::Craft(asked),
-        _ => Deed::Ask,
-    }
-}
-
 // A call on a supervisor, or what a line crafts of its record.
 fn called<W: Write>(
-    writer: &mut W,
+    output: &mut Output<'_, W>,
     call: Call,
     inputs: Inputs,
     short: bool,
     s: &[u8],
-    out: &mut Out,
-    place: usize,
-    starts: &mut Seconds,
-    totals: &mut Seconds,
-    counts: &mut Counts,
-    sums: &mut Sums,
-    times: &mut Times,
-    peaks: &mut Peaks,
-    commands: &mut Words,
-    bytes: &mut Bytes,
-    heard: &mut Heard,
-) -> Called {
-    load(writer, call, s, out, place, heard);
-    let what = deed_of(call);
-    match what {
-        Deed::Change => {
+    lists: &mut Lists<'_>,
+) -> Left<Inputs> {
+    load(output, call, s, lists);
+    match call {
+        // A dry tick is read, and nothing is done.
+        Call::Tick(asked) if asked.dry => Left {
+            left: inputs,
+            answer: Answer::Dry,
+        },
+        Call::New(_) | Call::Route(_) | Call::Update(_) | Call::Confirm(_) | Call::Tick(_) => {
             let n = heard_by(call);
+            let starts = &mut *lists.starts;
+            let totals = &mut *lists.totals;
+            let counts = &mut *lists.counts;
+            let sums = &mut *lists.sums;
+            let times = &mut *lists.times;
+            let peaks = &mut *lists.peaks;
+            let commands = &mut *lists.commands;
             text_called::change(
                 call,
                 inputs,
                 short,
                 kinds_for(call, s),
                 looks_for(call, s, inputs.count),
-                part(out, 0, product_usize(n, FLOW_BYTES)),
-                first_u32(heard, n),
+                output.printer.first(n.saturating_mul(FLOW_BYTES)),
+                first_u32(lists.heard, n),
                 starts,
                 totals,
                 counts,
@@ -315,269 +255,149 @@ fn called<W: Write>(
                 commands,
             )
         }
-        Deed::Craft(asked) => Called {
-            inputs: text_crafted::put(
+        Call::Put(asked) => Left {
+            left: text_crafted::put(
                 inputs,
                 asked,
                 buckets_in(inputs),
                 s,
-                starts,
-                totals,
-                counts,
-                sums,
-                times,
-                peaks,
+                lists.starts,
+                lists.totals,
+                lists.counts,
+                lists.sums,
+                lists.times,
+                lists.peaks,
             ),
             answer: Answer::Done,
         },
-        Deed::Ask => Called {
-            inputs,
-            answer: text_called::ask(
-                call, inputs, short, starts, totals, counts, sums, times, peaks, bytes,
-            ),
-        },
-        Deed::Nothing => Called {
-            inputs,
-            answer: Answer::Dry,
-        },
+        _ => {
+            let file = &mut *lists.bytes;
+            let answer = text_called::ask(
+                call,
+                inputs,
+                short,
+                lists.starts,
+                lists.totals,
+                lists.counts,
+                lists.sums,
+                lists.times,
+                lists.peaks,
+                file,
+            );
+            Left {
+                left: inputs,
+                answer,
+            }
+        }
     }
 }
 
 // ---- lines
-// Where the answer goes: `new` has written out the answers so far.
-fn place_for(call: Call, place: usize) -> usize {
-    match call {
-        Call::New(_) => 0,
-        _ => place,
-    }
-}
-
-fn flushed<W: Write>(writer: &mut W, state: State, out: &mut Out) -> State {
-    let at = text_lines::room(writer, out, state.place);
-    let place = put_text(out, at, b"flushed\n");
-    let mut changed = state;
-    changed.more = text_lines::write(writer, out, place);
-    changed.place = 0;
-    changed
+fn flushed<W: Write>(output: &mut Output<'_, W>, state: State) -> State {
+    output.room();
+    output.printer.put_text(b"flushed\n");
+    let more = output.flush();
+    State { more, ..state }
 }
 
 // What a line leaves, with its answer shown.
 fn shown<W: Write>(
-    writer: &mut W,
+    output: &mut Output<'_, W>,
     state: State,
     inputs: Inputs,
     answer: Answer,
-    out: &mut Out,
-    place: usize,
-    starts: &Seconds,
-    totals: &Seconds,
-    counts: &Counts,
-    times: &Times,
-    peaks: &Peaks,
-    commands: &Words,
-    bytes: &Bytes,
-    heard: &Heard,
+    lists: &Lists<'_>,
 ) -> Turn {
     let alone = state.alone;
-    let window = alone.window;
-    let hold = alone.hold;
-    let next = text_shown::show(
-        writer,
+    text_shown::show(
+        output,
         answer,
         state.full,
-        out,
-        place,
         inputs,
         buckets_in(inputs),
-        window,
-        hold,
-        starts,
-        totals,
-        counts,
-        times,
-        peaks,
-        commands,
-        bytes,
-        heard,
+        alone.window,
+        alone.hold,
+        lists,
     );
-    let mut changed = state;
-    changed.place = next;
-    Turn {
-        state: changed,
-        inputs,
-    }
+    Turn { state, inputs }
 }
 
-// The line that the cursor shows becomes a request, the request an answer, the answer a line.
+// A line becomes a request, the request an answer, the answer a line.
 fn answered<W: Write>(
-    writer: &mut W,
+    output: &mut Output<'_, W>,
     state: State,
-    line: Cursor,
+    s: &[u8],
     inputs: Inputs,
-    input: &Input,
-    out: &mut Out,
-    starts: &mut Seconds,
-    totals: &mut Seconds,
-    counts: &mut Counts,
-    sums: &mut Sums,
-    times: &mut Times,
-    peaks: &mut Peaks,
-    commands: &mut Words,
-    bytes: &mut Bytes,
-    heard: &mut Heard,
+    lists: &mut Lists<'_>,
 ) -> Turn {
-    let s = text_lines::line(input, line);
-    let kept = state.alone;
-    let read = text_read::read(s, known(inputs, kept), heard);
-    let request = read.request;
-    match request {
+    let read = text_read::read(s, known(inputs, state.alone), lists.heard);
+    match read.request {
         Request::Flush => Turn {
-            state: flushed(writer, state, out),
+            state: flushed(output, state),
             inputs,
         },
         Request::On(call) => {
-            let done = called(
-                writer,
-                call,
-                inputs,
-                read.short,
-                s,
-                out,
-                state.place,
-                starts,
-                totals,
-                counts,
-                sums,
-                times,
-                peaks,
-                commands,
-                bytes,
-                heard,
-            );
-            let left = done.inputs;
-            let answer = done.answer;
-            shown(
-                writer,
-                state,
-                left,
-                answer,
-                out,
-                place_for(call, state.place),
-                starts,
-                totals,
-                counts,
-                times,
-                peaks,
-                commands,
-                bytes,
-                heard,
-            )
+            let done = called(output, call, inputs, read.short, s, lists);
+            shown(output, state, done.left, done.answer, lists)
         }
-        _ => {
-            let file = bring(writer, request, s, out, state.place);
-            let done = alone_by(
-                request,
-                state,
-                read.short,
-                s,
-                part(out, 0, file.length),
-                starts,
-                totals,
-                counts,
-                sums,
-                times,
-                peaks,
-                bytes,
-                heard,
-            );
-            let left = done.state;
-            let answer = done.answer;
-            shown(
-                writer, left, inputs, answer, out, file.place, starts, totals, counts, times,
-                peaks, commands, bytes, heard,
-            )
+        request => {
+            let length = bring(output, request, s);
+            let file = output.printer.first(length);
+            let done = alone_by(request, state, read.short, s, file, lists);
+            shown(output, done.left, inputs, done.answer, lists)
         }
     }
 }
 
-// Nothing more to answer in what was read: what was answered is written, and more is read.
-fn refilled<R: Read, W: Write>(
-    reader: &mut R,
-    writer: &mut W,
-    state: State,
-    cursor: Cursor,
-    input: &mut Input,
-    out: &Out,
-) -> State {
-    let written = text_lines::write(writer, out, state.place);
-    let c = text_lines::more(reader, input, cursor);
-    let mut changed = state;
-    changed.cursor = c;
-    changed.place = 0;
-    changed.more = written;
-    changed
-}
-
-fn ended<W: Write>(writer: &mut W, state: State, out: &Out) -> State {
-    text_lines::write(writer, out, state.place);
-    let mut changed = state;
-    changed.more = false;
-    changed
-}
-
-// No line was found: more is read, unless there is none.
+// No line was found: what was answered is written, and more is read, unless there is none.
 fn unfound<R: Read, W: Write>(
     reader: &mut R,
-    writer: &mut W,
+    output: &mut Output<'_, W>,
     state: State,
-    cursor: Cursor,
     input: &mut Input,
-    out: &Out,
 ) -> State {
+    let written = output.flush();
+    let mut cursor = state.cursor;
     if cursor.ended {
-        return ended(writer, state, out);
+        return State {
+            more: false,
+            ..state
+        };
     }
-    refilled(reader, writer, state, cursor, input, out)
+    cursor.more(reader, input);
+    State {
+        more: written,
+        cursor,
+        ..state
+    }
 }
 
 // Answers line after line.
 fn run<R: Read, W: Write>(
     reader: &mut R,
-    writer: &mut W,
+    output: &mut Output<'_, W>,
     input: &mut Input,
-    out: &mut Out,
-    starts: &mut Seconds,
-    totals: &mut Seconds,
-    counts: &mut Counts,
-    sums: &mut Sums,
-    times: &mut Times,
-    peaks: &mut Peaks,
-    commands: &mut Words,
-    bytes: &mut Bytes,
-    heard: &mut Heard,
+    lists: &mut Lists<'_>,
 ) {
     let mut state = begin();
     let mut inputs = text_called::begin();
-    let mut turns = u64::MAX;
-    while turns > 0 && state.more {
-        let before = state.cursor;
-        let c = text_lines::look(input, before);
-        if c.found {
-            let mut passing = state;
-            let next = text_lines::passed(c);
-            passing.cursor = next;
-            let done = answered(
-                writer, passing, c, inputs, input, out, starts, totals, counts, sums, times, peaks,
-                commands, bytes, heard,
-            );
-            let after = done.state;
-            state = after;
-            let left = done.inputs;
-            inputs = left;
-        } else {
-            state = unfound(reader, writer, state, c, input, out);
+    for _turn in 0..u64::MAX {
+        if !state.more {
+            return;
         }
-        turns -= 1;
+        let mut cursor = state.cursor;
+        let found = cursor.look(input);
+        if let Some(found) = found {
+            let s = cursor.line(input, found);
+            cursor.pass(found);
+            state.cursor = cursor;
+            let done = answered(output, state, s, inputs, lists);
+            state = done.state;
+            inputs = done.inputs;
+        } else {
+            state.cursor = cursor;
+            state = unfound(reader, output, state, input);
+        }
     }
 }
 
@@ -595,19 +415,24 @@ fn main(rt: HostRuntime) {
     let mut commands = [0u32; 192];
     let mut bytes = [0u8; 1_287];
     let mut heard = [0u32; 524_288];
-    run(
-        &mut reader,
-        &mut writer,
-        &mut input,
-        &mut out,
-        &mut starts,
-        &mut totals,
-        &mut counts,
-        &mut sums,
-        &mut times,
-        &mut peaks,
-        &mut commands,
-        &mut bytes,
-        &mut heard,
-    );
+    let printer = Printer {
+        out: &mut out,
+        place: 0,
+    };
+    let mut output = Output {
+        writer: &mut writer,
+        printer,
+    };
+    let mut lists = Lists {
+        starts: &mut starts,
+        totals: &mut totals,
+        counts: &mut counts,
+        sums: &mut sums,
+        times: &mut times,
+        peaks: &mut peaks,
+        commands: &mut commands,
+        bytes: &mut bytes,
+        heard: &mut heard,
+    };
+    run(&mut reader, &mut output, &mut input, &mut lists);
 }

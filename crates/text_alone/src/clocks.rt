@@ -1,96 +1,90 @@
 // `Coalesce`, and the schedule of the Query API.
+use refusals::Refusal;
 use sources::Schedule;
 use state::{Coalesce, Taken};
-use text_answers::{Answer, unless};
-use text_requests::{ChangedAsked, Lone};
-
-// What a call leaves, and its answer.
-#[derive(Clone, Copy)]
-pub(crate) struct CoalesceAnswered {
-    pub coalesce: Coalesce,
-    pub answer: Answer,
-}
-
-#[derive(Clone, Copy)]
-pub(crate) struct ScheduleAnswered {
-    pub schedule: Schedule,
-    pub answer: Answer,
-}
+use text_answers::{Answer, Left, answer_of};
+use text_requests::Lone;
 
 // ---- Coalesce
-fn changed(kept: Coalesce, asked: ChangedAsked) -> CoalesceAnswered {
-    let r = kept.changed(asked.time, asked.delay);
-    let coalesce = r.coalesce;
-    let due = coalesce.due;
-    CoalesceAnswered {
-        coalesce,
-        answer: unless(r.number, Answer::Due(due)),
+fn changed(kept: Coalesce, given: Result<Coalesce, Refusal>) -> Left<Coalesce> {
+    match given {
+        Ok(left) => Left {
+            left,
+            answer: Answer::Due(left.due),
+        },
+        Err(refusal) => Left {
+            left: kept,
+            answer: Answer::Refused(refusal),
+        },
     }
 }
 
-fn pending(kept: Coalesce) -> CoalesceAnswered {
-    let r = kept.pending();
-    CoalesceAnswered {
-        coalesce: kept,
-        answer: unless(r.number, Answer::Bit(r.value)),
+fn taken(kept: Coalesce, given: Result<Taken, Refusal>) -> Left<Coalesce> {
+    match given {
+        Ok(taken) => {
+            let left = taken.coalesce;
+            Left {
+                left,
+                answer: Answer::Taken(taken.write, left.due),
+            }
+        }
+        Err(refusal) => Left {
+            left: kept,
+            answer: Answer::Refused(refusal),
+        },
     }
 }
 
-fn taken(r: Taken) -> CoalesceAnswered {
-    let coalesce = r.coalesce;
-    let due = coalesce.due;
-    CoalesceAnswered {
-        coalesce,
-        answer: unless(r.number, Answer::Taken(r.value, due)),
-    }
-}
-
-pub(crate) fn coalesce(request: Lone, kept: Coalesce) -> CoalesceAnswered {
+pub(crate) fn coalesce(request: Lone, kept: Coalesce) -> Left<Coalesce> {
     match request {
-        Lone::CoalesceSet(due) => CoalesceAnswered {
-            coalesce: Coalesce { due },
+        Lone::CoalesceSet(due) => Left {
+            left: Coalesce { due },
             answer: Answer::Done,
         },
-        Lone::Changed(asked) => changed(kept, asked),
-        Lone::Pending => pending(kept),
-        Lone::Take => taken(kept.take()),
-        Lone::TakeDue(time) => taken(kept.take_due(time)),
-        _ => CoalesceAnswered {
-            coalesce: kept,
+        Lone::Changed(asked) => changed(kept, kept.changed(asked.time, asked.delay)),
+        Lone::Pending => Left {
+            left: kept,
+            answer: answer_of(kept.pending(), |bit| Answer::Bit(bit)),
+        },
+        Lone::Take => taken(kept, kept.take()),
+        Lone::TakeDue(time) => taken(kept, kept.take_due(time)),
+        _ => Left {
+            left: kept,
             answer: Answer::BadLine,
         },
     }
 }
 
 // ---- the schedule
-fn up(kept: Schedule, time: u64) -> ScheduleAnswered {
-    let r = kept.query_up(time);
-    ScheduleAnswered {
-        schedule: kept,
-        answer: unless(r.number, Answer::Bit(r.value)),
+fn failed(kept: Schedule, time: u64) -> Left<Schedule> {
+    match kept.query_failed(time) {
+        Ok(failed) => {
+            let left = failed.schedule;
+            Left {
+                left,
+                answer: Answer::Failed(failed.wait, left.query_down),
+            }
+        }
+        Err(refusal) => Left {
+            left: kept,
+            answer: Answer::Refused(refusal),
+        },
     }
 }
 
-fn failed(kept: Schedule, time: u64) -> ScheduleAnswered {
-    let r = kept.query_failed(time);
-    let schedule = r.schedule;
-    let down = schedule.query_down;
-    ScheduleAnswered {
-        schedule,
-        answer: unless(r.number, Answer::Failed(r.value, down)),
-    }
-}
-
-pub(crate) fn schedule(request: Lone, kept: Schedule) -> ScheduleAnswered {
+pub(crate) fn schedule(request: Lone, kept: Schedule) -> Left<Schedule> {
     match request {
-        Lone::QuerySet(query_down) => ScheduleAnswered {
-            schedule: Schedule { query_down },
+        Lone::QuerySet(query_down) => Left {
+            left: Schedule { query_down },
             answer: Answer::Done,
         },
-        Lone::QueryUp(time) => up(kept, time),
+        Lone::QueryUp(time) => Left {
+            left: kept,
+            answer: answer_of(kept.query_up(time), |bit| Answer::Bit(bit)),
+        },
         Lone::QueryFailed(time) => failed(kept, time),
-        _ => ScheduleAnswered {
-            schedule: kept,
+        _ => Left {
+            left: kept,
             answer: Answer::BadLine,
         },
     }

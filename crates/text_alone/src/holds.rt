@@ -1,42 +1,17 @@
 // A hold alone, over two lists.
 use crate::numbers::share;
-use delay_hold::{DelayHold, Lag};
+use delay_hold::DelayHold;
 use policy::DelayPolicy;
-use text_answers::{Answer, unless};
+use text_answers::{Answer, Left, left_by};
 use text_requests::{Lone, NextAsked};
 
-// The hold after a call, and its answer.
-#[derive(Clone, Copy)]
-pub(crate) struct HoldAnswered {
-    pub hold: DelayHold,
-    pub answer: Answer,
-}
-
-fn new(times: &mut [u64], peaks: &mut [u32], kept: DelayHold) -> HoldAnswered {
-    let r = DelayHold::new(times, peaks);
-    if r.number != 0 {
-        return HoldAnswered {
-            hold: kept,
-            answer: Answer::Refused(r.number),
-        };
-    }
-    let hold = r.hold;
-    HoldAnswered {
-        hold,
-        answer: Answer::Done,
-    }
-}
-
-// What `next` answers, as the delay that it changes to.
-fn told(answer: delay_hold::Answer) -> Answer {
-    match answer {
-        delay_hold::Answer::Changed(delay) => Answer::Next(Lag::Of(delay)),
-        delay_hold::Answer::Refused(number) => unless(number, Answer::Next(Lag::None)),
-        _ => Answer::Next(Lag::None),
-    }
-}
-
-fn next(kept: DelayHold, asked: NextAsked, times: &mut [u64], peaks: &mut [u32]) -> HoldAnswered {
+// A refusal shows no hold.
+fn next(
+    kept: DelayHold,
+    asked: NextAsked,
+    times: &mut [u64],
+    peaks: &mut [u32],
+) -> Left<DelayHold> {
     let policy = DelayPolicy {
         read_offset: asked.offset,
         delay_max: asked.most,
@@ -45,23 +20,24 @@ fn next(kept: DelayHold, asked: NextAsked, times: &mut [u64], peaks: &mut [u32])
         margin: asked.margin,
         margin_share: share(asked.percent),
     };
-    let p999 = asked.p999;
-    let largest = asked.largest;
-    let r = kept.decide_next(
+    match kept.decide_next(
         times,
         peaks,
-        p999,
-        largest,
+        asked.p999,
+        asked.largest,
         asked.current,
         policy,
         asked.width,
         asked.time,
-    );
-    let hold = r.hold;
-    let answer = r.answer;
-    HoldAnswered {
-        hold,
-        answer: told(answer),
+    ) {
+        Ok(next) => Left {
+            left: next.hold,
+            answer: Answer::Next(next.change),
+        },
+        Err(refusal) => Left {
+            left: kept,
+            answer: Answer::Refused(refusal),
+        },
     }
 }
 
@@ -70,12 +46,12 @@ pub(crate) fn answer(
     kept: DelayHold,
     times: &mut [u64],
     peaks: &mut [u32],
-) -> HoldAnswered {
+) -> Left<DelayHold> {
     match request {
-        Lone::HoldNew => new(times, peaks, kept),
+        Lone::HoldNew => left_by(kept, DelayHold::new(times, peaks), Answer::Done),
         Lone::Next(asked) => next(kept, asked, times, peaks),
-        _ => HoldAnswered {
-            hold: kept,
+        _ => Left {
+            left: kept,
             answer: Answer::BadLine,
         },
     }

@@ -2,12 +2,11 @@
 // last places. A refused call leaves what is kept.
 #![tactic(auto)]
 
-use base::{least_usize, product_usize};
 use delay_hold::DelayHold;
 use lag_window::LagWindow;
 use sources::Schedule;
 use state::Coalesce;
-use text_answers::{Answer, unless};
+use text_answers::{Answer, Left, answer_of};
 use text_lending::{
     Counts, LONE_COUNTS, LONE_PEAKS, LONE_SECONDS, LONE_SUMS, Peaks, Seconds, Sums, Times, buckets,
     cut, file_sizes, places,
@@ -26,12 +25,6 @@ pub struct Alone {
     pub hold: DelayHold,
     pub coalesce: Coalesce,
     pub schedule: Schedule,
-}
-
-#[derive(Clone, Copy)]
-pub struct Answered {
-    pub alone: Alone,
-    pub answer: Answer,
 }
 
 // Before any call: a window of width 4 for offset and maximum 0, and a fresh hold.
@@ -69,7 +62,7 @@ fn on_seconds(
     totals: &mut [u64],
     counts: &mut [u32],
     sums: &mut [u64],
-) -> Answered {
+) -> Left<Alone> {
     let kept = alone.window;
     let n = cut(LagWindow::SECONDS, short);
     let a = places(LONE_SECONDS, n, starts.len());
@@ -86,14 +79,12 @@ fn on_seconds(
         counts,
         sums,
     );
-    let left = done.window;
-    let answer = done.answer;
-    Answered {
-        alone: Alone {
-            window: left,
+    Left {
+        left: Alone {
+            window: done.left,
             ..alone
         },
-        answer,
+        answer: done.answer,
     }
 }
 
@@ -106,10 +97,10 @@ fn on_window(
     totals: &mut Seconds,
     counts: &mut [u32],
     sums: &mut [u64],
-) -> Answered {
+) -> Left<Alone> {
     let kept = alone.window;
     let buckets = buckets_for(request, kept);
-    let n = cut(product_usize(LagWindow::SECONDS, buckets), short);
+    let n = cut(LagWindow::SECONDS.saturating_mul(buckets), short);
     let c = places(LONE_COUNTS, n, counts.len());
     let d = places(LONE_SUMS, cut(buckets, short), sums.len());
     let c0 = c.from;
@@ -134,7 +125,7 @@ fn on_hold(
     short: bool,
     times: &mut [u64],
     peaks: &mut [u32],
-) -> Answered {
+) -> Left<Alone> {
     let kept = alone.hold;
     let n = cut(DelayHold::PLACES, short);
     let a = places(LONE_PEAKS, n, times.len());
@@ -144,48 +135,42 @@ fn on_hold(
     let b0 = b.from;
     let b1 = b.to;
     let done = holds::answer(request, kept, &mut times[a0..a1], &mut peaks[b0..b1]);
-    let left = done.hold;
-    let answer = done.answer;
-    Answered {
-        alone: Alone {
-            hold: left,
+    Left {
+        left: Alone {
+            hold: done.left,
             ..alone
         },
-        answer,
+        answer: done.answer,
     }
 }
 
 // A call that has no lists.
-fn listless(request: Lone, alone: Alone) -> Answered {
+fn listless(request: Lone, alone: Alone) -> Left<Alone> {
     match request {
         Lone::CoalesceSet(_) | Lone::Changed(_) | Lone::Pending | Lone::Take | Lone::TakeDue(_) => {
             let kept = alone.coalesce;
             let done = clocks::coalesce(request, kept);
-            let left = done.coalesce;
-            let answer = done.answer;
-            Answered {
-                alone: Alone {
-                    coalesce: left,
+            Left {
+                left: Alone {
+                    coalesce: done.left,
                     ..alone
                 },
-                answer,
+                answer: done.answer,
             }
         }
         Lone::QuerySet(_) | Lone::QueryUp(_) | Lone::QueryFailed(_) => {
             let kept = alone.schedule;
             let done = clocks::schedule(request, kept);
-            let left = done.schedule;
-            let answer = done.answer;
-            Answered {
-                alone: Alone {
-                    schedule: left,
+            Left {
+                left: Alone {
+                    schedule: done.left,
                     ..alone
                 },
-                answer,
+                answer: done.answer,
             }
         }
-        _ => Answered {
-            alone,
+        _ => Left {
+            left: alone,
             answer: numbers::answer(request),
         },
     }
@@ -194,10 +179,12 @@ fn listless(request: Lone, alone: Alone) -> Answered {
 // A delay file that is read, on lists of the lengths that the reader asks for.
 pub fn read_delays(file: &[u8], short: bool, flows: &mut [u8], delays: &mut [u32]) -> Answer {
     let z = file_sizes(short);
-    let a = least_usize(z.flows, flows.len());
-    let b = least_usize(z.delays, delays.len());
-    let r = delay_files::read_delays(file, &mut flows[..a], &mut delays[..b]);
-    unless(r.number, Answer::Delays(r.count))
+    let a = z.flows.min(flows.len());
+    let b = z.delays.min(delays.len());
+    answer_of(
+        delay_files::read_delays(file, &mut flows[..a], &mut delays[..b]),
+        |count| Answer::Delays(count),
+    )
 }
 
 // The answer of a call, but for what is crafted and for a file.
@@ -211,7 +198,7 @@ pub fn answer(
     sums: &mut Sums,
     times: &mut Times,
     peaks: &mut Peaks,
-) -> Answered {
+) -> Left<Alone> {
     match request {
         Lone::WindowNew(_) | Lone::Push(_) | Lone::Clear | Lone::Span | Lone::Quantile(_) => {
             on_window(request, alone, short, starts, totals, counts, sums)

@@ -1,6 +1,6 @@
 // Milliseconds, samples, needs, and the block clock.
-use policy::{DelayPolicy, Need, Share};
-use text_answers::{Answer, unless};
+use policy::{DelayPolicy, share_of};
+use text_answers::{Answer, answer_of};
 use text_requests::{Lone, NeedAsked};
 
 // A share that check 4 refuses.
@@ -9,10 +9,7 @@ const NO_SHARE: f64 = -1.0;
 // A policy's share of a percent, which is asked itself. One that is not from 0 to 1,000 gives a share that check 4 refuses: the call makes
 // that check in its own order.
 pub(crate) fn share(percent: f64) -> f64 {
-    let Share::Of(share) = policy::share_of(percent) else {
-        return NO_SHARE;
-    };
-    share
+    share_of(percent).unwrap_or(NO_SHARE)
 }
 
 fn need(asked: NeedAsked) -> Answer {
@@ -24,30 +21,18 @@ fn need(asked: NeedAsked) -> Answer {
         margin: asked.margin,
         margin_share: share(asked.percent),
     };
-    let need = policy.need_of(asked.lag);
-    match need {
-        Need::Of(delay) => Answer::Number(delay as u64),
-        Need::Refused(number) => Answer::Refused(number),
-    }
-}
-
-fn index_at(time: u64) -> Answer {
-    let r = timing::index_at(time);
-    unless(r.number, Answer::Number(r.value))
-}
-
-fn time_of(index: u64) -> Answer {
-    let r = timing::time_of(index);
-    unless(r.number, Answer::Number(r.value))
+    answer_of(policy.need_of(asked.lag), |delay| {
+        Answer::Number(u64::from(delay))
+    })
 }
 
 pub(crate) fn answer(request: Lone) -> Answer {
     match request {
         Lone::Ms(n) => Answer::Double(doubles::ms(n)),
-        Lone::Samples(m) => Answer::Number(doubles::samples(m) as u64),
+        Lone::Samples(m) => Answer::Number(u64::from(doubles::samples(m))),
         Lone::Need(asked) => need(asked),
-        Lone::IndexAt(time) => index_at(time),
-        Lone::TimeOf(index) => time_of(index),
+        Lone::IndexAt(time) => answer_of(timing::index_at(time), |index| Answer::Number(index)),
+        Lone::TimeOf(index) => answer_of(timing::time_of(index), |time| Answer::Number(time)),
         _ => Answer::BadLine,
     }
 }

@@ -1,16 +1,7 @@
 // A window alone, over four lists.
-use delay_hold::Lag;
 use lag_window::LagWindow;
-use rules_window::Quantile;
-use text_answers::{Answer, unless};
+use text_answers::{Answer, Left, answer_of, left_by};
 use text_requests::{Lone, WindowAsked};
-
-// The window after a call, and its answer.
-#[derive(Clone, Copy)]
-pub(crate) struct WindowAnswered {
-    pub window: LagWindow,
-    pub answer: Answer,
-}
 
 // A refused `new` leaves the window that was there.
 fn new(
@@ -20,8 +11,8 @@ fn new(
     totals: &mut [u64],
     counts: &mut [u32],
     sums: &mut [u64],
-) -> WindowAnswered {
-    let r = LagWindow::new(
+) -> Left<LagWindow> {
+    match LagWindow::new(
         asked.offset,
         asked.most,
         asked.width,
@@ -29,25 +20,15 @@ fn new(
         totals,
         counts,
         sums,
-    );
-    if r.number != 0 {
-        return WindowAnswered {
-            window: kept,
-            answer: Answer::Refused(r.number),
-        };
-    }
-    let window = r.window;
-    WindowAnswered {
-        window,
-        answer: Answer::Number(window.buckets as u64),
-    }
-}
-
-fn quantile(q: Quantile) -> Answer {
-    match q {
-        Quantile::End(lag) => Answer::Maybe(Lag::Of(lag)),
-        Quantile::None => Answer::Maybe(Lag::None),
-        Quantile::Refused(number) => Answer::Refused(number),
+    ) {
+        Ok(left) => Left {
+            left,
+            answer: Answer::Number(left.buckets as u64),
+        },
+        Err(refusal) => Left {
+            left: kept,
+            answer: Answer::Refused(refusal),
+        },
     }
 }
 
@@ -58,45 +39,30 @@ pub(crate) fn answer(
     totals: &mut [u64],
     counts: &mut [u32],
     sums: &mut [u64],
-) -> WindowAnswered {
+) -> Left<LagWindow> {
     match request {
         Lone::WindowNew(asked) => new(kept, asked, starts, totals, counts, sums),
-        Lone::Push(asked) => {
-            let r = kept.push(asked.lag, asked.time, starts, totals, counts, sums);
-            let window = r.window;
-            WindowAnswered {
-                window,
-                answer: unless(r.number, Answer::Window),
-            }
-        }
-        Lone::Clear => {
-            let r = kept.clear(starts, totals, counts, sums);
-            let window = r.window;
-            WindowAnswered {
-                window,
-                answer: unless(r.number, Answer::Done),
-            }
-        }
-        Lone::Span => {
-            let r = kept.span(starts, totals, counts, sums);
-            WindowAnswered {
-                window: kept,
-                answer: unless(r.number, Answer::Number(r.span)),
-            }
-        }
-        Lone::Quantile(asked) => WindowAnswered {
-            window: kept,
-            answer: quantile(kept.quantile_upto(
-                asked.q,
-                asked.limit,
-                starts,
-                totals,
-                counts,
-                sums,
-            )),
+        Lone::Push(asked) => left_by(
+            kept,
+            kept.push(asked.lag, asked.time, starts, totals, counts, sums),
+            Answer::Window,
+        ),
+        Lone::Clear => left_by(kept, kept.clear(starts, totals, counts, sums), Answer::Done),
+        Lone::Span => Left {
+            left: kept,
+            answer: answer_of(kept.span(starts, totals, counts, sums), |span| {
+                Answer::Number(span)
+            }),
         },
-        _ => WindowAnswered {
-            window: kept,
+        Lone::Quantile(asked) => Left {
+            left: kept,
+            answer: answer_of(
+                kept.quantile_upto(asked.q, asked.limit, starts, totals, counts, sums),
+                |end| Answer::Maybe(end),
+            ),
+        },
+        _ => Left {
+            left: kept,
             answer: Answer::BadLine,
         },
     }

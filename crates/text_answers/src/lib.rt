@@ -2,30 +2,28 @@
 // part of what is kept is shown.
 #![tactic(auto)]
 
-ghost use Rattle.std.specs.Prelude.{◌≡◌};
-ghost use Rattle.text_answers.specs.Answers.{unless_refused};
+ghost use Rattle.std.specs.Prelude.{◌≡◌, MatchResult};
 
-use delay_hold::Lag;
+use refusals::Refusal;
 use rules_calls::InputStatus;
-use sources::QueryDown;
-use state::Due;
+use sources::Down;
 
 #[derive(Clone, Copy)]
 pub enum Answer {
     BadLine,
-    // The number of the check that said no.
-    Refused(u32),
+    // The check that said no.
+    Refused(Refusal),
     // Accepted, and nothing follows.
     Done,
     Number(u64),
     // A number, or none.
-    Maybe(Lag),
+    Maybe(Option<u32>),
     // A double.
     Double(f64),
     Bit(bool),
-    Due(Due),
-    Taken(bool, Due),
-    Failed(u64, QueryDown),
+    Due(Option<u64>),
+    Taken(bool, Option<u64>),
+    Failed(u64, Option<Down>),
     Status(InputStatus),
     // How many flows a delay file has, and each of them with its delay.
     Delays(usize),
@@ -34,7 +32,7 @@ pub enum Answer {
     // The window alone, whole.
     Window,
     // The delay that `next` changes to, or none, and the hold alone, whole.
-    Next(Lag),
+    Next(Option<u32>),
     // The record of this input.
     Input(usize),
     // The record of all inputs.
@@ -47,12 +45,35 @@ pub enum Answer {
     Dry,
 }
 
-// This answer, unless the call was refused.
-pub fn unless(number: u32, answer: Answer) -> Answer
-    ensures { result ≡ unless_refused number answer }
+// What a call leaves of what is kept, and its answer.
+#[derive(Clone, Copy)]
+pub struct Left<T> {
+    pub left: T,
+    pub answer: Answer,
+}
+
+// What is shown of the value of an accepted call, or the check that said no.
+pub fn answer_of<T, F: FnOnce(T) -> Answer>(given: Result<T, Refusal>, shown: F) -> Answer
+where
+    F: Drop,
+    requires { F.IsAlwaysCallable shown }
+    ensures { MatchResult given (λ value. F.post shown value result) (λ refusal. result ≡ Answer.Refused refusal) }
 {
-    if number != 0 {
-        return Answer::Refused(number);
+    match given {
+        Ok(value) => shown(value),
+        Err(refusal) => Answer::Refused(refusal),
     }
-    answer
+}
+
+// The same of a call that leaves a new value: refused, what was kept stays.
+pub fn left_by<T: Copy>(kept: T, given: Result<T, Refusal>, answer: Answer) -> Left<T>
+    ensures { MatchResult given (λ value. result ≡ record { left = value; answer = answer }) (λ refusal. result ≡ record { left = kept; answer = Answer.Refused refusal }) }
+{
+    match given {
+        Ok(left) => Left { left, answer },
+        Err(refusal) => Left {
+            left: kept,
+            answer: Answer::Refused(refusal),
+        },
+    }
 }

@@ -2,27 +2,20 @@
 // call leaves the record that was there.
 #![tactic(auto)]
 
-use base::least_usize;
 use policy::DelayPolicy;
-use rules_record::{ExtraDelay, Flow, FlowEntry, Inputs, InputsAnswer, Instance, Remembered};
-use rules_tick::Look;
-use text_answers::{Answer, unless};
+use refusals::Refusal;
+use rules_record::{ExtraDelay, Flow, FlowEntry, Inputs, Instance};
+use rules_tick::{Look, Ticked};
+use text_answers::{Answer, Left, answer_of, left_by};
 use text_lending::{file_sizes, sizes_for};
 use text_requests::Call;
-
-// The record that a call leaves, and its answer.
-#[derive(Clone, Copy)]
-pub struct Called {
-    pub inputs: Inputs,
-    pub answer: Answer,
-}
 
 // Before the first `new`: a record of no inputs.
 pub fn begin() -> Inputs {
     let slot = inputs_slots::empty_slot();
     let slots = [slot; 16];
     let flow = Flow { high: 0, low: 0 };
-    let remembered = Remembered::Never;
+    let remembered = None;
     let entry = FlowEntry { flow, remembered };
     let flows = [entry; 64];
     let key = Instance { flow: 0, inode: 0 };
@@ -50,27 +43,17 @@ pub fn begin() -> Inputs {
     }
 }
 
-// What `new` leaves: refused, the record that was there.
-fn made(kept: Inputs, r: InputsAnswer) -> Called {
-    if r.number != 0 {
-        return Called {
-            inputs: kept,
-            answer: Answer::Refused(r.number),
-        };
-    }
-    let inputs = r.inputs;
-    Called {
-        inputs,
-        answer: Answer::All,
-    }
-}
-
-// What a call on one input leaves.
-fn changed(r: InputsAnswer, input: usize) -> Called {
-    let inputs = r.inputs;
-    Called {
-        inputs,
-        answer: unless(r.number, Answer::Input(input)),
+// What a tick leaves.
+fn ticked(kept: Inputs, given: Result<Ticked, Refusal>) -> Left<Inputs> {
+    match given {
+        Ok(ticked) => Left {
+            left: ticked.inputs,
+            answer: Answer::Ticked(ticked.unsaved),
+        },
+        Err(refusal) => Left {
+            left: kept,
+            answer: Answer::Refused(refusal),
+        },
     }
 }
 
@@ -89,22 +72,24 @@ fn changing(
     times: &mut [u64],
     peaks: &mut [u32],
     commands: &mut [u32],
-) -> Called {
+) -> Left<Inputs> {
     match call {
         Call::New(asked) => {
             let settings = asked.settings;
-            made(
+            left_by(
                 kept,
                 inputs_new::new(
                     settings, kinds, flows, heard, asked.time, starts, totals, counts, sums, times,
                     peaks, commands,
                 ),
+                Answer::All,
             )
         }
         Call::Route(asked) => {
             let wanted = asked.wanted;
             let world = asked.world;
-            changed(
+            left_by(
+                kept,
                 inputs_route::route(
                     kept,
                     asked.input,
@@ -119,12 +104,13 @@ fn changing(
                     peaks,
                     commands,
                 ),
-                asked.input,
+                Answer::Input(asked.input),
             )
         }
         Call::Update(asked) => {
             let setting = asked.setting;
-            changed(
+            left_by(
+                kept,
                 inputs_update::update(
                     kept,
                     asked.input,
@@ -138,10 +124,11 @@ fn changing(
                     peaks,
                     commands,
                 ),
-                asked.input,
+                Answer::Input(asked.input),
             )
         }
-        Call::Confirm(asked) => changed(
+        Call::Confirm(asked) => left_by(
+            kept,
             inputs_update::confirm_delay(
                 kept,
                 asked.input,
@@ -154,21 +141,19 @@ fn changing(
                 peaks,
                 commands,
             ),
-            asked.input,
+            Answer::Input(asked.input),
         ),
         Call::Tick(asked) => {
-            let r = inputs_tick::tick(
-                kept, looks, heard, asked.time, starts, totals, counts, sums, times, peaks,
-                commands,
-            );
-            let inputs = r.inputs;
-            Called {
-                inputs,
-                answer: unless(r.number, Answer::Ticked(r.unsaved)),
-            }
+            ticked(
+                kept,
+                inputs_tick::tick(
+                    kept, looks, heard, asked.time, starts, totals, counts, sums, times, peaks,
+                    commands,
+                ),
+            )
         }
-        _ => Called {
-            inputs: kept,
+        _ => Left {
+            left: kept,
             answer: Answer::BadLine,
         },
     }
@@ -188,54 +173,60 @@ fn asking(
 ) -> Answer {
     match call {
         Call::Status(asked) => {
-            let status = inputs_status::status(
-                kept,
-                asked.input,
-                asked.first,
-                asked.second,
-                starts,
-                totals,
-                counts,
-                sums,
-                times,
-                peaks,
-            );
-            unless(status.number, Answer::Status(status))
+            answer_of(
+                inputs_status::status(
+                    kept,
+                    asked.input,
+                    asked.first,
+                    asked.second,
+                    starts,
+                    totals,
+                    counts,
+                    sums,
+                    times,
+                    peaks,
+                ),
+                |status| Answer::Status(status),
+            )
         }
         Call::Has(asked) => {
-            let r = inputs_status::has_channels(
-                kept,
-                asked.input,
-                asked.first,
-                asked.second as usize,
-                starts,
-                totals,
-                counts,
-                sums,
-                times,
-                peaks,
-            );
-            unless(r.number, Answer::Bit(r.value))
+            answer_of(
+                inputs_status::has_channels(
+                    kept,
+                    asked.input,
+                    asked.first,
+                    asked.second as usize,
+                    starts,
+                    totals,
+                    counts,
+                    sums,
+                    times,
+                    peaks,
+                ),
+                |bit| Answer::Bit(bit),
+            )
         }
         Call::Settled(asked) => {
-            let r = inputs_status::settled(
-                kept,
-                asked.input,
-                asked.time,
-                starts,
-                totals,
-                counts,
-                sums,
-                times,
-                peaks,
-            );
-            unless(r.number, Answer::Bit(r.value))
+            answer_of(
+                inputs_status::settled(
+                    kept,
+                    asked.input,
+                    asked.time,
+                    starts,
+                    totals,
+                    counts,
+                    sums,
+                    times,
+                    peaks,
+                ),
+                |bit| Answer::Bit(bit),
+            )
         }
         Call::WriteDelays => {
-            let r = delay_files::write_delays(
-                kept, starts, totals, counts, sums, times, peaks, file,
-            );
-            unless(r.number, Answer::File(r.length))
+            answer_of(
+                delay_files::write_delays(kept, starts, totals, counts, sums, times, peaks, file),
+                |length| Answer::File(length),
+            )
         }
         Call::Dump => Answer::Dump,
         _ => Answer::BadLine,
@@ -258,15 +249,15 @@ pub fn change(
     times: &mut [u64],
     peaks: &mut [u32],
     commands: &mut [u32],
-) -> Called {
+) -> Left<Inputs> {
     let z = sizes_for(call, kept, short);
-    let a = least_usize(z.seconds, starts.len());
-    let b = least_usize(z.seconds, totals.len());
-    let c = least_usize(z.counts, counts.len());
-    let d = least_usize(z.sums, sums.len());
-    let e = least_usize(z.peaks, times.len());
-    let f = least_usize(z.peaks, peaks.len());
-    let g = least_usize(z.words, commands.len());
+    let a = z.seconds.min(starts.len());
+    let b = z.seconds.min(totals.len());
+    let c = z.counts.min(counts.len());
+    let d = z.sums.min(sums.len());
+    let e = z.peaks.min(times.len());
+    let f = z.peaks.min(peaks.len());
+    let g = z.words.min(commands.len());
     changing(
         call,
         kept,
@@ -299,13 +290,13 @@ pub fn ask(
 ) -> Answer {
     let z = sizes_for(call, kept, short);
     let y = file_sizes(short);
-    let a = least_usize(z.seconds, starts.len());
-    let b = least_usize(z.seconds, totals.len());
-    let c = least_usize(z.counts, counts.len());
-    let d = least_usize(z.sums, sums.len());
-    let e = least_usize(z.peaks, times.len());
-    let f = least_usize(z.peaks, peaks.len());
-    let g = least_usize(y.file, file.len());
+    let a = z.seconds.min(starts.len());
+    let b = z.seconds.min(totals.len());
+    let c = z.counts.min(counts.len());
+    let d = z.sums.min(sums.len());
+    let e = z.peaks.min(times.len());
+    let f = z.peaks.min(peaks.len());
+    let g = y.file.min(file.len());
     asking(
         call,
         kept,

@@ -2,62 +2,41 @@
 // Its words were read before (crate text_read): here they are stored. Of more rows or peaks than there are places only their number is kept.
 #![tactic(auto)]
 
-ghost use Rattle.std.specs.Prelude.{◌≡◌};
-
-use base::{least_usize, place_u32, product_usize, sum_usize};
 use delay_hold::DelayHold;
 use lag_window::LagWindow;
 use rules_record::{Inputs, Slot};
 use text_lending::{Counts, Peaks, Seconds, Sums, Times};
-use text_requests::lists::{cell_at, peak_at, row_at};
+use text_requests::lists::{Cell, Listed, Peak, Row};
 use text_requests::{CountersAsked, DelaysAsked, Part, PutAsked, SumAsked};
 use text_scan::{ends, is_at};
+use text_words::Reader;
 
 // ---- stores at any place: what does not exist is left out
-fn put_u64(s: &mut [u64], i: usize, value: u64) {
+fn put_at<T: Copy>(s: &mut [T], i: usize, value: T) {
     if i < s.len() {
         s[i] = value;
     }
 }
 
-fn put_u32(s: &mut [u32], i: usize, value: u32) {
-    if i < s.len() {
-        s[i] = value;
-    }
-}
-
-// n zeros from `first` on.
-fn zero_u64(s: &mut [u64], first: usize, n: usize) {
-    let mut i: usize = 0;
-    while i < n {
-        put_u64(s, sum_usize(first, i), 0);
-        i += 1;
-    }
-}
-
-fn zero_u32(s: &mut [u32], first: usize, n: usize) {
-    let mut i: usize = 0;
-    while i < n {
-        put_u32(s, sum_usize(first, i), 0);
-        i += 1;
+// n times the value from `first` on.
+fn fill<T: Copy>(s: &mut [T], first: usize, n: usize, value: T) {
+    for place in s.iter_mut().skip(first).take(n) {
+        *place = value;
     }
 }
 
 // ---- a window
-// The cells of the row that begins at `first` of the counts; the place after them.
-fn store_cells(s: &[u8], at: usize, counts: &mut [u32], first: usize) -> usize {
-    let mut next = at;
-    let mut i: usize = 0;
-    while i < s.len() {
-        if !is_at(s, next, b',') {
-            return next;
+// The cells of the row that begins at `first` of the counts.
+fn store_cells(r: &mut Reader<'_>, counts: &mut [u32], first: usize) {
+    for _i in 0..r.s.len() {
+        if !is_at(r.s, r.at, b',') {
+            return;
         }
-        let c = cell_at(s, next);
-        put_u32(counts, sum_usize(first, c.bucket), c.count);
-        next = c.next;
-        i += 1;
+        let Some(cell) = Cell::read(r) else {
+            return;
+        };
+        put_at(counts, first.saturating_add(cell.bucket), cell.count);
     }
-    next
 }
 
 // The rows from place `at` of the line on, as the seconds from `second` and the counts from `count` on.
@@ -71,54 +50,44 @@ fn store_rows(
     totals: &mut Seconds,
     counts: &mut Counts,
 ) {
-    zero_u64(starts, second, LagWindow::SECONDS);
-    zero_u64(totals, second, LagWindow::SECONDS);
-    zero_u32(counts, count, product_usize(LagWindow::SECONDS, buckets));
-    let mut next = at;
+    fill(starts, second, LagWindow::SECONDS, 0);
+    fill(totals, second, LagWindow::SECONDS, 0);
+    fill(counts, count, LagWindow::SECONDS.saturating_mul(buckets), 0);
+    let mut r = Reader { s, at };
     let mut first = count;
-    let mut i: usize = 0;
-    while i < LagWindow::SECONDS {
-        if ends(s, next) {
+    for i in 0..LagWindow::SECONDS {
+        if ends(r.s, r.at) {
             return;
         }
-        let r = row_at(s, next);
-        put_u64(starts, sum_usize(second, i), r.start);
-        put_u64(totals, sum_usize(second, i), r.total);
-        next = store_cells(s, r.next, counts, first);
-        first = sum_usize(first, buckets);
-        i += 1;
+        let Some(row) = Row::read(&mut r) else {
+            return;
+        };
+        put_at(starts, second.saturating_add(i), row.start);
+        put_at(totals, second.saturating_add(i), row.total);
+        store_cells(&mut r, counts, first);
+        first = first.saturating_add(buckets);
     }
-}
-
-fn wide(n: u32) -> u64
-    ensures { result ≡ n }
-{
-    n as u64
 }
 
 // The lags of one bucket in all seconds: its count in the first is at `first`, the next one so many buckets on.
 fn column(counts: &[u32], first: usize, buckets: usize) -> u64 {
     let mut sum: u64 = 0;
     let mut at = first;
-    let mut i: usize = 0;
-    while i < LagWindow::SECONDS {
-        sum += wide(place_u32(counts, at));
-        at = sum_usize(at, buckets);
-        i += 1;
+    for _i in 0..LagWindow::SECONDS {
+        sum += u64::from(counts.get(at).copied().unwrap_or(0));
+        at = at.saturating_add(buckets);
     }
     sum
 }
 
 // The sums from `first` on, of the counts from `count` on.
 fn sum_rows(buckets: usize, count: usize, first: usize, counts: &[u32], sums: &mut [u64]) {
-    let mut b: usize = 0;
-    while b < buckets {
-        put_u64(
+    for b in 0..buckets {
+        put_at(
             sums,
-            sum_usize(first, b),
-            column(counts, sum_usize(count, b), buckets),
+            first.saturating_add(b),
+            column(counts, count.saturating_add(b), buckets),
         );
-        b += 1;
     }
 }
 
@@ -141,23 +110,21 @@ pub fn rows(
 
 // One sum, right or not, of a window whose sums begin at `first`.
 pub fn sum(asked: SumAsked, first: usize, sums: &mut Sums) {
-    put_u64(sums, sum_usize(first, asked.bucket), asked.sum);
+    put_at(sums, first.saturating_add(asked.bucket), asked.sum);
 }
 
 // ---- a hold
 // n peaks from place `at` of the line on, as the peaks from `first` on.
 pub fn peaks(s: &[u8], at: usize, n: usize, first: usize, times: &mut Times, lags: &mut Peaks) {
-    zero_u64(times, first, DelayHold::PLACES);
-    zero_u32(lags, first, DelayHold::PLACES);
-    let most = least_usize(n, DelayHold::PLACES);
-    let mut next = at;
-    let mut i: usize = 0;
-    while i < most {
-        let p = peak_at(s, next);
-        put_u64(times, sum_usize(first, i), p.time);
-        put_u32(lags, sum_usize(first, i), p.lag);
-        next = p.next;
-        i += 1;
+    fill(times, first, DelayHold::PLACES, 0);
+    fill(lags, first, DelayHold::PLACES, 0);
+    let mut r = Reader { s, at };
+    for i in 0..n.min(DelayHold::PLACES) {
+        let Some(peak) = Peak::read(&mut r) else {
+            return;
+        };
+        put_at(times, first.saturating_add(i), peak.time);
+        put_at(lags, first.saturating_add(i), peak.lag);
     }
 }
 
@@ -206,17 +173,17 @@ fn store(
 ) {
     match part {
         Part::Window(w) => {
-            let second = product_usize(i, LagWindow::SECONDS);
-            let count = product_usize(second, buckets);
-            let first = product_usize(i, buckets);
+            let second = i.saturating_mul(LagWindow::SECONDS);
+            let count = second.saturating_mul(buckets);
+            let first = i.saturating_mul(buckets);
             rows(
                 s, w.at, buckets, second, count, first, starts, totals, counts, sums,
             );
         }
-        Part::Sum(asked) => sum(asked, product_usize(i, buckets), sums),
+        Part::Sum(asked) => sum(asked, i.saturating_mul(buckets), sums),
         Part::Hold(h) => {
             let hold = h.hold;
-            let first = product_usize(i, DelayHold::PLACES);
+            let first = i.saturating_mul(DelayHold::PLACES);
             peaks(s, h.at, hold.peaks, first, times, lags);
         }
         _ => {}

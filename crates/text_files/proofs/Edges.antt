@@ -1,10 +1,11 @@
 -- Files as words, computed at the edges of the definition. Assumes nothing.
 use mathlib.Core.Path.{◌≡◌, refl}
 use mathlib.Core.List.{[], ◌∷◌}
-use Rattle.text_scan.specs.Scan.{after_byte, digit_of}
+use Rattle.text_scan.specs.Scan.{word, after_byte, digit_of}
 use Rattle.text_scan.specs.Text.{text}
-use Rattle.text_words.specs.Words.{lost}
-use Rattle.text_files.specs.Files.{pair_of, bytes_from, digits_end, word_at, file_at, kept_from}
+use Rattle.std.specs.Prelude.{None, Some}
+use Rattle.text_words.specs.Words.{mark_after}
+use Rattle.text_files.specs.Files.{pair_of, bytes_from, digits_end, file_at, kept_from}
 
 -- two digits a byte, the first weighing most
 pub mark_read : bytes_from (text "444c59") ≡ 68 ∷ 76 ∷ 89 ∷ []
@@ -26,16 +27,16 @@ unfolding pair_of digit_of
 odd_digit_left = refl
 
 -- the word's digits, and the place after them
-pub digits_found : file_at (text "dread1 0aff") 6 32 ≡ word_at 7 11
-unfolding file_at after_byte digits_end pair_of digit_of
+pub digits_found : file_at (text "dread1 0aff") 6 32 ≡ Some (word 7 11)
+unfolding file_at mark_after after_byte digits_end pair_of digit_of
 digits_found = refl
 
-pub dash_is_none : file_at (text "dread1 -") 6 32 ≡ word_at 8 8
-unfolding file_at after_byte digits_end pair_of digit_of
+pub dash_is_none : file_at (text "dread1 -") 6 32 ≡ Some (word 8 8)
+unfolding file_at mark_after after_byte digits_end pair_of digit_of
 dash_is_none = refl
 
-pub nothing_is_no_word : file_at (text "dread1 ") 6 32 ≡ word_at lost lost
-unfolding file_at after_byte digits_end pair_of digit_of
+pub nothing_is_no_word : file_at (text "dread1 ") 6 32 ≡ None
+unfolding file_at mark_after after_byte digits_end pair_of digit_of
 nothing_is_no_word = refl
 
 pub dash_keeps_nothing : kept_from (text "dread1 -") 8 ≡ []

@@ -1,103 +1,75 @@
 // The bytes of a file as a word of a line (compare/README.md, `dread1`): two lower-case hex digits a byte, or `-` for none.
 #![tactic(auto)]
 
-ghost use Rattle.std.specs.Prelude.{◌≡◌, ◌≤◌, length, take};
+ghost use Rattle.std.specs.Prelude.{◌≡◌, ◌+◌, ◌≤◌, length, take, OnSome};
+ghost use Rattle.text_words.specs.Words.{read_as};
 ghost use Rattle.text_files.specs.Files.{pair_at, digits_end, file_at, kept_from};
 
-use text_scan::{Step, after, digit};
-use text_words::LOST;
+use text_scan::{after, digit};
+use text_words::Reader;
 
 // The most bytes that are kept of a file: one more than any edition has.
 pub const MOST_FILE: usize = 1_292;
 
-// What two places say that hold no two digits.
-const NO_BYTE: u64 = 256;
-
-// Where a file's digits begin, and the place after them.
-#[derive(Clone, Copy)]
-pub struct FileWord {
-    pub at: usize,
-    pub next: usize,
-}
-
 // The byte that the two digits at this place say.
-fn pair(s: &[u8], at: usize) -> u64
-    ensures { result ≡ pair_at s.now at }
+#[tactic(auto, unfolding(crate::specs::Files::pair_at, crate::specs::Files::pair_of))]
+fn pair(s: &[u8], at: usize) -> Option<u8>
+    ensures value { result ≡ pair_at s.now at }
+    ensures within { OnSome result (at + 2 ≤ length s.now) }
 {
-    let n = s.len();
-    if n <= at {
-        return NO_BYTE;
-    }
-    if n - at < 2 {
-        return NO_BYTE;
-    }
-    let first = digit(s[at]);
-    let second = digit(s[at + 1]);
-    if 16 <= first {
-        return NO_BYTE;
-    }
-    if 16 <= second {
-        return NO_BYTE;
-    }
-    first * 16 + second
+    let [first, second, ..] = s.get(at..)? else {
+        return None;
+    };
+    let high = digit(*first, 16)?;
+    let low = digit(*second, 16)?;
+    Some(high * 16 + low)
 }
 
 // The place after the digits.
+#[tactic(auto, using(crate::proofs::Pairs::end_stop), unfolding(crate::specs::Files::digits_end))]
 fn digits_end(s: &[u8], from: usize) -> usize
     ensures { result ≡ digits_end s.now from }
 {
-    let mut i = from;
-    while i < s.len() {
-        let byte = pair(s, i);
-        if NO_BYTE <= byte {
-            return i;
-        }
-        i += 2;
+    let mut next = from;
+    while let Some(_) = pair(s, next) {
+        next += 2;
     }
-    i
+    next
 }
 
-// A file after a separating byte. Where there is none, the place after it is LOST.
-pub fn file_word(s: &[u8], at: usize, sep: u8) -> FileWord
-    ensures { result ≡ file_at s.now at sep }
+// A file after a separating byte: where its digits begin.
+#[tactic(auto, unfolding(crate::specs::Files::file_at))]
+pub fn file_word(r: &mut Reader<'_>, sep: u8) -> Option<usize>
+    ensures read { read_as r.new.at result ≡ file_at r.old.s.now r.old.at sep }
+    ensures same { r.new.s.now ≡ r.old.s.now }
 {
-    let Step::At(from) = after(s, at, sep) else {
-        return FileWord {
-            at: LOST,
-            next: LOST,
-        };
-    };
-    let dash = after(s, from, b'-');
-    if let Step::At(next) = dash {
-        return FileWord { at: next, next };
+    if let Some(()) = r.mark(sep, b'-') {
+        return Some(r.at);
     }
-    let next = digits_end(s, from);
+    let from = after(r.s, r.at, sep)?;
+    let next = digits_end(r.s, from);
     if next == from {
-        return FileWord {
-            at: LOST,
-            next: LOST,
-        };
+        return None;
     }
-    FileWord { at: from, next }
+    r.at = next;
+    Some(from)
 }
 
 // The bytes whose digits begin at this place, in a list that has room for them: how many are kept.
+#[tactic(auto, using(crate::proofs::Pairs::kept_stop, crate::proofs::Pairs::kept_more), unfolding(crate::specs::Files::kept_from))]
 fn store(s: &[u8], at: usize, file: &mut [u8]) -> usize
     requires { 1292 ≤ length file.old }
     ensures { take result file.new ≡ kept_from s.now at }
 {
-    let mut i = at;
-    let mut k: usize = 0;
-    while k < MOST_FILE {
-        let byte = pair(s, i);
-        if NO_BYTE <= byte {
+    let mut next = at;
+    for k in 0..MOST_FILE {
+        let Some(byte) = pair(s, next) else {
             return k;
-        }
-        file[k] = byte as u8;
-        i += 2;
-        k += 1;
+        };
+        file[k] = byte;
+        next += 2;
     }
-    k
+    MOST_FILE
 }
 
 // The bytes whose digits begin at this place, at most 1,292: how many there are.

@@ -6,7 +6,6 @@ ghost use Rattle.std.specs.Prelude.{◌≡◌, ◌≤◌, take};
 ghost use Rattle.text_lending.specs.LentTo.{buckets_held, lent_to};
 ghost use Rattle.text_lending.specs.Lengths.{buckets_lent, cut_to, lengths_for, files_lent, places_from};
 
-use base::{least_usize, less_usize, product_usize, sum_usize};
 use rules_record::Inputs;
 use text_requests::Call;
 
@@ -40,6 +39,20 @@ pub type Heard = [u32; 524_288];
 // The flows of a delay file that is read, or a file that is written.
 pub type Bytes = [u8; 1_287];
 
+// The lists, lent together.
+#[derive(Drop)]
+pub struct Lists<'a> {
+    pub starts: &'a mut Seconds,
+    pub totals: &'a mut Seconds,
+    pub counts: &'a mut Counts,
+    pub sums: &'a mut Sums,
+    pub times: &'a mut Times,
+    pub peaks: &'a mut Peaks,
+    pub commands: &'a mut Words,
+    pub bytes: &'a mut Bytes,
+    pub heard: &'a mut Heard,
+}
+
 // The lengths that a call asks for.
 #[derive(Clone, Copy)]
 pub struct Sizes {
@@ -67,6 +80,7 @@ pub struct Span {
 
 // The buckets a second of windows with these settings, as the library counts them; none where no supervisor has such an offset or maximum, or the
 // width is 0: the call is refused then before its lists are asked for.
+#[tactic(auto, using(buckets::proofs::Told::reaches_told), unfolding(crate::specs::Lengths::buckets_lent))]
 pub fn buckets(offset: u32, maximum: u32, width: u32) -> usize
     ensures { result ≡ buckets_lent offset maximum width }
 {
@@ -84,26 +98,28 @@ pub fn cut(length: usize, short: bool) -> usize
     ensures { result ≡ cut_to length short }
 {
     if short {
-        return less_usize(length, 1);
+        return length.saturating_sub(1);
     }
     length
 }
 
 // For n inputs and so many buckets a second.
+#[tactic(auto, unfolding(crate::specs::Lengths::lengths_for))]
 pub fn lengths(n: usize, buckets: usize, short: bool) -> Sizes
     ensures { result ≡ lengths_for n buckets short }
 {
-    let seconds = product_usize(n, 11);
+    let seconds = n.saturating_mul(11);
     Sizes {
         seconds: cut(seconds, short),
-        counts: cut(product_usize(seconds, buckets), short),
-        sums: cut(product_usize(n, buckets), short),
-        peaks: cut(product_usize(n, 600), short),
-        words: cut(product_usize(n, 12), short),
+        counts: cut(seconds.saturating_mul(buckets), short),
+        sums: cut(n.saturating_mul(buckets), short),
+        peaks: cut(n.saturating_mul(600), short),
+        words: cut(n.saturating_mul(12), short),
     }
 }
 
 // The buckets a second of a record's windows.
+#[tactic(auto, unfolding(crate::specs::LentTo::buckets_held))]
 pub fn buckets_in(inputs: Inputs) -> usize
     ensures { result ≡ buckets_held inputs }
 {
@@ -112,6 +128,7 @@ pub fn buckets_in(inputs: Inputs) -> usize
 }
 
 // The lengths of the lists that a call asks for: `new` by its settings, every other by the record.
+#[tactic(auto, unfolding(crate::specs::LentTo::by_settings, crate::specs::LentTo::by_record))]
 pub fn sizes_for(call: Call, inputs: Inputs, short: bool) -> Sizes
     ensures { result ≡ lent_to call inputs short }
 {
@@ -124,6 +141,7 @@ pub fn sizes_for(call: Call, inputs: Inputs, short: bool) -> Sizes
 }
 
 // The lengths of the lists that the reader and the writer of a delay file ask for.
+#[tactic(auto, unfolding(crate::specs::Lengths::files_lent))]
 pub fn file_sizes(short: bool) -> FileSizes
     ensures { result ≡ files_lent short }
 {
@@ -138,16 +156,17 @@ pub fn file_sizes(short: bool) -> FileSizes
 pub fn first_u32(s: &[u32], n: usize) -> &[u32]
     ensures { result.now ≡ take n s.now }
 {
-    let end = least_usize(n, s.len());
+    let end = n.min(s.len());
     &s[..end]
 }
 
 // So many places from `first` on, of at most `most`.
+#[tactic(auto, unfolding(crate::specs::Lengths::places_from))]
 pub fn places(first: usize, count: usize, most: usize) -> Span
     ensures value { result ≡ places_from first count most }
     ensures from_le_to { (result.from ≤ result.to) × (result.to ≤ most) }
 {
-    let to = least_usize(sum_usize(first, count), most);
-    let from = least_usize(first, most);
+    let to = first.saturating_add(count).min(most);
+    let from = first.min(most);
     Span { from, to }
 }

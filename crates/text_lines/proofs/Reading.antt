@@ -28,7 +28,7 @@ module _ (s : List ℕ) (c : Cursor) where
   bytes_stay h = rw (lt-ltb c.to (length s) h)
 
   pub cursor_moves : {seen to : ℕ} → length s ≤ c.to → seen ≡ c.seen - c.from → to ≡ c.to - c.from →
-      record { from = 0; seen = seen; to = to; ended = c.ended; found = c.found; end = c.end; next = c.next; dropped = c.dropped } ≡ moved_cursor (length s) c
+      record { from = 0; seen = seen; to = to; ended = c.ended; dropped = c.dropped } ≡ moved_cursor (length s) c
   unfolding moved_cursor
   cursor_moves h e f = rw (le-ltb c.to (length s) h, e, f)
 
@@ -47,23 +47,22 @@ none_came from got to e =
 
 pub reads_after : (m : Cursor) {d : Cursor} (s : List ℕ) {u t : List ℕ} {got to : ℕ} → m ≡ d → s ≡ u → m.to < 2 ^ 64 → length s < 2 ^ 64 →
     (got ≤ length s - m.to) × (take m.to t ≡ take m.to s) → to ≡ min (m.to + got) (2 ^ 64 - 1) →
-    ReadAfter d u record { from = m.from; seen = m.seen; to = to; ended = eqb got 0; found = m.found; end = m.end; next = m.next; dropped = m.dropped } t
+    ReadAfter d u record { from = m.from; seen = m.seen; to = to; ended = eqb got 0; dropped = m.dropped } t
 reads_after m s {t = t} {got = got} {to = to} e f b l g q =
     let exact : to ≡ m.to + got = omega (arith, g.0) in
     rw
     (← e, ← f)
     (record {
       cursor = ap
-          (λ (ended : Bool). record { from = m.from; seen = m.seen; to = to; ended = ended; found = m.found; end = m.end; next = m.next; dropped = m.dropped })
+          (λ (ended : Bool). record { from = m.from; seen = m.seen; to = to; ended = ended; dropped = m.dropped })
           (none_came m.to got to exact);
       onwards = omega arith;
       inside = omega (arith, g.0);
       stays = g.1;
     })
 
--- a line that was found stays found, and one of which a part was dropped stays dropped
-pub reading_keeps : (size : ℕ) (c : Cursor) {s : List ℕ} {r : Cursor} {t : List ℕ} → ReadAfter (moved_cursor size c) s r t → (r.found ≡ c.found) × (r.dropped ≡ c.dropped)
+-- a line of which a part was dropped stays dropped
+pub reading_keeps : (size : ℕ) (c : Cursor) {s : List ℕ} {r : Cursor} {t : List ℕ} → ReadAfter (moved_cursor size c) s r t → r.dropped ≡ c.dropped
 unfolding moved_cursor
 reading_keeps size c h =
-    let kept = pick_all (λ (m : Cursor). (m.found ≡ c.found) × (m.dropped ≡ c.dropped)) (ltb c.to size) {x = c} {y = moved_down c} (refl, refl) (refl, refl) in
-    (ap (λ (r : Cursor). r.found) h.cursor ∙ kept.0, ap (λ (r : Cursor). r.dropped) h.cursor ∙ kept.1)
+    let kept = pick_all (λ (m : Cursor). m.dropped ≡ c.dropped) (ltb c.to size) {x = c} {y = moved_down c} refl refl in ap (λ (r : Cursor). r.dropped) h.cursor ∙ kept

@@ -1,35 +1,36 @@
 -- What is printed is read back: the text of a number, scanned in its base, is that number. Assumes nothing.
-use Prim.Native.Nat.{ℕ, zero, suc, ◌+◌, ◌*◌, ◌/◌, ◌%◌, ◌^◌, ◌<◌, ◌≤◌}
+use Prim.Native.Nat.{ℕ, zero, suc, ◌+◌, ◌-◌, ◌*◌, ◌/◌, ◌%◌, ◌^◌, ◌<◌, ◌≤◌}
 use mathlib.Core.Bool.{true, false}
 use mathlib.Core.Path.{◌≡◌, sym, ap, ◌∙◌}
 use mathlib.Core.List.{List, [], ◌∷◌}
 use native.Mathlib.Numerals.{add-one}
 use native.Mathlib.Nat.{pow-zero, pow-suc, add-suc, suc-add, div-add-mod', mod-lt, div-eq_of_lt, div-le_self, div-lt_iff_lt-mul}
 use native.Mathlib.Omega.{arith}
-use borrow.Author.Tests.{eqb-true, eqb-false, lt-ltb, le-ltb, le-leb, lt-leb}
+use borrow.Author.Tests.{eqb-true, eqb-false, lt-ltb, le-ltb, le-leb}
 use lib.Dec.{eqb}
 use lib.ListN.{length}
 use Rattle.base.proofs.Choices.{by_le, by_bool}
-use Rattle.text_scan.specs.declared.Number.TheVariants.{Of}
-use Rattle.text_scan.specs.Scan.{digit_of, digits_of, number_from}
+use Rattle.std.specs.Prelude.{Option, Some}
+use Rattle.text_scan.specs.declared.Word.{Word}
+use Rattle.text_scan.specs.Scan.{word, digit_of, digits_of, number_from}
 use Rattle.text_print.specs.Print.{glyph_of, spells, spelled, digits_text, decimal_text, hex_text}
 use Rattle.text_scan.proofs.Scanning.{digit_decimal, digit_letter, closed_some}
 use Rattle.text_print.proofs.Printing.{spells_last, spells_more}
 
 -- a digit's byte has the digit's value
-pub digit_of_glyph : (d : ℕ) → d < 16 → digit_of (glyph_of d) ≡ d
+pub digit_of_glyph : (d base : ℕ) → d < base → base ≤ 16 → digit_of (glyph_of d) base ≡ Some d
 unfolding glyph_of
-digit_of_glyph d h =
+digit_of_glyph d base h k =
     by_le
     10
     d
-    (λ l. rw (le-ltb d 10 l) (sym (digit_letter (87 + d) (omega arith) (omega arith)) ∙ omega arith))
-    (λ l. rw (lt-ltb d 10 l) (sym (digit_decimal (48 + d) (omega arith) (omega arith)) ∙ omega arith))
+    (λ l. let e : 87 + d - 87 ≡ d = omega arith in rw (le-ltb d 10 l) (sym (digit_letter (87 + d) base (omega arith) (omega arith) (omega arith)) ∙ ap (λ (n : ℕ). Some n) e))
+    (λ l. let e : 48 + d - 48 ≡ d = omega arith in rw (lt-ltb d 10 l) (sym (digit_decimal (48 + d) base (omega arith) (omega arith) (omega arith)) ∙ ap (λ (n : ℕ). Some n) e))
 
 module _ (base most : ℕ) (large : 1 < base) (small : base ≤ 16) where
   -- scanning takes one more digit
   taken : (value i d : ℕ) (xs : List ℕ) → d < base → value * base + d ≤ most → digits_of base most 0 value i (glyph_of d ∷ xs) ≡ digits_of base most 0 (value * base + d) (suc i) xs
-  taken value i d xs h k = rw (digit_of_glyph d (omega arith), lt-leb base d h, le-leb (value * base + d) most k)
+  taken value i d xs h k = rw (digit_of_glyph d base h small, le-leb (value * base + d) most k)
 
   -- the digits of n before others: scanning comes to those with the value n, c places on
   pub record Read (n i : ℕ) (text xs : List ℕ) : Type 0 where
@@ -96,16 +97,16 @@ module _ (base most : ℕ) (large : 1 < base) (small : base ≤ 16) where
       (λ e. many_left k n i xs m (eqb-false (n / base) 0 e) (read_back k (n / base) i (glyph_of (n % base) ∷ xs) (fewer k n h) (omega (arith, div-le_self n base))))
 
   -- the whole text of a number is read as that number, up to the text's end
-  pub text_read_back : (n : ℕ) → n < base ^ 20 → n ≤ most → number_from (digits_text base 1 n) 0 base most ≡ Of n (length (digits_text base 1 n))
+  pub text_read_back : (n : ℕ) → n < base ^ 20 → n ≤ most → number_from (digits_text base 1 n) 0 base most ≡ Some (word n (length (digits_text base 1 n)))
   unfolding number_from digits_text
   text_read_back n h m =
       let r : Read n 0 (spelled base 1 20 n []) [] = read_back 19 n 0 [] h m in
       let c : 0 + r.count ≡ length (spelled base 1 20 n []) = omega (arith, r.long) in
-      r.value ∙ sym (closed_some 0 n (0 + r.count) (omega (arith, r.some))) ∙ ap (λ (to : ℕ). Of n to) c
+      r.value ∙ sym (closed_some 0 n (0 + r.count) (omega (arith, r.some))) ∙ ap (λ (to : ℕ). Some (word n to)) c
 
 -- 64 bits in decimal and in hex
-pub decimal_read_back : (n most : ℕ) → n < 18446744073709551616 → n ≤ most → number_from (decimal_text n) 0 10 most ≡ Of n (length (decimal_text n))
+pub decimal_read_back : (n most : ℕ) → n < 18446744073709551616 → n ≤ most → number_from (decimal_text n) 0 10 most ≡ Some (word n (length (decimal_text n)))
 decimal_read_back n most h m = text_read_back 10 most (omega arith) (omega arith) n (omega arith) m
 
-pub hex_read_back : (n most : ℕ) → n < 18446744073709551616 → n ≤ most → number_from (hex_text n) 0 16 most ≡ Of n (length (hex_text n))
+pub hex_read_back : (n most : ℕ) → n < 18446744073709551616 → n ≤ most → number_from (hex_text n) 0 16 most ≡ Some (word n (length (hex_text n)))
 hex_read_back n most h m = text_read_back 16 most (omega arith) (omega arith) n (omega arith) m

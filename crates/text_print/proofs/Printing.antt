@@ -2,15 +2,16 @@
 use Prim.Native.Nat.{ℕ, suc, ◌+◌, ◌-◌, ◌/◌, ◌%◌, ◌<◌, ◌≤◌, min}
 use mathlib.Core.Bool.{Bool, true, false}
 use mathlib.Core.Path.{◌≡◌, refl, sym, ap, ◌∙◌, subst}
-use mathlib.Core.List.{List, [], ◌∷◌, ◌++◌}
-use native.Mathlib.Numerals.{add-one}
-use native.Mathlib.Nat.{add-zero, add-suc, suc-add}
+use mathlib.Core.List.{List, [], ◌∷◌, ◌++◌, append_assoc}
 use native.Mathlib.Omega.{arith}
-use borrow.Author.Tests.{eq-eqb, ne_eqb, lt-ltb, le-ltb}
+use borrow.Rule.Slice.PartMut.{put_mid}
+use borrow.Author.Tests.{eq-eqb, ne_eqb}
 use lib.Dec.{leb}
-use lib.ListN.{length, get_or, set, drop, length-set, length-drop, length-append, drop_of_length-le}
-use lib.Seq.{drop-cons, sets, set_out, length-sets, get_or-set_same, drop-set-lt}
+use lib.ListN.{length, set, take, drop, length-set, length-take, length-drop, length-append, take-append-drop}
+use Rattle.std.proofs.Common.{drop-drop}
+use lib.Seq.{drop-cons, sets, sets-eq, set_out, take_all, length-sets, get_or-set_same, drop-set-lt}
 use Rattle.base.proofs.Choices.{by_le}
+use Rattle.base.proofs.Words.{sets_append}
 use Rattle.text_print.specs.Print.{Page, page, printed, glyph_of, spells, spelled, digits_text, hex_text, whole_hex_text, byte_text, flow_text}
 
 -- ---- a text in a buffer
@@ -18,10 +19,6 @@ use Rattle.text_print.specs.Print.{Page, page, printed, glyph_of, spells, spelle
 pub sets_out : (l : List ℕ) (i : ℕ) (vs : List ℕ) → length l ≤ i → sets l i vs ≡ l
 sets_out l i [] h = refl
 sets_out l i (v ∷ vs) h = rw (set_out l i v h) (sets_out l (suc i) vs (omega arith))
-
-pub sets_append : (l : List ℕ) (i : ℕ) (vs ws : List ℕ) → sets l i (vs ++ ws) ≡ sets (sets l i vs) (i + length vs) ws
-sets_append l i [] ws = rw (add-zero i)
-sets_append l i (v ∷ vs) ws = sets_append (set l i v) (suc i) vs ws ∙ ap (λ (k : ℕ). sets (sets (set l i v) (suc i) vs) k ws) (suc-add i (length vs) ∙ sym (add-suc i (length vs)))
 
 same_page : {i j : ℕ} {xs ys : List ℕ} → i ≡ j → xs ≡ ys → page i xs ≡ page j ys
 same_page p q = rw (p, q)
@@ -46,47 +43,58 @@ printed_after a b p = by_le (p.place + length a) (length p.bytes) inside beyond
     inside : p.place + length a ≤ length p.bytes → Same
     inside h =
         let e : min (p.place + length a) (length p.bytes) ≡ p.place + length a = omega arith in
-        same_page (rw (long, length-append a b, e) (omega arith)) (rw e (sym (sets_append p.bytes p.place a b)))
+        same_page (rw (long, length-append a b, e) (omega arith)) (rw e (sets_append p.bytes p.place a b))
 
     beyond : length p.bytes < p.place + length a → Same
     beyond h =
         let e : min (p.place + length a) (length p.bytes) ≡ length p.bytes = omega arith in
         same_page
         (rw (long, length-append a b, e) (omega arith))
-        (rw e (sets_out laid (length p.bytes) b (omega (arith, long))) ∙ sym (sets_append p.bytes p.place a b ∙ sets_out laid (p.place + length a) b (omega (arith, long))))
+        (rw e (sets_out laid (length p.bytes) b (omega (arith, long))) ∙ sym (sym (sets_append p.bytes p.place a b) ∙ sets_out laid (p.place + length a) b (omega (arith, long))))
 
--- a byte, and a text that begins past the end
-module _ (s : List ℕ) (at : ℕ) where
-  pub byte_fits : (b : ℕ) → at < length s → page (at + 1) (set s at b) ≡ printed (b ∷ []) (page at s)
+-- what fits of a text is laid into its part of the buffer
+module _ (s text : List ℕ) (place : ℕ) where
+  inside : (vs : List ℕ) → place + length vs ≤ length s → sets s place vs ≡ put_mid place (length vs) s vs
+  inside vs h = sets-eq vs s place h ∙ append_assoc (take place s) vs (drop (place + length vs) s) ∙ ap (λ (r : List ℕ). take place s ++ (vs ++ r)) (sym (drop-drop (length vs) place s))
+
+  in_two : (k : ℕ) → sets s place text ≡ sets (sets s place (take k text)) (place + length (take k text)) (drop k text)
+  in_two k = ap (sets s place) (sym (take-append-drop k text)) ∙ sym (sets_append s place (take k text) (drop k text))
+
+  -- what fits is laid, and the rest changes nothing
+  cut_off : (k : ℕ) → length s ≤ place + length (take k text) → sets s place text ≡ sets s place (take k text)
+  cut_off k h = in_two k ∙ sets_out (sets s place (take k text)) (place + length (take k text)) (drop k text) (rw (length-sets s place (take k text)) h)
+
+  pub laid : (at fitting k : ℕ) (ys : List ℕ) → at ≡ min place (length s) → fitting ≡ min (length text) (length s - at) → k ≡ fitting → ys ≡ take fitting text → page (at + fitting) (put_mid at k s ys) ≡ printed text (page place s)
   unfolding printed
-  byte_fits b h = same_page (omega arith) refl
+  laid at fitting k ys a f e y = rw (e, y) (by_le (place + length text) (length s) fits (λ u. by_le place (length s) (cut u) beyond))
+    where
+      kept : List ℕ
+      kept = take fitting text
 
-  pub text_full : (text : List ℕ) → length s ≤ at → page (length s) s ≡ printed text (page at s)
-  unfolding printed
-  text_full text h = same_page (omega arith) (sym (sets_out s at text h))
+      Same : Type 0
+      Same = page (at + fitting) (put_mid at fitting s kept) ≡ page (min (place + length text) (length s)) (sets s place text)
 
--- the text from `from` on is laid into s up to place i, where its byte j goes
-module _ (s₀ s text : List ℕ) (at from i j : ℕ) (e : sets s₀ at (drop from text) ≡ sets s i (drop j text)) where
-  pub lay_more : j < length text → sets s₀ at (drop from text) ≡ sets (set s i (get_or text j 0)) (i + 1) (drop (j + 1) text)
-  lay_more l = rw (e, drop-cons text j 0, add-one i, add-one j)
+      long : length kept ≡ fitting
+      long = rw length-take (omega arith)
 
-  pub lay_full : i + from ≡ at + j → j < length text → from ≤ length text → length s ≡ length s₀ → length s₀ ≤ i → page (length s₀) s ≡ printed (drop from text) (page at s₀)
-  unfolding printed
-  lay_full q l f m h = same_page (rw length-drop (omega arith)) (sym (e ∙ sets_out s i (drop j text) (omega arith)))
+      fits : place + length text ≤ length s → Same
+      fits u =
+          let p : at ≡ place = omega arith in
+          let n : fitting ≡ length text = omega arith in
+          same_page (omega arith) (rw (n, p, take_all (length text) text (omega arith)) (sym (inside text u)))
 
-  pub lay_end : i + from ≡ at + j → length text ≤ j → j ≤ length text → from ≤ length text → i ≤ length s₀ → page i s ≡ printed (drop from text) (page at s₀)
-  unfolding printed
-  lay_end q l m f h = same_page (rw length-drop (omega arith)) (sym (rw (e, drop_of_length-le text l)))
+      cut : length s < place + length text → place ≤ length s → Same
+      cut u h =
+          let p : at ≡ place = omega arith in
+          same_page (omega arith) (sym (cut_off fitting (rw long (omega arith)) ∙ inside kept (rw long (omega arith)) ∙ rw (long, p)))
+
+      beyond : length s < place → Same
+      beyond h =
+          let p : at ≡ length s = omega arith in
+          let n : fitting ≡ 0 = omega arith in
+          same_page (omega arith) (rw (n, p) (take-append-drop (length s) s ∙ sym (sets_out s place text (omega arith))))
 
 -- ---- digits
-pub glyph_decimal : (d : ℕ) → d < 10 → 48 + d ≡ glyph_of d
-unfolding glyph_of
-glyph_decimal d h = rw (lt-ltb d 10 h)
-
-pub glyph_letter : (d : ℕ) → 10 ≤ d → 87 + d ≡ glyph_of d
-unfolding glyph_of
-glyph_letter d h = rw (le-ltb d 10 h)
-
 module _ (rest count least : ℕ) where
   pub spells_last : rest ≡ 0 → leb least count ≡ spells rest count least
   unfolding spells
@@ -115,16 +123,15 @@ module _ (bytes : List ℕ) (base least rest g i : ℕ) {x : List ℕ} (e : x �
   one_less : i ≡ suc (i - 1)
   one_less = omega arith
 
-  pub digits_stop : b ≡ true → drop (i - 1) (set bytes (i - 1) g) ≡ x
-  digits_stop = stop_at bytes base least rest g (i - 1) (subst (λ (m : ℕ). x ≡ spelled base least m rest (drop m bytes)) one_less e) (omega arith) l q t
+  pub digits_stop : b ≡ true → take (20 - (i - 1)) (drop (i - 1) (set bytes (i - 1) g)) ≡ x
+  digits_stop h = take_all (20 - (i - 1)) (drop (i - 1) (set bytes (i - 1) g)) (rw (length-drop, length-set) (omega arith)) ∙ stop_at bytes base least rest g (i - 1) (subst (λ (m : ℕ). x ≡ spelled base least m rest (drop m bytes)) one_less e) (omega arith) l q t h
 
   pub digits_more : b ≡ false → x ≡ spelled base least (i - 1) (rest / base) (drop (i - 1) (set bytes (i - 1) g))
   digits_more = more_at bytes base least rest g (i - 1) (subst (λ (m : ℕ). x ≡ spelled base least m rest (drop m bytes)) one_less e) (omega arith) l q t
 
-pub digits_end_law : (bytes : List ℕ) (base least rest i : ℕ) {x : List ℕ} → x ≡ spelled base least i rest (drop i bytes) → i ≤ 0 → drop i bytes ≡ x
+pub digits_end_law : (bytes : List ℕ) (base least rest i : ℕ) {x : List ℕ} → x ≡ spelled base least i rest (drop i bytes) → i ≤ 0 → bytes ≡ x
 digits_end_law bytes base least rest i {x = x} e h =
-    let z : i ≡ 0 = omega arith in
-    sym (subst (λ (m : ℕ). x ≡ spelled base least m rest (drop m bytes)) z e ∙ ap (λ (m : ℕ). drop m bytes) (sym z))
+    let z : i ≡ 0 = omega arith in sym (subst (λ (m : ℕ). x ≡ spelled base least m rest (drop m bytes)) z e)
 
 -- a byte has its leading zero
 pub byte_both_digits : byte_text 10 ≡ 48 ∷ 97 ∷ []

@@ -1,66 +1,131 @@
--- A tick by what its words were found to be, and that no other call has stored lags. Assumes nothing.
+-- No call but a tick has stored lags. Assumes nothing.
+use Rattle.std.specs.Prelude.{Option, None, Some, IfSome, option_and_then, option_map, unwrap_or}
+use Rattle.std.specs.Option.{option_or}
 use Prim.Native.Nat.{ℕ}
-use mathlib.Core.Path.{◌≡◌, refl, ap}
+use mathlib.Core.Path.{◌≡◌, refl}
 use mathlib.Core.Bool.{Bool, true, false}
 use mathlib.Core.List.{List}
 use lib.Dec.{eqb}
-use lib.ListN.{take}
 use Rattle.base.specs.Choice.{pick}
-use Rattle.text_words.specs.declared.Word.{Word}
-use Rattle.text_words.specs.Words.{lost, below}
-use Rattle.text_requests.specs.declared.Call.TheVariants.{Tick}
+use Rattle.base.proofs.Choices.{pick_all}
+use Rattle.text_scan.specs.declared.Word.{Word}
+use Rattle.text_scan.specs.Scan.{word, ends_at}
+use Rattle.text_requests.specs.declared.Call.{Call}
 use Rattle.text_requests.specs.declared.Known.{Known}
-use Rattle.text_requests.specs.declared.lists.Found.{Found}
-use Rattle.text_requests.specs.Forms.{space, u64_at}
-use Rattle.text_requests.specs.Lists.{Lags, heard_as, looks_end, lags_at}
-use Rattle.text_read.specs.declared.supervisor.CallLine.{CallLine}
-use Rattle.text_read.specs.declared.supervisor.TickName.{TickName}
-use Rattle.text_read.specs.Supervisor.{tick_name, tick_line, tick_said, lags_of, or_else, new_line, route_line, update_line, confirm_line, settled_line, status_line, has_line, dump_line, dwrite1_line, put_line, change_lines, ask_lines, call_line}
+use Rattle.text_read.specs.Supervisor.{lags_of, tick_said, tick_line, new_line, route_line, update_line, confirm_line, settled_line, status_line, has_line, dump_line, dwrite1_line, put_line, change_lines, ask_lines, call_line}
+use Rattle.text_read.specs.Table.{Said, said_of, silent as silent_said, whole, full_line, request_at}
+use Rattle.text_read_alone.specs.Alone.{lone_line}
+use Rattle.text_requests.specs.declared.Request.TheVariants.{Bad, Full, Alone, On}
 
-module _ (s : List ℕ) (at inputs room : ℕ) {name : TickName} (n : name ≡ tick_name s at) {time : Word} (t : time ≡ u64_at s name.next space) {end : ℕ} (e : end ≡ looks_end s time.next inputs) (found : Found) (heard : List ℕ) (l : heard_as found heard ≡ lags_at s end room) {next : ℕ} (p : next ≡ below inputs 0 found.next) where
-  pub tick_told : tick_said (record { call = Tick (record { dry = name.dry; time = time.value; looks = time.next; lags = found.count }); next = next }) heard ≡ tick_line s at inputs room
-  unfolding tick_line
-  tick_told =
-      let many : found.count ≡ (lags_at s end room).count = ap (λ (x : Lags). x.count) l in
-      let list : take found.count heard ≡ (lags_at s end room).list = ap (λ (x : Lags). x.list) l in
-      let last : found.next ≡ (lags_at s end room).next = ap (λ (x : Lags). x.next) l in
-      rw (p, list, many, last, e, t, n)
+pub record Silent (line : Option (Word Call)) : Type 0 where
+  pub told : IfSome line (λ w. lags_of w.value ≡ 0)
 
--- ---- no lags
-or_silent : (first second : CallLine) → lags_of first.call ≡ 0 → lags_of second.call ≡ 0 → lags_of (or_else first second).call ≡ 0
-unfolding or_else
-or_silent first second f g = picked (eqb first.next lost)
+none_silent : Silent None
+none_silent = record { told = tt }
+
+one_silent : (call : Call) (next : ℕ) → lags_of call ≡ 0 → Silent (Some (word call next))
+one_silent call next e = record { told = e }
+
+-- a line that is read word by word is silent if it is with any words
+read_all : {A : Type 0} (o : Option A) (f : A → Option (Word Call)) → ((x : A) → Silent (f x)) → Silent (option_and_then f o)
+read_all None f h = none_silent
+read_all (Some x) f h = h x
+
+or_all : (first second : Option (Word Call)) → Silent first → Silent second → Silent (option_or first second)
+or_all None second f g = g
+or_all (Some x) second f g = f
+
+pick_silent : (b : Bool) (x y : Option (Word Call)) → Silent x → Silent y → Silent (pick b x y)
+pick_silent b x y p q = pick_all Silent b p q
+
+ruleset silent = (none_silent, one_silent, read_all, pick_silent, refl)
+
+module _ (s : List ℕ) (at : ℕ) where
+  route_silent : Silent (route_line s at)
+  unfolding route_line
+  route_silent = search silent depth 12
+
+  update_silent : Silent (update_line s at)
+  unfolding update_line
+  update_silent = search silent
+
+  confirm_silent : Silent (confirm_line s at)
+  unfolding confirm_line
+  confirm_silent = search silent
+
+  status_silent : Silent (status_line s at)
+  unfolding status_line
+  status_silent = search silent
+
+  has_silent : Silent (has_line s at)
+  unfolding has_line
+  has_silent = search silent
+
+  settled_silent : Silent (settled_line s at)
+  unfolding settled_line
+  settled_silent = search silent
+
+  dump_silent : Silent (dump_line s at)
+  unfolding dump_line
+  dump_silent = search silent
+
+  dwrite1_silent : Silent (dwrite1_line s at)
+  unfolding dwrite1_line
+  dwrite1_silent = search silent
+
+  new_silent : Silent (new_line s at)
+  unfolding new_line
+  new_silent = search silent depth 12
+
+  put_silent : (inputs buckets : ℕ) → Silent (put_line s at inputs buckets)
+  unfolding put_line
+  put_silent inputs buckets = search silent
+
+  change_silent : Silent (change_lines s at)
+  unfolding change_lines
+  change_silent = or_all _ _ (or_all _ _ route_silent update_silent) confirm_silent
+
+  ask_silent : Silent (ask_lines s at)
+  unfolding ask_lines
+  ask_silent = or_all _ _ (or_all _ _ (or_all _ _ (or_all _ _ status_silent has_silent) settled_silent) dump_silent) dwrite1_silent
+
+  line_silent : (known : Known) → Silent (call_line s at known)
+  unfolding call_line
+  line_silent known =
+      pick_all Silent (eqb known.inputs 0) new_silent (or_all _ _ (or_all _ _ (or_all _ _ new_silent change_silent) ask_silent) (put_silent known.inputs known.buckets))
+
+pub call_silent : (s : List ℕ) (at : ℕ) (known : Known) {call : Call} → Some call ≡ whole s (call_line s at known) → lags_of call ≡ 0
+unfolding whole
+call_silent s at known {call} = told (call_line s at known) (line_silent s at known)
   where
-    picked : (b : Bool) → lags_of (pick b second first).call ≡ 0
-    picked true = g
-    picked false = f
+    told : (line : Option (Word Call)) → Silent line → Some call ≡ option_and_then (λ w. pick (ends_at s w.next) (Some w.value) None) line → lags_of call ≡ 0
+    told None h e = cc
+    told (Some w) h e = ended (ends_at s w.next) e
+      where
+        ended : (b : Bool) → Some call ≡ pick b (Some w.value) None → lags_of call ≡ 0
+        ended true q = let g = h.told in cc
+        ended false q = cc
 
-change_silent : (s : List ℕ) (at : ℕ) → lags_of (change_lines s at).call ≡ 0
-unfolding change_lines route_line update_line confirm_line
-change_silent s at = or_silent _ _ (or_silent _ _ refl refl) refl
+-- ---- a request, by what its lines were found to be
+module _ (s : List ℕ) (heard : List ℕ) where
+  ticked_whole : (line : Option (Word Call)) → option_and_then (λ t. pick (ends_at s t.line.next) (Some (record { request = On t.line.value; lags = t.lags })) None) (tick_said line heard) ≡ option_map (λ call. said_of (On call) heard) (whole s line)
+  unfolding whole
+  ticked_whole None = refl
+  ticked_whole (Some w) = ended (ends_at s w.next)
+    where
+      ended : (b : Bool) → ◌≡◌ {A = Option Said} (pick b (Some (said_of (On w.value) heard)) None) (option_map (λ call. said_of (On call) heard) (pick b (Some w.value) None))
+      ended true = refl
+      ended false = refl
 
-ask_silent : (s : List ℕ) (at : ℕ) → lags_of (ask_lines s at).call ≡ 0
-unfolding ask_lines status_line has_line settled_line dump_line dwrite1_line
-ask_silent s at = or_silent _ _ (or_silent _ _ (or_silent _ _ (or_silent _ _ refl refl) refl) refl) refl
-
-new_silent : (s : List ℕ) (at : ℕ) → lags_of (new_line s at).call ≡ 0
-unfolding new_line
-new_silent s at = refl
-
-put_silent : (s : List ℕ) (at inputs buckets : ℕ) → lags_of (put_line s at inputs buckets).call ≡ 0
-unfolding put_line
-put_silent s at inputs buckets = refl
-
-abbrev all_lines : (s : List ℕ) (at : ℕ) (known : Known) → CallLine
-all_lines s at known = or_else (or_else (or_else (new_line s at) (change_lines s at)) (ask_lines s at)) (put_line s at known.inputs known.buckets)
-
-line_silent : (s : List ℕ) (at : ℕ) (known : Known) → lags_of (call_line s at known).call ≡ 0
-unfolding call_line
-line_silent s at known = picked (eqb known.inputs 0)
-  where
-    picked : (b : Bool) → lags_of (pick b (new_line s at) (all_lines s at known)).call ≡ 0
-    picked true = new_silent s at
-    picked false = or_silent _ _ (or_silent _ _ (or_silent _ _ (new_silent s at) (change_silent s at)) (ask_silent s at)) (put_silent s at known.inputs known.buckets)
-
-pub call_silent : (s : List ℕ) (at : ℕ) (known : Known) {line : CallLine} → line ≡ call_line s at known → lags_of line.call ≡ 0
-call_silent s at known e = rw e (line_silent s at known)
+  pub requested : (at : ℕ) (known : Known) (room : ℕ) (line : Option (Word Call)) → tick_said line heard ≡ tick_line s at known.inputs room → request_at s at known room ≡
+      unwrap_or
+      (option_or
+      (option_or
+      (option_or
+      (option_map (λ call. said_of (On call) heard) (whole s line))
+      (option_map (λ call. silent_said (On call)) (whole s (call_line s at known))))
+      (option_map (λ lone. silent_said (Alone lone)) (whole s (lone_line s at known.lone_buckets))))
+      (option_map (λ bit. silent_said (Full bit)) (whole s (full_line s at))))
+      (silent_said Bad)
+  unfolding request_at
+  requested at known room line e = rw (← e, ticked_whole line)

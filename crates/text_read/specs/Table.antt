@@ -1,16 +1,16 @@
 -- Which line gives which request (compare/README.md, "The protocol"): a line that ends where its words end, else a bad line. Assumes nothing.
-use Rattle.std.specs.Prelude.{ℕ, Bool, true, false, List, [], eqb, take}
+use Rattle.std.specs.Prelude.{ℕ, Bool, true, false, List, [], take, Option, None, Some, option_map, unwrap_or}
+use Rattle.std.specs.Option.{option_or}
 use Rattle.base.specs.Choice.{pick}
-use Rattle.text_scan.specs.Scan.{ends_at}
-use Rattle.text_words.specs.declared.BitWord.{BitWord}
-use Rattle.text_words.specs.Words.{lost}
+use Rattle.text_scan.specs.declared.Word.{Word}
+use Rattle.text_scan.specs.Scan.{word, ◌>>=◌, ends_at}
+use Rattle.text_words.specs.Words.{bit_at}
 use Rattle.text_requests.specs.declared.Known.{Known}
 use Rattle.text_requests.specs.declared.Line.{Line}
 use Rattle.text_requests.specs.declared.Request.{Request}
 use Rattle.text_requests.specs.declared.Request.TheVariants.{Bad, Flush, Full, Alone, On}
-use Rattle.text_requests.specs.Forms.{space, bit_at, text_end, word_end}
+use Rattle.text_requests.specs.Forms.{space, text_end, word_end}
 use Rattle.text_read_alone.specs.Alone.{lone_line}
-use Rattle.text_read.specs.declared.Begins.{Begins}
 use Rattle.text_read.specs.Supervisor.{lags_of, tick_line, call_line}
 
 -- a request, and the lags that a tick has stored
@@ -34,30 +34,33 @@ abbrev pub silent : Request → Said
 silent request = record { request = request; lags = [] }
 
 -- `full`: bit
-unfoldable pub full_line : (s : List ℕ) (at : ℕ) → BitWord
-full_line s at = bit_at s (word_end s at "full") space
+unfoldable pub full_line : (s : List ℕ) (at : ℕ) → Option (Word Bool)
+full_line s at = do
+  name ← word_end s at "full"
+  bit_at s name space
 
--- this, if the line ends here, else what else there may be
-abbrev pub ended : (s : List ℕ) (at : ℕ) (this other : Said) → Said
-ended s at this other = pick (ends_at s at) this other
+-- what was read, if the line ends after it
+unfoldable pub whole : {A : Type 0} → (s : List ℕ) → Option (Word A) → Option A
+whole s read = do
+  w ← read
+  pick (ends_at s w.next) (Some w.value) None
+
+-- the first that is there
+infixl 20 ◌or◌
+abbrev ◌or◌ : (first second : Option Said) → Option Said
+first or second = option_or first second
 
 unfoldable pub request_at : (s : List ℕ) (at : ℕ) (known : Known) (room : ℕ) → Said
 request_at s at known room =
-    let ticked = tick_line s at known.inputs room in
-    let called = call_line s at known in
-    let alone = lone_line s at known.lone_buckets in
-    let full = full_line s at in
-    ended s ticked.line.next (record { request = On ticked.line.call; lags = ticked.lags })
-    (ended s called.next (silent (On called.call))
-    (ended s alone.next (silent (Alone alone.lone))
-    (ended s full.next (silent (Full full.value))
-    (silent Bad))))
+    let ticked = tick_line s at known.inputs room >>= λ t. pick (ends_at s t.line.next) (Some (record { request = On t.line.value; lags = t.lags })) None in
+    let called = option_map (λ call. silent (On call)) (whole s (call_line s at known)) in
+    let alone = option_map (λ lone. silent (Alone lone)) (whole s (lone_line s at known.lone_buckets)) in
+    let full = option_map (λ bit. silent (Full bit)) (whole s (full_line s at)) in
+    unwrap_or (ticked or called or alone or full) (silent Bad)
 
 -- ---- a whole line: `flush` alone, or `!5 ` where the lists are lent one place short, then a request
-unfoldable pub prefix_at : (s : List ℕ) → Begins
-prefix_at s =
-    let at = text_end s 0 "!5 " in
-    pick (eqb at lost) (record { short = false; at = 0 }) (record { short = true; at = at })
+unfoldable pub prefix_at : (s : List ℕ) → Word Bool
+prefix_at s = unwrap_or (option_map (word true) (text_end s 0 "!5 ")) (word false 0)
 
 pub record LineSaid : Type 0 where
   pub short : Bool
@@ -69,6 +72,6 @@ line_said line heard = record { short = line.short; said = said_of line.request 
 unfoldable pub line_at : (s : List ℕ) (known : Known) (room : ℕ) → LineSaid
 line_at s known room =
     let begins = prefix_at s in
-    pick (ends_at s (word_end s 0 "flush"))
+    pick (unwrap_or (option_map (ends_at s) (word_end s 0 "flush")) false)
     (record { short = false; said = silent Flush })
-    (record { short = begins.short; said = request_at s begins.at known room })
+    (record { short = begins.value; said = request_at s begins.next known room })

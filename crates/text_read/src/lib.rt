@@ -3,81 +3,83 @@
 #![tactic(auto)]
 
 ghost use Rattle.std.specs.Prelude.{◌≡◌, length};
-ghost use Rattle.text_read.specs.Table.{full_line, prefix_at, said_of, request_at, line_said, line_at};
+ghost use Rattle.text_read.specs.Table.{full_line, prefix_at, whole, said_of, request_at, line_said, line_at};
 
 use text_requests::{Known, Line, Request};
-use text_scan::ends;
-use text_words::{BitWord, LOST, bit_word, text_end, word_end};
+use text_scan::{Word, after_text, after_word, ends};
+use text_words::Reader;
 
 mod supervisor;
 
-// Where a line's name begins, and whether its lists are short.
-#[derive(Clone, Copy)]
-pub struct Begins {
-    pub short: bool,
-    pub at: usize,
-}
-
-fn prefix(s: &[u8]) -> Begins
+// Where a line's request begins, and whether its lists are short.
+#[tactic(auto, unfolding(crate::specs::Table::prefix_at))]
+fn prefix(s: &[u8]) -> Word<bool>
     ensures { result ≡ prefix_at s.now }
 {
-    let at = text_end(s, 0, b"!5 ");
-    if at == LOST {
-        return Begins {
-            short: false,
-            at: 0,
-        };
+    match after_text(s, 0, b"!5 ") {
+        Some(next) => Word { value: true, next },
+        None => Word {
+            value: false,
+            next: 0,
+        },
     }
-    Begins { short: true, at }
 }
 
-fn full(s: &[u8], at: usize) -> BitWord
-    ensures { result ≡ full_line s.now at }
+#[tactic(auto, unfolding(crate::specs::Table::full_line))]
+fn full(mut r: Reader<'_>) -> Option<Word<bool>>
+    ensures { result ≡ full_line r.entry.s.now r.entry.at }
 {
-    let name = word_end(s, at, b"full");
-    bit_word(s, name, b' ')
+    r.word(b"full")?;
+    let bit = r.bit(b' ')?;
+    Some(r.found(bit))
+}
+
+// What was read, where the line ends after it.
+#[tactic(auto, unfolding(crate::specs::Table::whole))]
+fn whole<T: Copy>(s: &[u8], read: Option<Word<T>>) -> Option<T>
+    ensures { result ≡ whole s.now read }
+{
+    let w = read?;
+    if ends(s, w.next) { Some(w.value) } else { None }
 }
 
 // What stands at this place: a line that ends where its words end.
+#[tactic(auto, unfolding(crate::specs::Table::request_at))]
 fn request_at(s: &[u8], at: usize, known: Known, heard: &mut [u32; 524_288]) -> Request
     ensures { said_of result heard.new ≡ request_at s.now at known (length heard.old) }
 {
-    let ticked = supervisor::tick(s, at, known.inputs, heard);
-    if ends(s, ticked.next) {
-        let call = ticked.call;
+    let r = Reader { s, at };
+    if let Some(call) = whole(s, supervisor::tick(r, known.inputs, heard)) {
         return Request::On(call);
     }
-    let called = supervisor::call_at(s, at, known);
-    if ends(s, called.next) {
-        let call = called.call;
+    if let Some(call) = whole(s, supervisor::call_at(r, known)) {
         return Request::On(call);
     }
-    let alone = text_read_alone::lone_at(s, at, known.lone_buckets);
-    if ends(s, alone.next) {
-        let lone = alone.lone;
+    if let Some(lone) = whole(s, text_read_alone::lone_at(r, known.lone_buckets)) {
         return Request::Alone(lone);
     }
-    let bit = full(s, at);
-    if ends(s, bit.next) {
-        return Request::Full(bit.value);
+    if let Some(bit) = whole(s, full(r)) {
+        return Request::Full(bit);
     }
     Request::Bad
 }
 
 // The request of a line. A tick's lags go to `heard`.
+#[tactic(auto, unfolding(crate::specs::Table::line_at))]
 pub fn read(s: &[u8], known: Known, heard: &mut [u32; 524_288]) -> Line
     ensures { line_said result heard.new ≡ line_at s.now known (length heard.old) }
 {
-    let flush = word_end(s, 0, b"flush");
-    if ends(s, flush) {
-        return Line {
-            short: false,
-            request: Request::Flush,
-        };
+    if let Some(next) = after_word(s, 0, b"flush") {
+        if ends(s, next) {
+            return Line {
+                short: false,
+                request: Request::Flush,
+            };
+        }
     }
-    let p = prefix(s);
+    let begins = prefix(s);
     Line {
-        short: p.short,
-        request: request_at(s, p.at, known, heard),
+        short: begins.value,
+        request: request_at(s, begins.next, known, heard),
     }
 }

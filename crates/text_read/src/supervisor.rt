@@ -1,482 +1,376 @@
-// The lines of the calls on a supervisor (compare/README.md): each is its name and its words, read from place `at`. Where the name is another,
-// or a word is missing or of another form, the place after the words is LOST.
+// The lines of the calls on a supervisor (compare/README.md): each is its name and its words, read from where the reader stands. None where the
+// name is another, or a word is missing or of another form.
 ghost use Rattle.std.specs.Prelude.{◌≡◌, length};
-ghost use Rattle.text_read.specs.Supervisor.{or_else, part_or, settings_at, new_line, wanted_at, route_line, setting_at, update_line, confirm_line, settled_line, tick_name, tick_said, tick_line, status_line, has_line, dump_line, dwrite1_line, window_part, hold_part, counters_part, delays_part, sum_part, put_line, change_lines, ask_lines, call_line};
+ghost use Rattle.text_words.specs.Words.{read_as};
+ghost use Rattle.text_read.specs.Supervisor.{settings_at, new_line, source_at, wanted_at, route_line, desk_at, scored_at, setting_at, update_line, confirm_line, settled_line, tick_name, tick_said, tick_line, status_line, has_line, dump_line, dwrite1_line, window_part, hold_part, counters_part, delays_part, sum_part, put_line, change_lines, ask_lines, call_line};
 
-use rules_calls::{DelaySetting, Settings, Source, Wanted};
-use rules_record::Flow;
+use rules_calls::{DelaySetting, Settings, Source};
+use rules_record::ExtraDelay;
 use rules_routing::World;
+use rules_tick::Look;
 use text_print::bits::double;
 use text_read_alone::{hold_at, sum_at};
-use text_requests::lists::{MOST_LOADS, kinds_end, lags_at, loads_end, looks_end, rows_at};
-use text_requests::parts::{inode_of, proposal_of, reader_of, setting_of};
+use text_requests::lists::{Load, MOST_LOADS, lags_at, pass, rows_at};
+use text_requests::parts::{flow_of, setting_of};
 use text_requests::{
     Call, CountersAsked, DelaysAsked, Known, NewAsked, Part, PutAsked, RouteAsked, RowsAsked,
     StatusAsked, TickAsked, TimeAsked, UpdateAsked,
 };
-use text_words::{
-    LOST, bit_word, flow_word, hex_word, kind_word, maybe_u32_word, maybe_u64_word, present,
-    text_end, u32_word, u64_word, word_end,
-};
-
-// A line that was read, and the place after its words.
-#[derive(Clone, Copy)]
-pub struct CallLine {
-    pub call: Call,
-    pub next: usize,
-}
-
-// The first, unless it was not there.
-fn either(first: CallLine, second: CallLine) -> CallLine
-    ensures { result ≡ or_else first second }
-{
-    if first.next == LOST {
-        return second;
-    }
-    first
-}
+use text_scan::Word;
+use text_words::Reader;
 
 // ---- new
-#[derive(Clone, Copy)]
-pub struct SettingsWords {
-    pub time: u64,
-    pub settings: Settings,
-    pub next: usize,
+#[tactic(auto, unfolding(crate::specs::Supervisor::settings_at))]
+fn settings_at(r: &mut Reader<'_>) -> Option<Settings>
+    ensures read { read_as r.new.at result ≡ settings_at r.old.s.now r.old.at }
+    ensures same { r.new.s.now ≡ r.old.s.now }
+{
+    Some(Settings {
+        count: r.u32(b' ')? as usize,
+        read_offset: r.u32(b' ')?,
+        delay_max: r.u32(b' ')?,
+        width: r.u32(b' ')?,
+        hold: r.u64(b' ')?,
+        window: r.u64(b' ')?,
+        stall: r.u64(b' ')?,
+        margin: r.u32(b' ')?,
+        percent: double(r.hex(b' ')?),
+        confirm: r.bit(b' ')?,
+    })
 }
 
-fn settings_at(s: &[u8], at: usize) -> SettingsWords
-    ensures { result ≡ settings_at s.now at }
+#[tactic(auto, unfolding(crate::specs::Supervisor::new_line, text_requests::specs::Lists::kinds_end, text_requests::specs::Lists::loads_end))]
+fn new(mut r: Reader<'_>) -> Option<Word<Call>>
+    ensures { result ≡ new_line r.entry.s.now r.entry.at }
 {
-    let time = u64_word(s, at, b' ');
-    let count = u32_word(s, time.next, b' ');
-    let offset = u32_word(s, count.next, b' ');
-    let most = u32_word(s, offset.next, b' ');
-    let width = u32_word(s, most.next, b' ');
-    let hold = u64_word(s, width.next, b' ');
-    let window = u64_word(s, hold.next, b' ');
-    let stall = u64_word(s, window.next, b' ');
-    let margin = u32_word(s, stall.next, b' ');
-    let percent = hex_word(s, margin.next, b' ');
-    let confirm = bit_word(s, percent.next, b' ');
-    let settings = Settings {
-        count: count.value as usize,
-        read_offset: offset.value,
-        delay_max: most.value,
-        width: width.value,
-        hold: hold.value,
-        window: window.value,
-        stall: stall.value,
-        margin: margin.value,
-        percent: double(percent.value),
-        confirm: confirm.value,
-    };
-    SettingsWords {
-        time: time.value,
-        settings,
-        next: confirm.next,
+    r.word(b"new")?;
+    let time = r.u64(b' ')?;
+    let settings = settings_at(&mut r)?;
+    let kinds = r.at;
+    pass::<ExtraDelay>(&mut r, settings.count)?;
+    let loaded = r.u32(b' ')? as usize;
+    let loads = r.at;
+    pass::<Load>(&mut r, loaded)?;
+    if MOST_LOADS < loaded {
+        return None;
     }
-}
-
-fn new(s: &[u8], at: usize) -> CallLine
-    ensures { result ≡ new_line s.now at }
-{
-    let name = word_end(s, at, b"new");
-    let words = settings_at(s, name);
-    let settings = words.settings;
-    let end = kinds_end(s, words.next, settings.count);
-    let loaded = u32_word(s, end, b' ');
-    let n = loaded.value as usize;
-    let last = loads_end(s, loaded.next, n);
     let asked = NewAsked {
-        time: words.time,
+        time,
         settings,
-        kinds: words.next,
-        loads: loaded.next,
-        loaded: n,
+        kinds,
+        loads,
+        loaded,
     };
-    CallLine {
-        call: Call::New(asked),
-        next: present(MOST_LOADS + 1, n, last),
-    }
+    Some(r.found(Call::New(asked)))
 }
 
 // ---- route
-#[derive(Clone, Copy)]
-pub struct WantedWord {
-    pub wanted: Wanted,
-    pub next: usize,
+#[tactic(auto, unfolding(crate::specs::Supervisor::source_at))]
+fn source_at(r: &mut Reader<'_>) -> Option<Source>
+    ensures read { read_as r.new.at result ≡ source_at r.old.s.now r.old.at }
+    ensures same { r.new.s.now ≡ r.old.s.now }
+{
+    let flow = flow_of(r.flow(b' ')?);
+    Some(Source {
+        domain: r.u64(b'/')?,
+        flow,
+    })
 }
 
 // A flow with its domain, or none.
-fn wanted_at(s: &[u8], at: usize) -> WantedWord
-    ensures { result ≡ wanted_at s.now at }
+#[tactic(auto, unfolding(crate::specs::Supervisor::wanted_at, text_words::specs::Words::or_none))]
+fn wanted_at(r: &mut Reader<'_>) -> Option<Option<Source>>
+    ensures read { read_as r.new.at result ≡ wanted_at r.old.s.now r.old.at }
+    ensures same { r.new.s.now ≡ r.old.s.now }
 {
-    let none = text_end(s, at, b" -");
-    if none != LOST {
-        return WantedWord {
-            wanted: Wanted::Nothing,
-            next: none,
-        };
-    }
-    let flow = flow_word(s, at, b' ');
-    let domain = u64_word(s, flow.next, b'/');
-    let id = Flow {
-        high: flow.high,
-        low: flow.low,
+    let Some(()) = r.mark(b' ', b'-') else {
+        return Some(Some(source_at(r)?));
     };
-    let source = Source {
-        domain: domain.value,
-        flow: id,
-    };
-    WantedWord {
-        wanted: Wanted::From(source),
-        next: domain.next,
-    }
+    Some(None)
 }
 
-fn route(s: &[u8], at: usize) -> CallLine
-    ensures { result ≡ route_line s.now at }
+#[tactic(auto, unfolding(crate::specs::Supervisor::route_line))]
+fn route(mut r: Reader<'_>) -> Option<Word<Call>>
+    ensures { result ≡ route_line r.entry.s.now r.entry.at }
 {
-    let name = word_end(s, at, b"route");
-    let time = u64_word(s, name, b' ');
-    let input = u64_word(s, time.next, b' ');
-    let to = wanted_at(s, input.next);
-    let inode = maybe_u64_word(s, to.next, b' ');
-    let made = bit_word(s, inode.next, b' ');
-    let channels = maybe_u32_word(s, made.next, b' ');
-    let head = u64_word(s, channels.next, b' ');
-    let wanted = to.wanted;
+    r.word(b"route")?;
+    let time = r.u64(b' ')?;
+    let input = r.u64(b' ')? as usize;
+    let wanted = wanted_at(&mut r)?;
     let world = World {
-        inode: inode_of(inode),
-        made: made.value,
-        reader: reader_of(channels),
-        head: head.value,
+        inode: r.maybe_u64(b' ')?,
+        made: r.bit(b' ')?,
+        reader: r.maybe_u32(b' ')?,
+        head: r.u64(b' ')?,
     };
     let asked = RouteAsked {
-        time: time.value,
-        input: input.value as usize,
+        time,
+        input,
         wanted,
         world,
     };
-    CallLine {
-        call: Call::Route(asked),
-        next: head.next,
-    }
+    Some(r.found(Call::Route(asked)))
 }
 
 // ---- update, confirm, settled
-#[derive(Clone, Copy)]
-pub struct SettingWord {
-    pub setting: DelaySetting,
-    pub next: usize,
+// `D` and the bits of a double: a manual delay that the desk sends.
+#[tactic(auto, unfolding(crate::specs::Supervisor::desk_at))]
+fn desk_at(mut r: Reader<'_>) -> Option<Word<DelaySetting>>
+    ensures { result ≡ desk_at r.entry.s.now r.entry.at }
+{
+    r.text(b" ")?;
+    let bits = r.hex(b'D')?;
+    Some(r.found(DelaySetting::Desk(double(bits))))
 }
 
-// A kind, or `D` and the bits of a double: a manual delay that the desk sends.
-fn setting_at(s: &[u8], at: usize) -> SettingWord
-    ensures { result ≡ setting_at s.now at }
+// A kind, which the scoring program sends.
+#[tactic(auto, unfolding(crate::specs::Supervisor::scored_at))]
+fn scored_at(mut r: Reader<'_>) -> Option<Word<DelaySetting>>
+    ensures { result ≡ scored_at r.entry.s.now r.entry.at }
 {
-    let desk = hex_word(s, text_end(s, at, b" "), b'D');
-    if desk.next != LOST {
-        return SettingWord {
-            setting: DelaySetting::Desk(double(desk.value)),
-            next: desk.next,
-        };
-    }
-    let kind = kind_word(s, at, b' ');
-    SettingWord {
-        setting: setting_of(kind),
-        next: kind.next,
-    }
+    let kind = r.kind(b' ')?;
+    Some(r.found(setting_of(kind)))
 }
 
-fn update(s: &[u8], at: usize) -> CallLine
-    ensures { result ≡ update_line s.now at }
+#[tactic(auto, unfolding(crate::specs::Supervisor::setting_at))]
+fn setting_at(r: &mut Reader<'_>) -> Option<DelaySetting>
+    ensures read { read_as r.new.at result ≡ setting_at r.old.s.now r.old.at }
+    ensures same { r.new.s.now ≡ r.old.s.now }
 {
-    let name = word_end(s, at, b"update");
-    let time = u64_word(s, name, b' ');
-    let input = u64_word(s, time.next, b' ');
-    let word = setting_at(s, input.next);
-    let setting = word.setting;
+    let w = desk_at(*r).or(scored_at(*r))?;
+    r.at = w.next;
+    Some(w.value)
+}
+
+#[tactic(auto, unfolding(crate::specs::Supervisor::update_line))]
+fn update(mut r: Reader<'_>) -> Option<Word<Call>>
+    ensures { result ≡ update_line r.entry.s.now r.entry.at }
+{
+    r.word(b"update")?;
     let asked = UpdateAsked {
-        time: time.value,
-        input: input.value as usize,
-        setting,
+        time: r.u64(b' ')?,
+        input: r.u64(b' ')? as usize,
+        setting: setting_at(&mut r)?,
     };
-    CallLine {
-        call: Call::Update(asked),
-        next: word.next,
-    }
+    Some(r.found(Call::Update(asked)))
 }
 
-fn confirm(s: &[u8], at: usize) -> CallLine
-    ensures { result ≡ confirm_line s.now at }
+#[tactic(auto, unfolding(crate::specs::Supervisor::confirm_line))]
+fn confirm(mut r: Reader<'_>) -> Option<Word<Call>>
+    ensures { result ≡ confirm_line r.entry.s.now r.entry.at }
 {
-    let name = word_end(s, at, b"confirm");
-    let time = u64_word(s, name, b' ');
-    let input = u64_word(s, time.next, b' ');
+    r.word(b"confirm")?;
     let asked = TimeAsked {
-        time: time.value,
-        input: input.value as usize,
+        time: r.u64(b' ')?,
+        input: r.u64(b' ')? as usize,
     };
-    CallLine {
-        call: Call::Confirm(asked),
-        next: input.next,
-    }
+    Some(r.found(Call::Confirm(asked)))
 }
 
-fn settled(s: &[u8], at: usize) -> CallLine
-    ensures { result ≡ settled_line s.now at }
+#[tactic(auto, unfolding(crate::specs::Supervisor::settled_line))]
+fn settled(mut r: Reader<'_>) -> Option<Word<Call>>
+    ensures { result ≡ settled_line r.entry.s.now r.entry.at }
 {
-    let name = word_end(s, at, b"settled");
-    let time = u64_word(s, name, b' ');
-    let input = u64_word(s, time.next, b' ');
+    r.word(b"settled")?;
     let asked = TimeAsked {
-        time: time.value,
-        input: input.value as usize,
+        time: r.u64(b' ')?,
+        input: r.u64(b' ')? as usize,
     };
-    CallLine {
-        call: Call::Settled(asked),
-        next: input.next,
-    }
+    Some(r.found(Call::Settled(asked)))
 }
 
 // ---- tick
-#[derive(Clone, Copy)]
-pub struct TickName {
-    pub dry: bool,
-    pub next: usize,
-}
-
-fn tick_name(s: &[u8], at: usize) -> TickName
-    ensures { result ≡ tick_name s.now at }
+// Is it a dry one?
+#[tactic(auto, unfolding(crate::specs::Supervisor::tick_name))]
+fn tick_name(r: &mut Reader<'_>) -> Option<bool>
+    ensures read { read_as r.new.at result ≡ tick_name r.old.s.now r.old.at }
+    ensures same { r.new.s.now ≡ r.old.s.now }
 {
-    let name = word_end(s, at, b"tick");
-    if name != LOST {
-        return TickName {
-            dry: false,
-            next: name,
-        };
+    let mut dry = *r;
+    if let Some(()) = r.word(b"tick") {
+        return Some(false);
     }
-    TickName {
-        dry: true,
-        next: word_end(s, at, b"dry tick"),
-    }
+    dry.word(b"dry tick")?;
+    *r = dry;
+    Some(true)
 }
 
 // Of a supervisor that was made. The lags go to `heard`.
-pub(crate) fn tick(s: &[u8], at: usize, inputs: usize, heard: &mut [u32]) -> CallLine
-    ensures { tick_said result heard.new ≡ tick_line s.now at inputs (length heard.old) }
+#[tactic(auto, unfolding(crate::specs::Supervisor::tick_line, text_requests::specs::Lists::looks_end))]
+pub(crate) fn tick(mut r: Reader<'_>, inputs: usize, heard: &mut [u32]) -> Option<Word<Call>>
+    ensures { tick_said result heard.new ≡ tick_line r.entry.s.now r.entry.at inputs (length heard.old) }
 {
-    let name = tick_name(s, at);
-    let time = u64_word(s, name.next, b' ');
-    let end = looks_end(s, time.next, inputs);
-    let lags = lags_at(s, end, heard);
-    let asked = TickAsked {
-        dry: name.dry,
-        time: time.value,
-        looks: time.next,
-        lags: lags.count,
-    };
-    CallLine {
-        call: Call::Tick(asked),
-        next: present(inputs, 0, lags.next),
+    let dry = tick_name(&mut r)?;
+    let time = r.u64(b' ')?;
+    let looks = r.at;
+    pass::<Look>(&mut r, inputs)?;
+    let lags = lags_at(&mut r, heard)?;
+    if inputs == 0 {
+        return None;
     }
+    let asked = TickAsked {
+        dry,
+        time,
+        looks,
+        lags,
+    };
+    Some(r.found(Call::Tick(asked)))
 }
 
 // ---- status, has, dump, dwrite1
-fn status(s: &[u8], at: usize) -> CallLine
-    ensures { result ≡ status_line s.now at }
+#[tactic(auto, unfolding(crate::specs::Supervisor::status_line))]
+fn status(mut r: Reader<'_>) -> Option<Word<Call>>
+    ensures { result ≡ status_line r.entry.s.now r.entry.at }
 {
-    let name = word_end(s, at, b"status");
-    let input = u64_word(s, name, b' ');
-    let applied = u32_word(s, input.next, b' ');
-    let channels = u32_word(s, applied.next, b' ');
+    r.word(b"status")?;
     let asked = StatusAsked {
-        input: input.value as usize,
-        first: applied.value,
-        second: channels.value,
+        input: r.u64(b' ')? as usize,
+        first: r.u32(b' ')?,
+        second: r.u32(b' ')?,
     };
-    CallLine {
-        call: Call::Status(asked),
-        next: channels.next,
-    }
+    Some(r.found(Call::Status(asked)))
 }
 
-fn has(s: &[u8], at: usize) -> CallLine
-    ensures { result ≡ has_line s.now at }
+#[tactic(auto, unfolding(crate::specs::Supervisor::has_line))]
+fn has(mut r: Reader<'_>) -> Option<Word<Call>>
+    ensures { result ≡ has_line r.entry.s.now r.entry.at }
 {
-    let name = word_end(s, at, b"has");
-    let input = u64_word(s, name, b' ');
-    let channels = u32_word(s, input.next, b' ');
-    let wanted = u32_word(s, channels.next, b' ');
+    r.word(b"has")?;
     let asked = StatusAsked {
-        input: input.value as usize,
-        first: channels.value,
-        second: wanted.value,
+        input: r.u64(b' ')? as usize,
+        first: r.u32(b' ')?,
+        second: r.u32(b' ')?,
     };
-    CallLine {
-        call: Call::Has(asked),
-        next: wanted.next,
-    }
+    Some(r.found(Call::Has(asked)))
 }
 
-fn dump(s: &[u8], at: usize) -> CallLine
-    ensures { result ≡ dump_line s.now at }
+#[tactic(auto, unfolding(crate::specs::Supervisor::dump_line))]
+fn dump(mut r: Reader<'_>) -> Option<Word<Call>>
+    ensures { result ≡ dump_line r.entry.s.now r.entry.at }
 {
-    let name = word_end(s, at, b"dump");
-    CallLine {
-        call: Call::Dump,
-        next: name,
-    }
+    r.word(b"dump")?;
+    Some(r.found(Call::Dump))
 }
 
-fn dwrite1(s: &[u8], at: usize) -> CallLine
-    ensures { result ≡ dwrite1_line s.now at }
+#[tactic(auto, unfolding(crate::specs::Supervisor::dwrite1_line))]
+fn dwrite1(mut r: Reader<'_>) -> Option<Word<Call>>
+    ensures { result ≡ dwrite1_line r.entry.s.now r.entry.at }
 {
-    let name = word_end(s, at, b"dwrite1");
-    CallLine {
-        call: Call::WriteDelays,
-        next: name,
-    }
+    r.word(b"dwrite1")?;
+    Some(r.found(Call::WriteDelays))
 }
 
 // ---- put
-#[derive(Clone, Copy)]
-pub struct PartLine {
-    pub part: Part,
-    pub next: usize,
-}
-
-fn part_or(first: PartLine, second: PartLine) -> PartLine
-    ensures { result ≡ part_or first second }
+#[tactic(auto, unfolding(crate::specs::Supervisor::window_part))]
+fn window(mut r: Reader<'_>, buckets: usize) -> Option<Word<Part>>
+    ensures { result ≡ window_part r.entry.s.now r.entry.at buckets }
 {
-    if first.next == LOST {
-        return second;
-    }
-    first
-}
-
-fn window(s: &[u8], at: usize, buckets: usize) -> PartLine
-    ensures { result ≡ window_part s.now at buckets }
-{
-    let name = word_end(s, at, b" window");
-    let rows = rows_at(s, name, buckets);
+    r.word(b" window")?;
     let asked = RowsAsked {
-        at: name,
-        seconds: rows.count,
+        at: r.at,
+        seconds: rows_at(&mut r, buckets)?,
     };
-    PartLine {
-        part: Part::Window(asked),
-        next: rows.next,
-    }
+    Some(r.found(Part::Window(asked)))
 }
 
-fn hold(s: &[u8], at: usize) -> PartLine
-    ensures { result ≡ hold_part s.now at }
+#[tactic(auto, unfolding(crate::specs::Supervisor::hold_part))]
+fn hold(mut r: Reader<'_>) -> Option<Word<Part>>
+    ensures { result ≡ hold_part r.entry.s.now r.entry.at }
 {
-    let name = word_end(s, at, b" hold");
-    let words = hold_at(s, name);
-    let asked = words.asked;
-    PartLine {
-        part: Part::Hold(asked),
-        next: words.next,
-    }
+    r.word(b" hold")?;
+    let asked = hold_at(&mut r)?;
+    Some(r.found(Part::Hold(asked)))
 }
 
-fn counters(s: &[u8], at: usize) -> PartLine
-    ensures { result ≡ counters_part s.now at }
+#[tactic(auto, unfolding(crate::specs::Supervisor::counters_part))]
+fn counters(mut r: Reader<'_>) -> Option<Word<Part>>
+    ensures { result ≡ counters_part r.entry.s.now r.entry.at }
 {
-    let name = word_end(s, at, b" counters");
-    let reopens = u64_word(s, name, b' ');
-    let changes = u64_word(s, reopens.next, b' ');
-    let late = u64_word(s, changes.next, b' ');
+    r.word(b" counters")?;
     let asked = CountersAsked {
-        reopens: reopens.value,
-        delay_changes: changes.value,
-        late_events: late.value,
+        reopens: r.u64(b' ')?,
+        delay_changes: r.u64(b' ')?,
+        late_events: r.u64(b' ')?,
     };
-    PartLine {
-        part: Part::Counters(asked),
-        next: late.next,
-    }
+    Some(r.found(Part::Counters(asked)))
 }
 
-fn delays(s: &[u8], at: usize) -> PartLine
-    ensures { result ≡ delays_part s.now at }
+#[tactic(auto, unfolding(crate::specs::Supervisor::delays_part))]
+fn delays(mut r: Reader<'_>) -> Option<Word<Part>>
+    ensures { result ≡ delays_part r.entry.s.now r.entry.at }
 {
-    let name = word_end(s, at, b" delays");
-    let delay = u32_word(s, name, b' ');
-    let proposed = maybe_u32_word(s, delay.next, b' ');
+    r.word(b" delays")?;
     let asked = DelaysAsked {
-        delay: delay.value,
-        proposed: proposal_of(proposed),
+        delay: r.u32(b' ')?,
+        proposed: r.maybe_u32(b' ')?,
     };
-    PartLine {
-        part: Part::Delays(asked),
-        next: proposed.next,
-    }
+    Some(r.found(Part::Delays(asked)))
 }
 
-fn sum(s: &[u8], at: usize, buckets: usize) -> PartLine
-    ensures { result ≡ sum_part s.now at buckets }
+#[tactic(auto, unfolding(crate::specs::Supervisor::sum_part))]
+fn sum(mut r: Reader<'_>, buckets: usize) -> Option<Word<Part>>
+    ensures { result ≡ sum_part r.entry.s.now r.entry.at buckets }
 {
-    let name = word_end(s, at, b" sum");
-    let words = sum_at(s, name, buckets);
-    let asked = words.asked;
-    PartLine {
-        part: Part::Sum(asked),
-        next: words.next,
-    }
+    r.word(b" sum")?;
+    let asked = sum_at(&mut r, buckets)?;
+    Some(r.found(Part::Sum(asked)))
 }
 
 // Of an input that exists.
-fn put(s: &[u8], at: usize, inputs: usize, buckets: usize) -> CallLine
-    ensures { result ≡ put_line s.now at inputs buckets }
+#[tactic(auto, unfolding(crate::specs::Supervisor::put_line))]
+fn put(mut r: Reader<'_>, inputs: usize, buckets: usize) -> Option<Word<Call>>
+    ensures { result ≡ put_line r.entry.s.now r.entry.at inputs buckets }
 {
-    let name = word_end(s, at, b"put");
-    let word = u64_word(s, name, b' ');
-    let a = window(s, word.next, buckets);
-    let b = part_or(a, hold(s, word.next));
-    let c = part_or(b, counters(s, word.next));
-    let d = part_or(c, delays(s, word.next));
-    let e = part_or(d, sum(s, word.next, buckets));
-    let part = e.part;
-    let input = word.value as usize;
-    let asked = PutAsked { input, part };
-    CallLine {
-        call: Call::Put(asked),
-        next: present(inputs, input, e.next),
+    r.word(b"put")?;
+    let input = r.u64(b' ')? as usize;
+    let part = window(r, buckets)
+        .or(hold(r))
+        .or(counters(r))
+        .or(delays(r))
+        .or(sum(r, buckets))?;
+    if inputs <= input {
+        return None;
     }
+    let asked = PutAsked {
+        input,
+        part: part.value,
+    };
+    Some(Word {
+        value: Call::Put(asked),
+        next: part.next,
+    })
 }
 
 // ---- all but a tick
-fn change_lines(s: &[u8], at: usize) -> CallLine
-    ensures { result ≡ change_lines s.now at }
+#[tactic(auto, unfolding(crate::specs::Supervisor::change_lines))]
+fn change_lines(r: Reader<'_>) -> Option<Word<Call>>
+    ensures { result ≡ change_lines r.entry.s.now r.entry.at }
 {
-    let first = route(s, at);
-    let a = either(first, update(s, at));
-    either(a, confirm(s, at))
+    route(r).or(update(r)).or(confirm(r))
 }
 
-fn ask_lines(s: &[u8], at: usize) -> CallLine
-    ensures { result ≡ ask_lines s.now at }
+#[tactic(auto, unfolding(crate::specs::Supervisor::ask_lines))]
+fn ask_lines(r: Reader<'_>) -> Option<Word<Call>>
+    ensures { result ≡ ask_lines r.entry.s.now r.entry.at }
 {
-    let first = status(s, at);
-    let a = either(first, has(s, at));
-    let b = either(a, settled(s, at));
-    let c = either(b, dump(s, at));
-    either(c, dwrite1(s, at))
+    status(r)
+        .or(has(r))
+        .or(settled(r))
+        .or(dump(r))
+        .or(dwrite1(r))
 }
 
 // The line that stands at this place, of the calls on a supervisor; before the first `new` there is no other.
-pub(crate) fn call_at(s: &[u8], at: usize, known: Known) -> CallLine
-    ensures { result ≡ call_line s.now at known }
+#[tactic(auto, unfolding(crate::specs::Supervisor::call_line))]
+pub(crate) fn call_at(r: Reader<'_>, known: Known) -> Option<Word<Call>>
+    ensures { result ≡ call_line r.entry.s.now r.entry.at known }
 {
-    let first = new(s, at);
+    let first = new(r);
     if known.inputs == 0 {
         return first;
     }
-    let a = either(first, change_lines(s, at));
-    let b = either(a, ask_lines(s, at));
-    either(b, put(s, at, known.inputs, known.buckets))
+    first
+        .or(change_lines(r))
+        .or(ask_lines(r))
+        .or(put(r, known.inputs, known.buckets))
 }

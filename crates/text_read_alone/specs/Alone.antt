@@ -1,263 +1,258 @@
 -- The lines of the calls that need no supervisor, row by row as compare/README.md's table has them: the name, then the words, each after a
--- space. Where the name is another, or a word is missing or of another form, the place after the words is lost. Assumes nothing.
-use Rattle.std.specs.Prelude.{ℕ, List, eqb}
+-- space, and what is read with the place after it. None where the name is another, or a word is missing or of another form. Assumes nothing.
+use Rattle.std.specs.Prelude.{ℕ, List, Option, None, Some, leb}
+use Rattle.std.specs.Option.{option_or}
 use Rattle.std.specs.Float.{binary64}
 use Rattle.std.specs.Float.Ieee.{of_bits}
 use Rattle.base.specs.Choice.{pick}
-use Rattle.text_words.specs.Words.{lost, below}
+use Rattle.delay_hold.specs.declared.DelayHold.{DelayHold}
+use Rattle.text_scan.specs.declared.Word.{Word}
+use Rattle.text_scan.specs.Scan.{word, ◌>>=◌}
+use Rattle.text_words.specs.Words.{u64_at, hex_at, u32_at, u8_at, bit_at, maybe_u64_at, maybe_u32_at, maybe_pair_at}
 use Rattle.text_files.specs.Files.{file_at}
+use Rattle.text_requests.specs.declared.HoldAsked.{HoldAsked}
+use Rattle.text_requests.specs.declared.Lone.{Lone}
 use Rattle.text_requests.specs.declared.Lone.TheVariants.{Ms, Samples, Need, IndexAt, TimeOf, WindowNew, WindowSet, WindowSum, Push, Clear, Span, Quantile, HoldNew, HoldSet, Next, CoalesceSet, Changed, Pending, Take, TakeDue, QuerySet, QueryUp, QueryFailed, ReadDelays}
-use Rattle.text_requests.specs.Forms.{space, u64_at, hex_at, u32_at, u8_at, bit_at, maybe_u64_at, maybe_u32_at, pair_at, word_end}
+use Rattle.text_requests.specs.declared.SumAsked.{SumAsked}
+use Rattle.text_requests.specs.Forms.{space, word_end}
 use Rattle.text_requests.specs.Lists.{peaks_end, rows_at}
-use Rattle.text_requests.specs.Parts.{lag_of, due_of, down_of, moment_of, timer_of, seed_of}
-use Rattle.text_read_alone.specs.declared.HoldWords.{HoldWords}
-use Rattle.text_read_alone.specs.declared.LoneLine.{LoneLine}
-use Rattle.text_read_alone.specs.declared.SumWords.{SumWords}
+use Rattle.text_requests.specs.Parts.{down_of, timer_of, seed_of}
 
 -- ---- numbers
 
 -- `ms`: u32
-unfoldable pub ms_line : (s : List ℕ) (at : ℕ) → LoneLine
-ms_line s at =
-    let name = word_end s at "ms" in
-    let n = u32_at s name space in
-    record { lone = Ms n.value; next = n.next }
+unfoldable pub ms_line : (s : List ℕ) (at : ℕ) → Option (Word Lone)
+ms_line s at = do
+  name ← word_end s at "ms"
+  n ← u32_at s name space
+  Some (word (Ms n.value) n.next)
 
 -- `samples`: hex64
-unfoldable pub samples_line : (s : List ℕ) (at : ℕ) → LoneLine
-samples_line s at =
-    let name = word_end s at "samples" in
-    let m = hex_at s name space in
-    record { lone = Samples (of_bits binary64 m.value); next = m.next }
+unfoldable pub samples_line : (s : List ℕ) (at : ℕ) → Option (Word Lone)
+samples_line s at = do
+  name ← word_end s at "samples"
+  m ← hex_at s name space
+  Some (word (Samples (of_bits binary64 m.value)) m.next)
 
 -- `need`: offset u32, max u32, margin u32, percent hex64, lag u32
-unfoldable pub need_line : (s : List ℕ) (at : ℕ) → LoneLine
-need_line s at =
-    let name = word_end s at "need" in
-    let offset = u32_at s name space in
-    let most = u32_at s offset.next space in
-    let margin = u32_at s most.next space in
-    let percent = hex_at s margin.next space in
-    let lag = u32_at s percent.next space in
-    record { lone = Need (record { offset = offset.value; most = most.value; margin = margin.value; percent = of_bits binary64 percent.value; lag = lag.value }); next = lag.next }
+unfoldable pub need_line : (s : List ℕ) (at : ℕ) → Option (Word Lone)
+need_line s at = do
+  name ← word_end s at "need"
+  offset ← u32_at s name space
+  most ← u32_at s offset.next space
+  margin ← u32_at s most.next space
+  percent ← hex_at s margin.next space
+  lag ← u32_at s percent.next space
+  Some (word (Need (record { offset = offset.value; most = most.value; margin = margin.value; percent = of_bits binary64 percent.value; lag = lag.value })) lag.next)
 
 -- `index_at`: u64
-unfoldable pub index_at_line : (s : List ℕ) (at : ℕ) → LoneLine
-index_at_line s at =
-    let name = word_end s at "index_at" in
-    let time = u64_at s name space in
-    record { lone = IndexAt time.value; next = time.next }
+unfoldable pub index_at_line : (s : List ℕ) (at : ℕ) → Option (Word Lone)
+index_at_line s at = do
+  name ← word_end s at "index_at"
+  time ← u64_at s name space
+  Some (word (IndexAt time.value) time.next)
 
 -- `time_of`: u64
-unfoldable pub time_of_line : (s : List ℕ) (at : ℕ) → LoneLine
-time_of_line s at =
-    let name = word_end s at "time_of" in
-    let index = u64_at s name space in
-    record { lone = TimeOf index.value; next = index.next }
+unfoldable pub time_of_line : (s : List ℕ) (at : ℕ) → Option (Word Lone)
+time_of_line s at = do
+  name ← word_end s at "time_of"
+  index ← u64_at s name space
+  Some (word (TimeOf index.value) index.next)
 
 -- ---- the window
 
 -- `wnew`: offset u32, max u32, W u32
-unfoldable pub wnew_line : (s : List ℕ) (at : ℕ) → LoneLine
-wnew_line s at =
-    let name = word_end s at "wnew" in
-    let offset = u32_at s name space in
-    let most = u32_at s offset.next space in
-    let width = u32_at s most.next space in
-    record { lone = WindowNew (record { offset = offset.value; most = most.value; width = width.value }); next = width.next }
+unfoldable pub wnew_line : (s : List ℕ) (at : ℕ) → Option (Word Lone)
+wnew_line s at = do
+  name ← word_end s at "wnew"
+  offset ← u32_at s name space
+  most ← u32_at s offset.next space
+  width ← u32_at s most.next space
+  Some (word (WindowNew (record { offset = offset.value; most = most.value; width = width.value })) width.next)
 
 -- `wset`: rows
-unfoldable pub wset_line : (s : List ℕ) (at buckets : ℕ) → LoneLine
-wset_line s at buckets =
-    let name = word_end s at "wset" in
-    let rows = rows_at s name buckets in
-    record { lone = WindowSet (record { at = name; seconds = rows.count }); next = rows.next }
+unfoldable pub wset_line : (s : List ℕ) (at buckets : ℕ) → Option (Word Lone)
+wset_line s at buckets = do
+  name ← word_end s at "wset"
+  rows ← rows_at s name buckets
+  Some (word (WindowSet (record { at = name; seconds = rows.value })) rows.next)
 
 -- a sum: bucket u32, which exists, sum u64
-unfoldable pub sum_at : (s : List ℕ) (at buckets : ℕ) → SumWords
-sum_at s at buckets =
-    let bucket = u32_at s at space in
-    let sum = u64_at s bucket.next space in
-    record { asked = record { bucket = bucket.value; sum = sum.value }; next = below buckets bucket.value sum.next }
+unfoldable pub sum_at : (s : List ℕ) (at buckets : ℕ) → Option (Word SumAsked)
+sum_at s at buckets = do
+  bucket ← u32_at s at space
+  sum ← u64_at s bucket.next space
+  pick (leb buckets bucket.value) None (Some (word (record { bucket = bucket.value; sum = sum.value }) sum.next))
 
 -- `wsum`: a sum
-unfoldable pub wsum_line : (s : List ℕ) (at buckets : ℕ) → LoneLine
-wsum_line s at buckets =
-    let name = word_end s at "wsum" in
-    let words = sum_at s name buckets in
-    record { lone = WindowSum words.asked; next = words.next }
+unfoldable pub wsum_line : (s : List ℕ) (at buckets : ℕ) → Option (Word Lone)
+wsum_line s at buckets = do
+  name ← word_end s at "wsum"
+  words ← sum_at s name buckets
+  Some (word (WindowSum words.value) words.next)
 
 -- `wpush`: lag u32, now u64
-unfoldable pub wpush_line : (s : List ℕ) (at : ℕ) → LoneLine
-wpush_line s at =
-    let name = word_end s at "wpush" in
-    let lag = u32_at s name space in
-    let time = u64_at s lag.next space in
-    record { lone = Push (record { lag = lag.value; time = time.value }); next = time.next }
+unfoldable pub wpush_line : (s : List ℕ) (at : ℕ) → Option (Word Lone)
+wpush_line s at = do
+  name ← word_end s at "wpush"
+  lag ← u32_at s name space
+  time ← u64_at s lag.next space
+  Some (word (Push (record { lag = lag.value; time = time.value })) time.next)
 
 -- `wclear`: nothing
-unfoldable pub wclear_line : (s : List ℕ) (at : ℕ) → LoneLine
-wclear_line s at =
-    let name = word_end s at "wclear" in
-    record { lone = Clear; next = name }
+unfoldable pub wclear_line : (s : List ℕ) (at : ℕ) → Option (Word Lone)
+wclear_line s at = do
+  name ← word_end s at "wclear"
+  Some (word Clear name)
 
 -- `wspan`: nothing
-unfoldable pub wspan_line : (s : List ℕ) (at : ℕ) → LoneLine
-wspan_line s at =
-    let name = word_end s at "wspan" in
-    record { lone = Span; next = name }
+unfoldable pub wspan_line : (s : List ℕ) (at : ℕ) → Option (Word Lone)
+wspan_line s at = do
+  name ← word_end s at "wspan"
+  Some (word Span name)
 
 -- `wquant`: q hex64, limit u32
-unfoldable pub wquant_line : (s : List ℕ) (at : ℕ) → LoneLine
-wquant_line s at =
-    let name = word_end s at "wquant" in
-    let q = hex_at s name space in
-    let limit = u32_at s q.next space in
-    record { lone = Quantile (record { q = of_bits binary64 q.value; limit = limit.value }); next = limit.next }
+unfoldable pub wquant_line : (s : List ℕ) (at : ℕ) → Option (Word Lone)
+wquant_line s at = do
+  name ← word_end s at "wquant"
+  q ← hex_at s name space
+  limit ← u32_at s q.next space
+  Some (word (Quantile (record { q = of_bits binary64 q.value; limit = limit.value })) limit.next)
 
 -- ---- the hold
 
 -- the fields of a hold: n, n times time:lag, last change u64|-, timer (u64:u32)|-, started u64|-, startup lates (0 to 255), late before bit,
 -- seed (u64:u32)|-
-unfoldable pub hold_at : (s : List ℕ) (at : ℕ) → HoldWords
-hold_at s at =
-    let n = u64_at s at space in
-    let last = maybe_u64_at s (peaks_end s n.next n.value) space in
-    let lower = pair_at s last.next space 4294967295 in
-    let started = maybe_u64_at s lower.next space in
-    let lates = u8_at s started.next space in
-    let late = bit_at s lates.next space in
-    let seeded = pair_at s late.next space 4294967295 in
-    record {
-      asked =
-          record {
-            at = n.next;
-            hold =
-                record {
-                  peaks = n.value;
-                  last_change = moment_of last;
-                  lower = timer_of lower;
-                  started = moment_of started;
-                  startup_late = lates.value;
-                  late_before = late.value;
-                  seeded = seed_of seeded;
-                };
-          };
-      next = seeded.next;
-    }
+unfoldable pub hold_at : (s : List ℕ) (at : ℕ) → Option (Word HoldAsked)
+hold_at s at = do
+  n ← u64_at s at space
+  end ← peaks_end s n.next n.value
+  last ← maybe_u64_at s end space
+  lower ← maybe_pair_at s last.next space 4294967295
+  started ← maybe_u64_at s lower.next space
+  lates ← u8_at s started.next space
+  late ← bit_at s lates.next space
+  seeded ← maybe_pair_at s late.next space 4294967295
+  let hold : DelayHold = record {
+    peaks = n.value;
+    last_change = last.value;
+    lower = timer_of lower.value;
+    started = started.value;
+    startup_late = lates.value;
+    late_before = late.value;
+    seeded = seed_of seeded.value;
+  }
+  Some (word (record { at = n.next; hold = hold }) seeded.next)
 
 -- `hnew`: nothing
-unfoldable pub hnew_line : (s : List ℕ) (at : ℕ) → LoneLine
-hnew_line s at =
-    let name = word_end s at "hnew" in
-    record { lone = HoldNew; next = name }
+unfoldable pub hnew_line : (s : List ℕ) (at : ℕ) → Option (Word Lone)
+hnew_line s at = do
+  name ← word_end s at "hnew"
+  Some (word HoldNew name)
 
 -- `hset`: fields
-unfoldable pub hset_line : (s : List ℕ) (at : ℕ) → LoneLine
-hset_line s at =
-    let name = word_end s at "hset" in
-    let words = hold_at s name in
-    record { lone = HoldSet words.asked; next = words.next }
+unfoldable pub hset_line : (s : List ℕ) (at : ℕ) → Option (Word Lone)
+hset_line s at = do
+  name ← word_end s at "hset"
+  words ← hold_at s name
+  Some (word (HoldSet words.value) words.next)
 
 -- `next`: offset u32, max u32, W u32, hold u64, window u64, margin u32, percent hex64, p999 u32|-, lag u32|-, current u32, now u64
-unfoldable pub next_line : (s : List ℕ) (at : ℕ) → LoneLine
-next_line s at =
-    let name = word_end s at "next" in
-    let offset = u32_at s name space in
-    let most = u32_at s offset.next space in
-    let width = u32_at s most.next space in
-    let hold = u64_at s width.next space in
-    let window = u64_at s hold.next space in
-    let margin = u32_at s window.next space in
-    let percent = hex_at s margin.next space in
-    let p999 = maybe_u32_at s percent.next space in
-    let largest = maybe_u32_at s p999.next space in
-    let current = u32_at s largest.next space in
-    let time = u64_at s current.next space in
-    record { lone = Next (record { offset = offset.value; most = most.value; width = width.value; hold = hold.value; window = window.value; margin = margin.value; percent = of_bits binary64 percent.value; p999 = lag_of p999; largest = lag_of largest; current = current.value; time = time.value }); next = time.next }
+unfoldable pub next_line : (s : List ℕ) (at : ℕ) → Option (Word Lone)
+next_line s at = do
+  name ← word_end s at "next"
+  offset ← u32_at s name space
+  most ← u32_at s offset.next space
+  width ← u32_at s most.next space
+  hold ← u64_at s width.next space
+  window ← u64_at s hold.next space
+  margin ← u32_at s window.next space
+  percent ← hex_at s margin.next space
+  p999 ← maybe_u32_at s percent.next space
+  largest ← maybe_u32_at s p999.next space
+  current ← u32_at s largest.next space
+  time ← u64_at s current.next space
+  Some (word (Next (record { offset = offset.value; most = most.value; width = width.value; hold = hold.value; window = window.value; margin = margin.value; percent = of_bits binary64 percent.value; p999 = p999.value; largest = largest.value; current = current.value; time = time.value })) time.next)
 
 -- ---- the clocks
 
 -- `co_set`: due u64|-
-unfoldable pub co_set_line : (s : List ℕ) (at : ℕ) → LoneLine
-co_set_line s at =
-    let name = word_end s at "co_set" in
-    let due = maybe_u64_at s name space in
-    record { lone = CoalesceSet (due_of due); next = due.next }
+unfoldable pub co_set_line : (s : List ℕ) (at : ℕ) → Option (Word Lone)
+co_set_line s at = do
+  name ← word_end s at "co_set"
+  due ← maybe_u64_at s name space
+  Some (word (CoalesceSet due.value) due.next)
 
 -- `co_changed`: now u64, delay u64
-unfoldable pub co_changed_line : (s : List ℕ) (at : ℕ) → LoneLine
-co_changed_line s at =
-    let name = word_end s at "co_changed" in
-    let time = u64_at s name space in
-    let delay = u64_at s time.next space in
-    record { lone = Changed (record { time = time.value; delay = delay.value }); next = delay.next }
+unfoldable pub co_changed_line : (s : List ℕ) (at : ℕ) → Option (Word Lone)
+co_changed_line s at = do
+  name ← word_end s at "co_changed"
+  time ← u64_at s name space
+  delay ← u64_at s time.next space
+  Some (word (Changed (record { time = time.value; delay = delay.value })) delay.next)
 
 -- `co_pending`: nothing
-unfoldable pub co_pending_line : (s : List ℕ) (at : ℕ) → LoneLine
-co_pending_line s at =
-    let name = word_end s at "co_pending" in
-    record { lone = Pending; next = name }
+unfoldable pub co_pending_line : (s : List ℕ) (at : ℕ) → Option (Word Lone)
+co_pending_line s at = do
+  name ← word_end s at "co_pending"
+  Some (word Pending name)
 
 -- `co_take`: nothing
-unfoldable pub co_take_line : (s : List ℕ) (at : ℕ) → LoneLine
-co_take_line s at =
-    let name = word_end s at "co_take" in
-    record { lone = Take; next = name }
+unfoldable pub co_take_line : (s : List ℕ) (at : ℕ) → Option (Word Lone)
+co_take_line s at = do
+  name ← word_end s at "co_take"
+  Some (word Take name)
 
 -- `co_take_due`: now u64
-unfoldable pub co_take_due_line : (s : List ℕ) (at : ℕ) → LoneLine
-co_take_due_line s at =
-    let name = word_end s at "co_take_due" in
-    let time = u64_at s name space in
-    record { lone = TakeDue time.value; next = time.next }
+unfoldable pub co_take_due_line : (s : List ℕ) (at : ℕ) → Option (Word Lone)
+co_take_due_line s at = do
+  name ← word_end s at "co_take_due"
+  time ← u64_at s name space
+  Some (word (TakeDue time.value) time.next)
 
 -- `q_set`: (until u64:wait u64)|-
-unfoldable pub q_set_line : (s : List ℕ) (at : ℕ) → LoneLine
-q_set_line s at =
-    let name = word_end s at "q_set" in
-    let down = pair_at s name space 18446744073709551615 in
-    record { lone = QuerySet (down_of down); next = down.next }
+unfoldable pub q_set_line : (s : List ℕ) (at : ℕ) → Option (Word Lone)
+q_set_line s at = do
+  name ← word_end s at "q_set"
+  down ← maybe_pair_at s name space 18446744073709551615
+  Some (word (QuerySet (down_of down.value)) down.next)
 
 -- `q_up`: now u64
-unfoldable pub q_up_line : (s : List ℕ) (at : ℕ) → LoneLine
-q_up_line s at =
-    let name = word_end s at "q_up" in
-    let time = u64_at s name space in
-    record { lone = QueryUp time.value; next = time.next }
+unfoldable pub q_up_line : (s : List ℕ) (at : ℕ) → Option (Word Lone)
+q_up_line s at = do
+  name ← word_end s at "q_up"
+  time ← u64_at s name space
+  Some (word (QueryUp time.value) time.next)
 
 -- `q_failed`: now u64
-unfoldable pub q_failed_line : (s : List ℕ) (at : ℕ) → LoneLine
-q_failed_line s at =
-    let name = word_end s at "q_failed" in
-    let time = u64_at s name space in
-    record { lone = QueryFailed time.value; next = time.next }
+unfoldable pub q_failed_line : (s : List ℕ) (at : ℕ) → Option (Word Lone)
+q_failed_line s at = do
+  name ← word_end s at "q_failed"
+  time ← u64_at s name space
+  Some (word (QueryFailed time.value) time.next)
 
 -- ---- a delay file
 
 -- `dread1`: the bytes of a delay file, two hex digits each, or - for none
-unfoldable pub dread1_line : (s : List ℕ) (at : ℕ) → LoneLine
-dread1_line s at =
-    let name = word_end s at "dread1" in
-    let file = file_at s name space in
-    record { lone = ReadDelays file.at; next = file.next }
+unfoldable pub dread1_line : (s : List ℕ) (at : ℕ) → Option (Word Lone)
+dread1_line s at = do
+  name ← word_end s at "dread1"
+  file ← file_at s name space
+  Some (word (ReadDelays file.value) file.next)
 
 -- ---- all lines: the first that is there
-unfoldable pub or_else : (first second : LoneLine) → LoneLine
-or_else first second = pick (eqb first.next lost) second first
-
 infixl 20 ◌or◌
-abbrev ◌or◌ : (first second : LoneLine) → LoneLine
-first or second = or_else first second
+abbrev ◌or◌ : (first second : Option (Word Lone)) → Option (Word Lone)
+first or second = option_or first second
 
-unfoldable pub number_lines : (s : List ℕ) (at : ℕ) → LoneLine
+unfoldable pub number_lines : (s : List ℕ) (at : ℕ) → Option (Word Lone)
 number_lines s at = ms_line s at
     or samples_line s at
     or need_line s at
     or index_at_line s at
     or time_of_line s at
 
-unfoldable pub window_lines : (s : List ℕ) (at buckets : ℕ) → LoneLine
+unfoldable pub window_lines : (s : List ℕ) (at buckets : ℕ) → Option (Word Lone)
 window_lines s at buckets = wnew_line s at
     or wset_line s at buckets
     or wsum_line s at buckets
@@ -266,12 +261,12 @@ window_lines s at buckets = wnew_line s at
     or wspan_line s at
     or wquant_line s at
 
-unfoldable pub hold_lines : (s : List ℕ) (at : ℕ) → LoneLine
+unfoldable pub hold_lines : (s : List ℕ) (at : ℕ) → Option (Word Lone)
 hold_lines s at = hnew_line s at
     or hset_line s at
     or next_line s at
 
-unfoldable pub clock_lines : (s : List ℕ) (at : ℕ) → LoneLine
+unfoldable pub clock_lines : (s : List ℕ) (at : ℕ) → Option (Word Lone)
 clock_lines s at = co_set_line s at
     or co_changed_line s at
     or co_pending_line s at
@@ -281,7 +276,7 @@ clock_lines s at = co_set_line s at
     or q_up_line s at
     or q_failed_line s at
 
-unfoldable pub lone_line : (s : List ℕ) (at buckets : ℕ) → LoneLine
+unfoldable pub lone_line : (s : List ℕ) (at buckets : ℕ) → Option (Word Lone)
 lone_line s at buckets = number_lines s at
     or window_lines s at buckets
     or hold_lines s at

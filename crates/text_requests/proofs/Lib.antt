@@ -1,4 +1,3 @@
 pub mod Loads
 pub mod Loops
 pub mod Sixteen
-pub mod Told

@@ -9,8 +9,9 @@ use lib.ListN.{length, get_or, take, set, length-set}
 use lib.Seq.{get_or-set_same, get_or-set_other}
 use Rattle.byte_order.specs.Bytes.{bytes_at}
 use Rattle.rules_calls.specs.NewLoading.{loaded_flow}
+use Rattle.text_scan.specs.declared.Word.{Word}
 use Rattle.text_requests.specs.declared.lists.Load.{Load}
-use Rattle.text_requests.specs.Lists.{HalfPut, Loads, flow_of, load_at, loads_at, loaded_flows, loaded_as}
+use Rattle.text_requests.specs.Lists.{HalfPut, Loads, or_blank, no_load, load_at, loads_at, loaded_flows, loaded_as}
 use Rattle.text_requests.proofs.Loops.{stored, Listing, listing_none, listing_more, listing_done}
 
 -- ---- the bytes of a number
@@ -93,34 +94,32 @@ flow_stored i {high} {low} {a} {b} {c} p q = rw (add-one i, before, is_high, is_
     is_low = ap (λ (place : ℕ). bytes_at c place 8) second ∙ q.there
 
 -- ---- the loaded delays
+abbrev load_or : (s : List ℕ) (at : ℕ) → Word Load
+load_or s at = or_blank (load_at s) no_load at
+
 -- the first i are stored, in lists that have room for all
 pub record Loading (s : List ℕ) (start n : ℕ) (bytes delays : List ℕ) (at i : ℕ) : Type 0 where
   pub room : (262144 ≤ length bytes) × (16384 ≤ length delays)
-  pub flows : Listing (λ (at : ℕ). flow_of (load_at s at)) (λ (at : ℕ). (load_at s at).next) (min n 16384) start (loaded_flows i bytes) at i
-  pub kept : Listing (λ (at : ℕ). (load_at s at).delay) (λ (at : ℕ). (load_at s at).next) (min n 16384) start (take i delays) at i
+  pub flows : Listing (λ (at : ℕ). (load_or s at).value.flow) (λ (at : ℕ). (load_or s at).next) (min n 16384) start (loaded_flows i bytes) at i
+  pub kept : Listing (λ (at : ℕ). (load_or s at).value.delay) (λ (at : ℕ). (load_or s at).next) (min n 16384) start (take i delays) at i
 
 module _ {s : List ℕ} {start n : ℕ} where
   pub loading_none : {bytes delays : List ℕ} → (262144 ≤ length bytes) × (16384 ≤ length delays) → Loading s start n bytes delays start 0
   loading_none h = record { room = h; flows = listing_none; kept = listing_none }
 
   module _ {bytes delays : List ℕ} {at i : ℕ} (inv : Loading s start n bytes delays at i) where
-    pub loading_more : i < 16384 → i < n → {load : Load} → load ≡ load_at s at → {between after : List ℕ} → HalfPut (i * 2 * 8) load.high bytes between → length between ≡ length bytes
-        → HalfPut ((i * 2 + 1) * 8) load.low between after → length after ≡ length between → Loading s start n after (set delays i load.delay) load.next (i + 1)
-    loading_more h k {load} e p l q m = record {
+    pub loading_more : i < min n 16384 → {load : Load} → load ≡ (load_or s at).value → {next : ℕ} → next ≡ (load_or s at).next
+        → {between after : List ℕ} → HalfPut (i * 2 * 8) load.flow.high bytes between → length between ≡ length bytes
+        → HalfPut ((i * 2 + 1) * 8) load.flow.low between after → length after ≡ length between → Loading s start n after (set delays i load.delay) next (i + 1)
+    loading_more h {load} e f p l q m = record {
       room = (omega (arith, inv.room), omega (arith, inv.room, length-set delays i load.delay));
-      flows = listing_more inv.flows (omega arith) (ap flow_of e) (ap (λ (x : Load). x.next) e) (flow_stored i p q);
-      kept = listing_more inv.kept (omega arith) (ap (λ (x : Load). x.delay) e) (ap (λ (x : Load). x.next) e) (stored delays i load.delay (omega (arith, inv.room)));
+      flows = listing_more inv.flows h (ap (λ (x : Load). x.flow) e) f (flow_stored i p q);
+      kept = listing_more inv.kept h (ap (λ (x : Load). x.delay) e) f (stored delays i load.delay (omega (arith, inv.room)));
     }
 
-    all_loaded : min n 16384 ≤ i → loaded_as n bytes delays ≡ loads_at s start n
+    pub all_loaded : min n 16384 ≤ i → loaded_as n bytes delays ≡ loads_at s start n
     unfolding loads_at
     all_loaded h = let e : min n 16384 ≡ i = omega (arith, inv.flows.within) in rw (listing_done inv.flows h, listing_done inv.kept h) at (here e)
       where
         here : min n 16384 ≡ i → ◌≡◌ {A = Loads} (loaded_as n bytes delays) (record { flows = loaded_flows i bytes; delays = take i delays })
         here e = rw e
-
-    pub loading_done : n ≤ i → loaded_as n bytes delays ≡ loads_at s start n
-    loading_done h = all_loaded (omega arith)
-
-    pub loading_full : 16384 ≤ i → loaded_as n bytes delays ≡ loads_at s start n
-    loading_full h = all_loaded (omega arith)

@@ -6,8 +6,11 @@ use native.Mathlib.Numerals.{add-one}
 use native.Mathlib.Omega.{arith}
 use lib.ListN.{length, take, drop, set, replicate, length-set, take-append-drop}
 use lib.Seq.{drop-cons, drop-set-lt}
-use Rattle.text_requests.specs.Lists.{listed, sixteen}
+use Rattle.text_requests.specs.Lists.{listed}
 use Rattle.text_requests.proofs.Loops.{stored, Listing, listing_none, listing_more, listing_done}
+
+abbrev pub filled_16 : {A : Type 0} (one : ℕ → A) (after : ℕ → ℕ) (none : A) (n at : ℕ) → List A
+filled_16 one after none n at = listed one after (min n 16) at ++ replicate (16 - n) none
 
 -- the first i places are filled, and those that are left have none
 pub record Filling {A : Type 0} (one : ℕ → A) (after : ℕ → ℕ) (none : A) (n start : ℕ) (all : List A) (at i : ℕ) : Type 0 where
@@ -20,8 +23,8 @@ module _ {A : Type 0} {one : ℕ → A} {after : ℕ → ℕ} {none : A} {n star
   filling_none e = record { long = refl; blank = ap (replicate 16) e; filled = listing_none }
 
   module _ {all : List A} {at i : ℕ} (inv : Filling one after none n start all at i) where
-    pub filling_more : i < 16 → i < n → {value : A} {next : ℕ} → value ≡ one at → next ≡ after at → Filling one after none n start (set all i value) next (i + 1)
-    filling_more h k {value} e f = record {
+    pub filling_more : i < min n 16 → {value : A} {next : ℕ} → value ≡ one at → next ≡ after at → Filling one after none n start (set all i value) next (i + 1)
+    filling_more h {value} e f = record {
       long = length-set all i value ∙ inv.long;
       blank = rw (add-one i) (drop-set-lt (suc i) all i value (omega arith) ∙ cc (drop-cons all i none (omega (arith, inv.long)), rw left at inv.blank));
       filled = listing_more inv.filled (omega arith) e f (stored all i value (omega (arith, inv.long)));
@@ -30,14 +33,8 @@ module _ {A : Type 0} {one : ℕ → A} {after : ℕ → ℕ} {none : A} {n star
         left : 16 - i ≡ suc (16 - suc i)
         left = omega arith
 
-    all_filled : min n 16 ≤ i → all ≡ sixteen one after none n start
+    pub all_filled : min n 16 ≤ i → all ≡ filled_16 one after none n start
     all_filled h = sym (take-append-drop i all) ∙ ap (λ (l : List A). l ++ drop i all) (listing_done inv.filled h) ∙ ap (λ (l : List A). listed one after (min n 16) start ++ l) (inv.blank ∙ ap (λ (k : ℕ). replicate k none) rest)
       where
         rest : 16 - i ≡ 16 - n
         rest = omega (arith, inv.filled.within)
-
-    pub filling_done : n ≤ i → all ≡ sixteen one after none n start
-    filling_done h = all_filled (omega arith)
-
-    pub filling_full : 16 ≤ i → all ≡ sixteen one after none n start
-    filling_full h = all_filled (omega arith)

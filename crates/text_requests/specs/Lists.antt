@@ -1,5 +1,5 @@
 -- The lists of a line (compare/README.md, "The protocol"): kinds, looks, lags, loaded delays, rows and peaks. Assumes nothing.
-use Rattle.std.specs.Prelude.{ℕ, zero, suc, ◌+◌, ◌-◌, ◌<◌, min, false, ◌≡◌, List, [], ◌∷◌, ◌++◌, eqb, leb, length, get_or, take, replicate}
+use Rattle.std.specs.Prelude.{ℕ, zero, suc, ◌+◌, ◌-◌, ◌<◌, min, false, ◌≡◌, List, [], ◌∷◌, ◌++◌, leb, length, get_or, take, replicate, Option, None, Some, option_map, unwrap_or}
 use Rattle.base.specs.Choice.{pick}
 use Rattle.byte_order.specs.Bytes.{bytes_at}
 use Rattle.rules_calls.specs.NewLoading.{loaded_flow}
@@ -7,119 +7,123 @@ use Rattle.rules_record.specs.declared.AutoTag.TheVariants.{Auto as auto-tag}
 use Rattle.rules_record.specs.declared.ExtraDelay.{ExtraDelay}
 use Rattle.rules_record.specs.declared.ExtraDelay.TheVariants.{Auto}
 use Rattle.rules_record.specs.declared.Flow.{Flow}
-use Rattle.rules_record.specs.declared.Inode.TheVariants.{Gone}
-use Rattle.rules_routing.specs.declared.Reader.TheVariants.{Shut}
+use Rattle.rules_routing.specs.declared.World.{World}
 use Rattle.rules_tick.specs.declared.Look.{Look}
-use Rattle.text_scan.specs.Scan.{has_byte, ends_at}
-use Rattle.text_words.specs.Words.{lost}
+use Rattle.text_scan.specs.declared.Word.{Word}
+use Rattle.text_scan.specs.Scan.{word, ◌>>=◌, has_byte, ends_at}
+use Rattle.text_words.specs.Words.{u64_at, u32_at, bit_at, maybe_u64_at, maybe_u32_at, flow_at, kind_at}
 use Rattle.text_requests.specs.declared.lists.Cell.{Cell}
-use Rattle.text_requests.specs.declared.lists.Found.{Found}
 use Rattle.text_requests.specs.declared.lists.Load.{Load}
-use Rattle.text_requests.specs.declared.lists.LookWord.{LookWord}
 use Rattle.text_requests.specs.declared.lists.Peak.{Peak}
 use Rattle.text_requests.specs.declared.lists.Row.{Row}
-use Rattle.text_requests.specs.Forms.{space, comma, colon, equals, u64_at, u32_at, bit_at, maybe_u64_at, maybe_u32_at, flow_at, kind_at, text_end}
-use Rattle.text_requests.specs.Parts.{inode_of, reader_of, kind_of}
+use Rattle.text_requests.specs.Forms.{space, comma, colon, equals, text_end}
+use Rattle.text_requests.specs.Parts.{flow_of, kind_of}
 
 -- ---- one of a list
+-- a kind
+unfoldable pub kind_one : (s : List ℕ) (at : ℕ) → Option (Word ExtraDelay)
+kind_one s at = do
+  kind ← kind_at s at space
+  Some (word (kind_of kind.value) kind.next)
+
 -- a look: watch, open, make, channels, head, applied, count
-unfoldable pub look_at : (s : List ℕ) (at : ℕ) → LookWord
-look_at s at =
-    let watch = maybe_u64_at s at space in
-    let opens = maybe_u64_at s watch.next comma in
-    let make = bit_at s opens.next comma in
-    let channels = maybe_u32_at s make.next comma in
-    let head = u64_at s channels.next comma in
-    let applied = u32_at s head.next comma in
-    let count = u32_at s applied.next comma in
-    record {
-      look =
-          record {
-            seen = inode_of watch;
-            world = record { inode = inode_of opens; made = make.value; reader = reader_of channels; head = head.value };
-            applied = applied.value;
-            lags = count.value;
-          };
-      next = count.next;
-    }
+unfoldable pub look_at : (s : List ℕ) (at : ℕ) → Option (Word Look)
+look_at s at = do
+  watch ← maybe_u64_at s at space
+  opens ← maybe_u64_at s watch.next comma
+  make ← bit_at s opens.next comma
+  channels ← maybe_u32_at s make.next comma
+  head ← u64_at s channels.next comma
+  applied ← u32_at s head.next comma
+  count ← u32_at s applied.next comma
+  let world : World = record { inode = opens.value; made = make.value; reader = channels.value; head = head.value }
+  Some (word (record { seen = watch.value; world = world; applied = applied.value; lags = count.value }) count.next)
 
 -- a loaded delay: flow=delay
-unfoldable pub load_at : (s : List ℕ) (at : ℕ) → Load
-load_at s at =
-    let flow = flow_at s at space in
-    let delay = u32_at s flow.next equals in
-    record { high = flow.high; low = flow.low; delay = delay.value; next = delay.next }
+unfoldable pub load_at : (s : List ℕ) (at : ℕ) → Option (Word Load)
+load_at s at = do
+  flow ← flow_at s at space
+  delay ← u32_at s flow.next equals
+  Some (word (record { flow = flow_of flow.value; delay = delay.value }) delay.next)
 
 -- a row's beginning: start:total
-unfoldable pub row_at : (s : List ℕ) (at : ℕ) → Row
-row_at s at =
-    let start = u64_at s at space in
-    let total = u64_at s start.next colon in
-    record { start = start.value; total = total.value; next = total.next }
+unfoldable pub row_at : (s : List ℕ) (at : ℕ) → Option (Word Row)
+row_at s at = do
+  start ← u64_at s at space
+  total ← u64_at s start.next colon
+  Some (word (record { start = start.value; total = total.value }) total.next)
 
 -- a count of a row: ,bucket=count
-unfoldable pub cell_at : (s : List ℕ) (at : ℕ) → Cell
-cell_at s at =
-    let bucket = u32_at s at comma in
-    let count = u32_at s bucket.next equals in
-    record { bucket = bucket.value; count = count.value; next = count.next }
+unfoldable pub cell_at : (s : List ℕ) (at : ℕ) → Option (Word Cell)
+cell_at s at = do
+  bucket ← u32_at s at comma
+  count ← u32_at s bucket.next equals
+  Some (word (record { bucket = bucket.value; count = count.value }) count.next)
 
 -- a peak: time:lag
-unfoldable pub peak_at : (s : List ℕ) (at : ℕ) → Peak
-peak_at s at =
-    let time = u64_at s at space in
-    let lag = u32_at s time.next colon in
-    record { time = time.value; lag = lag.value; next = lag.next }
+unfoldable pub peak_at : (s : List ℕ) (at : ℕ) → Option (Word Peak)
+peak_at s at = do
+  time ← u64_at s at space
+  lag ← u32_at s time.next colon
+  Some (word (record { time = time.value; lag = lag.value }) lag.next)
 
--- ---- the place after so many of them; where one is not there, the place is lost
-abbrev pub times : (one : ℕ → ℕ) (n at : ℕ) → ℕ
-times one zero at = at
-times one (suc n) at = pick (eqb at lost) lost (times one n (one at))
+-- ---- the place after so many of them
+unfoldable pub times : {A : Type 0} → (one : ℕ → Option (Word A)) (n at : ℕ) → Option ℕ
+times one zero at = Some at
+times one (suc n) at = do
+  w ← one at
+  times one n w.next
 
-unfoldable pub kinds_end : (s : List ℕ) (at n : ℕ) → ℕ
-kinds_end s at n = times (λ (next : ℕ). (kind_at s next space).next) n at
+unfoldable pub kinds_end : (s : List ℕ) (at n : ℕ) → Option ℕ
+kinds_end s at n = times (kind_one s) n at
 
-unfoldable pub looks_end : (s : List ℕ) (at n : ℕ) → ℕ
-looks_end s at n = times (λ (next : ℕ). (look_at s next).next) n at
+unfoldable pub looks_end : (s : List ℕ) (at n : ℕ) → Option ℕ
+looks_end s at n = times (look_at s) n at
 
-unfoldable pub loads_end : (s : List ℕ) (at n : ℕ) → ℕ
-loads_end s at n = times (λ (next : ℕ). (load_at s next).next) n at
+unfoldable pub loads_end : (s : List ℕ) (at n : ℕ) → Option ℕ
+loads_end s at n = times (load_at s) n at
 
-unfoldable pub peaks_end : (s : List ℕ) (at n : ℕ) → ℕ
-peaks_end s at n = times (λ (next : ℕ). (peak_at s next).next) n at
+unfoldable pub peaks_end : (s : List ℕ) (at n : ℕ) → Option ℕ
+peaks_end s at n = times (peak_at s) n at
 
--- ---- so many of them from a place on: what each is taken for, the next at the place after it
-abbrev pub listed : {A : Type 0} (one : ℕ → A) (after : ℕ → ℕ) (n at : ℕ) → List A
+-- ---- so many of them from a place on, the next at the place after it; where one is not there it is none
+abbrev pub or_blank : {A : Type 0} → (one : ℕ → Option (Word A)) (none : A) (at : ℕ) → Word A
+or_blank one none at = unwrap_or (one at) (word none at)
+
+abbrev pub listed : {A : Type 0} → (one : ℕ → A) (after : ℕ → ℕ) (n at : ℕ) → List A
 listed one after zero at = []
 listed one after (suc n) at = one at ∷ listed one after n (after at)
 
+abbrev pub in_line : {A B : Type 0} → (f : A → B) (one : ℕ → Option (Word A)) (none : A) (n at : ℕ) → List B
+in_line f one none n at = listed (λ (at : ℕ). f (or_blank one none at).value) (λ (at : ℕ). (or_blank one none at).next) n at
+
 -- in 16 places the first n, at most 16, and after them none
-abbrev pub sixteen : {A : Type 0} (one : ℕ → A) (after : ℕ → ℕ) (none : A) (n at : ℕ) → List A
-sixteen one after none n at = listed one after (min n 16) at ++ replicate (16 - n) none
+unfoldable pub sixteen : {A : Type 0} → (one : ℕ → Option (Word A)) (none : A) (n at : ℕ) → List A
+sixteen one none n at = in_line (λ x. x) one none (min n 16) at ++ replicate (16 - n) none
 
 -- `new`: n kinds; an input that does not exist is automatic
 unfoldable pub kinds_at : (s : List ℕ) (at n : ℕ) → List ExtraDelay
-kinds_at s at n = sixteen (λ (at : ℕ). kind_of (kind_at s at space)) (λ (at : ℕ). (kind_at s at space).next) (Auto auto-tag) n at
+kinds_at s at n = sixteen (kind_one s) (Auto auto-tag) n at
 
 -- `tick`: a look for each input; nothing is seen of an input that does not exist
 abbrev pub nothing_seen : Look
-nothing_seen = record { seen = Gone; world = record { inode = Gone; made = false; reader = Shut; head = 0 }; applied = 0; lags = 0 }
+nothing_seen = record { seen = None; world = record { inode = None; made = false; reader = None; head = 0 }; applied = 0; lags = 0 }
 
 unfoldable pub looks_at : (s : List ℕ) (at n : ℕ) → List Look
-looks_at s at n = sixteen (λ (at : ℕ). (look_at s at).look) (λ (at : ℕ). (look_at s at).next) nothing_seen n at
+looks_at s at n = sixteen (look_at s) nothing_seen n at
 
 -- `new`: k times flow=delay, of which 16,384 have room
 pub record Loads : Type 0 where
   pub flows : List Flow
   pub delays : List ℕ
 
-abbrev pub flow_of : Load → Flow
-flow_of load = record { high = load.high; low = load.low }
+abbrev pub no_load : Load
+no_load = record { flow = record { high = 0; low = 0 }; delay = 0 }
 
 unfoldable pub loads_at : (s : List ℕ) (at n : ℕ) → Loads
 loads_at s at n = record {
-  flows = listed (λ (at : ℕ). flow_of (load_at s at)) (λ (at : ℕ). (load_at s at).next) (min n 16384) at;
-  delays = listed (λ (at : ℕ). (load_at s at).delay) (λ (at : ℕ). (load_at s at).next) (min n 16384) at;
+  flows = in_line (λ load. load.flow) (load_at s) no_load (min n 16384) at;
+  delays = in_line (λ load. load.delay) (load_at s) no_load (min n 16384) at;
 }
 
 -- what was stored of the first n: the flows as `new` reads their bytes, and the delays
@@ -139,38 +143,36 @@ pub record HalfPut (place value : ℕ) (before after : List ℕ) : Type 0 where
 pub record Lags : Type 0 where
   pub count : ℕ
   pub list : List ℕ
-  pub next : ℕ
 
-abbrev pub no_lags : Lags
-no_lags = record { count = 0; list = []; next = lost }
-
-unfoldable pub lags_after : (s : List ℕ) (more at : ℕ) (read : List ℕ) → Lags
-lags_after s zero at read = no_lags
+unfoldable pub lags_after : (s : List ℕ) (more at : ℕ) (read : List ℕ) → Option (Word Lags)
+lags_after s zero at read = None
 lags_after s (suc more) at read =
-    pick (ends_at s at) (record { count = length read; list = read; next = at })
-    (pick (eqb at lost) no_lags (lags_after s more (u32_at s at space).next (read ++ (u32_at s at space).value ∷ [])))
+    pick (ends_at s at) (Some (word (record { count = length read; list = read }) at)) (u32_at s at space >>= λ lag. lags_after s more lag.next (read ++ lag.value ∷ []))
 
-unfoldable pub lags_at : (s : List ℕ) (at room : ℕ) → Lags
-lags_at s at room = lags_after s room (text_end s at " L") []
+unfoldable pub lags_at : (s : List ℕ) (at room : ℕ) → Option (Word Lags)
+lags_at s at room = do
+  next ← text_end s at " L"
+  lags_after s room next []
 
 -- what was stored: the first so many places of the list
-abbrev pub heard_as : Found → (heard : List ℕ) → Lags
-heard_as found heard = record { count = found.count; list = take found.count heard; next = found.next }
+abbrev pub heard_as : (next : ℕ) (count : Option ℕ) (heard : List ℕ) → Option (Word Lags)
+heard_as next count heard = option_map (λ n. word (record { count = n; list = take n heard }) next) count
 
 -- ---- the rows up to the end of the line, with cells of buckets that exist; a line has fewer of either than bytes
-abbrev pub cells_after : (s : List ℕ) (buckets more at : ℕ) → ℕ
-cells_after s buckets zero at = lost
+unfoldable pub cells_after : (s : List ℕ) (buckets more at : ℕ) → Option ℕ
+cells_after s buckets zero at = None
 cells_after s buckets (suc more) at =
-    pick (has_byte s at comma) (pick (leb buckets (cell_at s at).bucket) lost (cells_after s buckets more (cell_at s at).next)) at
+    pick (has_byte s at comma) (cell_at s at >>= λ cell. pick (leb buckets cell.value.bucket) None (cells_after s buckets more cell.next)) (Some at)
 
-unfoldable pub cells_end : (s : List ℕ) (at buckets : ℕ) → ℕ
+unfoldable pub cells_end : (s : List ℕ) (at buckets : ℕ) → Option ℕ
 cells_end s at buckets = cells_after s buckets (length s) at
 
-abbrev pub rows_after : (s : List ℕ) (buckets more at read : ℕ) → Found
-rows_after s buckets zero at read = record { count = 0; next = lost }
+unfoldable pub rows_after : (s : List ℕ) (buckets more at read : ℕ) → Option (Word ℕ)
+rows_after s buckets zero at read = None
 rows_after s buckets (suc more) at read =
-    pick (ends_at s at) (record { count = read; next = at })
-    (pick (eqb at lost) (record { count = 0; next = lost }) (rows_after s buckets more (cells_end s (row_at s at).next buckets) (read + 1)))
+    pick (ends_at s at)
+    (Some (word read at))
+    (row_at s at >>= λ row. cells_end s row.next buckets >>= λ next. rows_after s buckets more next (read + 1))
 
-unfoldable pub rows_at : (s : List ℕ) (at buckets : ℕ) → Found
+unfoldable pub rows_at : (s : List ℕ) (at buckets : ℕ) → Option (Word ℕ)
 rows_at s at buckets = rows_after s buckets (length s) at 0

@@ -1,12 +1,11 @@
 // What a line of the text protocol asks, by value (compare/README.md, "The protocol"); which words give which request is text_read's. Where a request has a list (kinds, looks, loaded delays, rows, peaks), it holds the place of the line where the list begins.
 #![tactic(auto)]
 
-use delay_hold::{DelayHold, Lag};
-use rules_calls::{DelaySetting, Settings, Wanted};
-use rules_record::Proposal;
+use delay_hold::DelayHold;
+use rules_calls::{DelaySetting, Settings, Source};
+use rules_record::Route;
 use rules_routing::World;
-use sources::QueryDown;
-use state::Due;
+use sources::Down;
 
 pub mod lists;
 pub mod parts;
@@ -58,8 +57,8 @@ pub struct NextAsked {
     pub window: u64,
     pub margin: u32,
     pub percent: f64,
-    pub p999: Lag,
-    pub largest: Lag,
+    pub p999: Option<u32>,
+    pub largest: Option<u32>,
     pub current: u32,
     pub time: u64,
 }
@@ -109,12 +108,12 @@ pub enum Lone {
     HoldNew,
     HoldSet(HoldAsked),
     Next(NextAsked),
-    CoalesceSet(Due),
+    CoalesceSet(Option<u64>),
     Changed(ChangedAsked),
     Pending,
     Take,
     TakeDue(u64),
-    QuerySet(QueryDown),
+    QuerySet(Option<Down>),
     QueryUp(u64),
     QueryFailed(u64),
     // A delay file, by the place of its bytes.
@@ -136,7 +135,7 @@ pub struct NewAsked {
 pub struct RouteAsked {
     pub time: u64,
     pub input: usize,
-    pub wanted: Wanted,
+    pub wanted: Option<Source>,
     pub world: World,
 }
 
@@ -180,7 +179,7 @@ pub struct CountersAsked {
 #[derive(Clone, Copy)]
 pub struct DelaysAsked {
     pub delay: u32,
-    pub proposed: Proposal,
+    pub proposed: Option<u32>,
 }
 
 // What `put` crafts of an input.

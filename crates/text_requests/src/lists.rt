@@ -1,225 +1,220 @@
 // The lists of a line: kinds, looks, lags, loaded delays, rows and peaks.
-ghost use Rattle.std.specs.Prelude.{◌≡◌, ◌+◌, ◌*◌, ◌≤◌, length};
-ghost use Rattle.text_requests.specs.Lists.{look_at, load_at, row_at, cell_at, peak_at, kinds_end, kinds_at, looks_end, nothing_seen, looks_at, loads_end, loads_at, loaded_as, HalfPut, peaks_end, heard_as, lags_at, cells_end, rows_at};
+ghost use Rattle.std.specs.Prelude.{◌≡◌, ℕ, ◌+◌, ◌*◌, ◌≤◌, length, List, Option};
+ghost use Rattle.text_scan.specs.declared.Word.{Word};
+ghost use Rattle.text_words.specs.Words.{read_as, passed_as};
+ghost use Rattle.text_requests.specs.Lists.{kind_one, look_at, load_at, row_at, cell_at, peak_at, times, or_blank, sixteen, kinds_at, looks_at, loads_at, loaded_as, HalfPut, heard_as, lags_at, cells_end, rows_at};
 
-use crate::parts::{inode_of, kind_of, reader_of};
-use rules_record::{AutoTag, ExtraDelay, Inode};
-use rules_routing::{Reader, World};
+use crate::parts::{flow_of, kind_of};
+use rules_record::{AutoTag, ExtraDelay, Flow};
+use rules_routing::World;
 use rules_tick::Look;
 use text_scan::{ends, is_at};
-use text_words::{
-    LOST, bit_word, flow_word, kind_word, maybe_u32_word, maybe_u64_word, text_end, u32_word,
-    u64_word,
-};
+use text_words::Reader;
 
 // The most delays that are loaded.
 pub const MOST_LOADS: usize = 16_384;
 
-// ---- kinds
-// The place after n kinds.
-pub fn kinds_end(s: &[u8], at: usize, n: usize) -> usize
-    ensures { result ≡ kinds_end s.now at n }
-{
-    let mut next = at;
-    let mut i: usize = 0;
-    while i < n {
-        if next == LOST {
-            return LOST;
-        }
-        let kind = kind_word(s, next, b' ');
-        next = kind.next;
-        i += 1;
+// ---- one of a list
+pub trait Listed: Copy {
+    ghost one_at: { List ℕ → ℕ → Option (Word Self) };
+
+    fn read(r: &mut Reader<'_>) -> Option<Self>
+        ensures read { read_as r.new.at result ≡ one_at r.old.s.now r.old.at }
+        ensures same { r.new.s.now ≡ r.old.s.now };
+}
+
+impl Listed for ExtraDelay {
+    ghost one_at = { kind_one };
+
+    #[tactic(auto, unfolding(crate::specs::Lists::kind_one))]
+    fn read(r: &mut Reader<'_>) -> Option<ExtraDelay> {
+        let kind = r.kind(b' ')?;
+        Some(kind_of(kind))
     }
-    next
+}
+
+impl Listed for Look {
+    ghost one_at = { look_at };
+
+    #[tactic(auto, unfolding(crate::specs::Lists::look_at))]
+    fn read(r: &mut Reader<'_>) -> Option<Look> {
+        let seen = r.maybe_u64(b' ')?;
+        let world = World {
+            inode: r.maybe_u64(b',')?,
+            made: r.bit(b',')?,
+            reader: r.maybe_u32(b',')?,
+            head: r.u64(b',')?,
+        };
+        Some(Look {
+            seen,
+            world,
+            applied: r.u32(b',')?,
+            lags: r.u32(b',')? as usize,
+        })
+    }
+}
+
+// A flow and its delay, loaded at `new`.
+#[derive(Clone, Copy)]
+pub struct Load {
+    pub flow: Flow,
+    pub delay: u32,
+}
+
+impl Listed for Load {
+    ghost one_at = { load_at };
+
+    #[tactic(auto, unfolding(crate::specs::Lists::load_at))]
+    fn read(r: &mut Reader<'_>) -> Option<Load> {
+        let flow = r.flow(b' ')?;
+        Some(Load {
+            flow: flow_of(flow),
+            delay: r.u32(b'=')?,
+        })
+    }
+}
+
+// A second's start and its total.
+#[derive(Clone, Copy)]
+pub struct Row {
+    pub start: u64,
+    pub total: u64,
+}
+
+impl Listed for Row {
+    ghost one_at = { row_at };
+
+    #[tactic(auto, unfolding(crate::specs::Lists::row_at))]
+    fn read(r: &mut Reader<'_>) -> Option<Row> {
+        Some(Row {
+            start: r.u64(b' ')?,
+            total: r.u64(b':')?,
+        })
+    }
+}
+
+// A count of a row, which is not 0.
+#[derive(Clone, Copy)]
+pub struct Cell {
+    pub bucket: usize,
+    pub count: u32,
+}
+
+impl Listed for Cell {
+    ghost one_at = { cell_at };
+
+    #[tactic(auto, unfolding(crate::specs::Lists::cell_at))]
+    fn read(r: &mut Reader<'_>) -> Option<Cell> {
+        Some(Cell {
+            bucket: r.u32(b',')? as usize,
+            count: r.u32(b'=')?,
+        })
+    }
+}
+
+#[derive(Clone, Copy)]
+pub struct Peak {
+    pub time: u64,
+    pub lag: u32,
+}
+
+impl Listed for Peak {
+    ghost one_at = { peak_at };
+
+    #[tactic(auto, unfolding(crate::specs::Lists::peak_at))]
+    fn read(r: &mut Reader<'_>) -> Option<Peak> {
+        Some(Peak {
+            time: r.u64(b' ')?,
+            lag: r.u32(b':')?,
+        })
+    }
+}
+
+// ---- so many
+// To the place after n of them.
+#[tactic(auto, using(crate::proofs::Loops::times_step, crate::proofs::Loops::times_end))]
+pub fn pass<T: Listed>(r: &mut Reader<'_>, n: usize) -> Option<()>
+    ensures read { passed_as r.new.at result ≡ times (T.one_at r.old.s.now) n r.old.at }
+    ensures same { r.new.s.now ≡ r.old.s.now }
+{
+    for _i in 0..n {
+        T::read(r)?;
+    }
+    Some(())
+}
+
+// The next one; where it is not there the blank, and the reader stays.
+fn read_or<T: Listed>(r: &mut Reader<'_>, blank: T) -> T
+    ensures value { result ≡ (or_blank (T.one_at r.old.s.now) blank r.old.at).value }
+    ensures read { r.new.at ≡ (or_blank (T.one_at r.old.s.now) blank r.old.at).next }
+    ensures same { r.new.s.now ≡ r.old.s.now }
+{
+    let mut after = *r;
+    let Some(one) = T::read(&mut after) else {
+        return blank;
+    };
+    *r = after;
+    one
+}
+
+// The first n, at most 16, and blanks after them.
+#[tactic(auto, using(crate::proofs::Sixteen::filling_more, crate::proofs::Sixteen::all_filled), unfolding(crate::specs::Lists::sixteen))]
+fn sixteen<T: Listed>(mut r: Reader<'_>, n: usize, blank: T) -> [T; 16]
+    ensures { result ≡ sixteen (T.one_at r.entry.s.now) blank n r.entry.at }
+{
+    let mut all = [blank; 16];
+    for i in 0..n.min(16) {
+        all[i] = read_or(&mut r, blank);
+    }
+    all
 }
 
 // The first n kinds, at most 16.
+#[tactic(auto, unfolding(crate::specs::Lists::kinds_at))]
 pub fn kinds_at(s: &[u8], at: usize, n: usize) -> [ExtraDelay; 16]
     ensures { result ≡ kinds_at s.now at n }
 {
-    let auto = ExtraDelay::Auto(AutoTag::Auto);
-    let mut all = [auto; 16];
-    let mut next = at;
-    let mut i: usize = 0;
-    while i < 16 {
-        if n <= i {
-            return all;
-        }
-        let w = kind_word(s, next, b' ');
-        let kind = kind_of(w);
-        all[i] = kind;
-        next = w.next;
-        i += 1;
-    }
-    all
+    sixteen(Reader { s, at }, n, ExtraDelay::Auto(AutoTag::Auto))
 }
 
-// ---- looks
-#[derive(Clone, Copy)]
-pub struct LookWord {
-    pub look: Look,
-    pub next: usize,
-}
-
-fn look_at(s: &[u8], at: usize) -> LookWord
-    ensures { result ≡ look_at s.now at }
-{
-    let watch = maybe_u64_word(s, at, b' ');
-    let open = maybe_u64_word(s, watch.next, b',');
-    let made = bit_word(s, open.next, b',');
-    let channels = maybe_u32_word(s, made.next, b',');
-    let head = u64_word(s, channels.next, b',');
-    let applied = u32_word(s, head.next, b',');
-    let count = u32_word(s, applied.next, b',');
-    let world = World {
-        inode: inode_of(open),
-        made: made.value,
-        reader: reader_of(channels),
-        head: head.value,
-    };
-    let look = Look {
-        seen: inode_of(watch),
-        world,
-        applied: applied.value,
-        lags: count.value as usize,
-    };
-    LookWord {
-        look,
-        next: count.next,
-    }
-}
-
-// The place after n looks.
-pub fn looks_end(s: &[u8], at: usize, n: usize) -> usize
-    ensures { result ≡ looks_end s.now at n }
-{
-    let mut next = at;
-    let mut i: usize = 0;
-    while i < n {
-        if next == LOST {
-            return LOST;
-        }
-        let w = look_at(s, next);
-        next = w.next;
-        i += 1;
-    }
-    next
-}
-
-// What a tick brings for an input that does not exist.
-fn nothing() -> Look
-    ensures { result ≡ nothing_seen }
-{
-    let world = World {
-        inode: Inode::Gone,
-        made: false,
-        reader: Reader::Shut,
-        head: 0,
-    };
-    Look {
-        seen: Inode::Gone,
-        world,
-        applied: 0,
-        lags: 0,
-    }
-}
-
-// What the tick brings for each of n inputs, at most 16.
+// What the tick brings for each of n inputs, at most 16, and nothing for an input that does not exist.
+#[tactic(auto, unfolding(crate::specs::Lists::looks_at))]
 pub fn looks_at(s: &[u8], at: usize, n: usize) -> [Look; 16]
     ensures { result ≡ looks_at s.now at n }
 {
-    let none = nothing();
-    let mut all = [none; 16];
-    let mut next = at;
-    let mut i: usize = 0;
-    while i < 16 {
-        if n <= i {
-            return all;
-        }
-        let w = look_at(s, next);
-        let look = w.look;
-        all[i] = look;
-        next = w.next;
-        i += 1;
-    }
-    all
+    let world = World {
+        inode: None,
+        made: false,
+        reader: None,
+        head: 0,
+    };
+    let nothing = Look {
+        seen: None,
+        world,
+        applied: 0,
+        lags: 0,
+    };
+    sixteen(Reader { s, at }, n, nothing)
 }
 
 // ---- lags
-// How many there are up to the end of the line, which is `next`. Where not all could be read, LOST.
-#[derive(Clone, Copy)]
-pub struct Found {
-    pub count: usize,
-    pub next: usize,
-}
-
-// `L`, and the lags up to the end of the line. A line of at most 1 MiB has fewer than the list has places.
-pub fn lags_at(s: &[u8], at: usize, heard: &mut [u32]) -> Found
-    ensures { heard_as result heard.new ≡ lags_at s.now at (length heard.old) }
+// `L`, and the lags up to the end of the line: how many. A line of at most 1 MiB has fewer than the list has places.
+#[tactic(auto, using(crate::proofs::Loops::lags_step, crate::proofs::Loops::lags_end), unfolding(crate::specs::Lists::lags_at))]
+pub fn lags_at(r: &mut Reader<'_>, heard: &mut [u32]) -> Option<usize>
+    ensures read { heard_as r.new.at result heard.new ≡ lags_at r.old.s.now r.old.at (length heard.old) }
+    ensures same { r.new.s.now ≡ r.old.s.now }
 {
-    let n = heard.len();
-    let mut next = text_end(s, at, b" L");
-    let mut i: usize = 0;
-    while i < n {
-        if ends(s, next) {
-            return Found { count: i, next };
+    r.text(b" L")?;
+    for i in 0..heard.len() {
+        if ends(r.s, r.at) {
+            return Some(i);
         }
-        if next == LOST {
-            return Found {
-                count: 0,
-                next: LOST,
-            };
-        }
-        let lag = u32_word(s, next, b' ');
-        heard[i] = lag.value;
-        next = lag.next;
-        i += 1;
+        heard[i] = r.u32(b' ')?;
     }
-    Found {
-        count: 0,
-        next: LOST,
-    }
+    None
 }
 
 // ---- loaded delays
-#[derive(Clone, Copy)]
-pub struct Load {
-    pub high: u64,
-    pub low: u64,
-    pub delay: u32,
-    pub next: usize,
-}
-
-fn load_at(s: &[u8], at: usize) -> Load
-    ensures { result ≡ load_at s.now at }
-{
-    let flow = flow_word(s, at, b' ');
-    let delay = u32_word(s, flow.next, b'=');
-    Load {
-        high: flow.high,
-        low: flow.low,
-        delay: delay.value,
-        next: delay.next,
-    }
-}
-
-// The place after n loaded delays.
-pub fn loads_end(s: &[u8], at: usize, n: usize) -> usize
-    ensures { result ≡ loads_end s.now at n }
-{
-    let mut next = at;
-    let mut i: usize = 0;
-    while i < n {
-        if next == LOST {
-            return LOST;
-        }
-        let load = load_at(s, next);
-        next = load.next;
-        i += 1;
-    }
-    next
-}
-
 // Eight bytes from place 8 × i on, the first weighing most.
 fn put_half(flows: &mut [u8], i: usize, value: u64)
     requires { i * 8 + 8 ≤ length flows.old }
@@ -235,22 +230,17 @@ fn put_half(flows: &mut [u8], i: usize, value: u64)
 }
 
 // n loaded delays, at most 16,384, into lists that have room for so many.
-fn store_loads(s: &[u8], at: usize, n: usize, flows: &mut [u8], delays: &mut [u32])
+#[tactic(auto, using(crate::proofs::Loads::loading_more, crate::proofs::Loads::all_loaded))]
+fn store_loads(mut r: Reader<'_>, n: usize, flows: &mut [u8], delays: &mut [u32])
     requires { (262144 ≤ length flows.old) × (16384 ≤ length delays.old) }
-    ensures { loaded_as n flows.new delays.new ≡ loads_at s.now at n }
+    ensures { loaded_as n flows.new delays.new ≡ loads_at r.entry.s.now r.entry.at n }
 {
-    let mut next = at;
-    let mut i: usize = 0;
-    while i < MOST_LOADS {
-        if n <= i {
-            return;
-        }
-        let load = load_at(s, next);
-        put_half(flows, i * 2, load.high);
-        put_half(flows, i * 2 + 1, load.low);
+    let flow = Flow { high: 0, low: 0 };
+    for i in 0..n.min(MOST_LOADS) {
+        let load = read_or(&mut r, Load { flow, delay: 0 });
+        put_half(flows, i * 2, load.flow.high);
+        put_half(flows, i * 2 + 1, load.flow.low);
         delays[i] = load.delay;
-        next = load.next;
-        i += 1;
     }
 }
 
@@ -264,129 +254,40 @@ pub fn loads_at(
 )
     ensures { loaded_as n flows.new delays.new ≡ loads_at s.now at n }
 {
-    store_loads(s, at, n, flows, delays);
+    store_loads(Reader { s, at }, n, flows, delays);
 }
 
 // ---- rows
-#[derive(Clone, Copy)]
-pub struct Row {
-    pub start: u64,
-    pub total: u64,
-    pub next: usize,
-}
-
-#[derive(Clone, Copy)]
-pub struct Cell {
-    pub bucket: usize,
-    pub count: u32,
-    pub next: usize,
-}
-
-// A second's start and its total.
-pub fn row_at(s: &[u8], at: usize) -> Row
-    ensures { result ≡ row_at s.now at }
+// The cells of a row, of buckets that exist.
+#[tactic(auto, using(crate::proofs::Loops::cells_step, crate::proofs::Loops::cells_last, crate::proofs::Loops::left_all), unfolding(crate::specs::Lists::cells_end))]
+fn cells_end(r: &mut Reader<'_>, buckets: usize) -> Option<()>
+    ensures read { passed_as r.new.at result ≡ cells_end r.old.s.now r.old.at buckets }
+    ensures same { r.new.s.now ≡ r.old.s.now }
 {
-    let start = u64_word(s, at, b' ');
-    let total = u64_word(s, start.next, b':');
-    Row {
-        start: start.value,
-        total: total.value,
-        next: total.next,
-    }
-}
-
-// A count that is not 0.
-pub fn cell_at(s: &[u8], at: usize) -> Cell
-    ensures { result ≡ cell_at s.now at }
-{
-    let bucket = u32_word(s, at, b',');
-    let count = u32_word(s, bucket.next, b'=');
-    Cell {
-        bucket: bucket.value as usize,
-        count: count.value,
-        next: count.next,
-    }
-}
-
-// The place after the cells of a row, of buckets that exist.
-fn cells_end(s: &[u8], at: usize, buckets: usize) -> usize
-    ensures { result ≡ cells_end s.now at buckets }
-{
-    let mut next = at;
-    let mut i: usize = 0;
-    while i < s.len() {
-        if !is_at(s, next, b',') {
-            return next;
+    for _i in 0..r.s.len() {
+        if !is_at(r.s, r.at, b',') {
+            return Some(());
         }
-        let c = cell_at(s, next);
-        if buckets <= c.bucket {
-            return LOST;
+        let cell = Cell::read(r)?;
+        if buckets <= cell.bucket {
+            return None;
         }
-        next = c.next;
-        i += 1;
     }
-    LOST
+    None
 }
 
-// The rows up to the end of the line.
-pub fn rows_at(s: &[u8], at: usize, buckets: usize) -> Found
-    ensures { result ≡ rows_at s.now at buckets }
+// The rows up to the end of the line: how many.
+#[tactic(auto, using(crate::proofs::Loops::rows_step, crate::proofs::Loops::rows_end, crate::proofs::Loops::left_all), unfolding(crate::specs::Lists::rows_at))]
+pub fn rows_at(r: &mut Reader<'_>, buckets: usize) -> Option<usize>
+    ensures read { read_as r.new.at result ≡ rows_at r.old.s.now r.old.at buckets }
+    ensures same { r.new.s.now ≡ r.old.s.now }
 {
-    let mut next = at;
-    let mut count: usize = 0;
-    while count < s.len() {
-        if ends(s, next) {
-            return Found { count, next };
+    for count in 0..r.s.len() {
+        if ends(r.s, r.at) {
+            return Some(count);
         }
-        if next == LOST {
-            return Found {
-                count: 0,
-                next: LOST,
-            };
-        }
-        let r = row_at(s, next);
-        next = cells_end(s, r.next, buckets);
-        count += 1;
+        Row::read(r)?;
+        cells_end(r, buckets)?;
     }
-    Found {
-        count: 0,
-        next: LOST,
-    }
-}
-
-// ---- peaks
-#[derive(Clone, Copy)]
-pub struct Peak {
-    pub time: u64,
-    pub lag: u32,
-    pub next: usize,
-}
-
-pub fn peak_at(s: &[u8], at: usize) -> Peak
-    ensures { result ≡ peak_at s.now at }
-{
-    let time = u64_word(s, at, b' ');
-    let lag = u32_word(s, time.next, b':');
-    Peak {
-        time: time.value,
-        lag: lag.value,
-        next: lag.next,
-    }
-}
-
-// The place after n peaks.
-pub fn peaks_end(s: &[u8], at: usize, n: u64) -> usize
-    ensures { result ≡ peaks_end s.now at n }
-{
-    let mut next = at;
-    let mut i: u64 = 0;
-    while i < n {
-        if next == LOST {
-            return LOST;
-        }
-        let p = peak_at(s, next);
-        next = p.next;
-        i += 1;
-    }
-    next
+    None
 }

@@ -1,129 +1,92 @@
-// What a word gives: a number or none as the calls take it.
+// What a word gives: as the calls take it.
 ghost use Rattle.std.specs.Prelude.{◌≡◌};
-ghost use Rattle.text_requests.specs.Parts.{inode_of, due_of, moment_of, reader_of, proposal_of, lag_of, kind_of, setting_of, down_of, low_of, timer_of, seed_of};
+ghost use Rattle.text_requests.specs.Parts.{flow_of, kind_of, setting_of, down_of, low_of, timer_of, seed_of};
 
-use delay_hold::{Lag, LowerTimer, Moment, Seed};
+use delay_hold::{LowerTimer, Seed};
 use rules_calls::DelaySetting;
-use rules_record::{AutoTag, ExtraDelay, Inode, Proposal};
-use rules_routing::Reader;
-use sources::QueryDown;
-use state::Due;
+use rules_record::{AutoTag, ExtraDelay, Flow};
+use sources::Down;
 use text_print::bits::double;
-use text_words::{KindWord, MaybePair, MaybeSmallWord, MaybeWord};
 
 // The largest lag that a word can say.
 pub const MOST_LAG: u64 = 4_294_967_295;
 
-pub fn inode_of(w: MaybeWord) -> Inode
-    ensures { result ≡ inode_of w }
+// How many values 64 bits have.
+const WORDS: u128 = 18_446_744_073_709_551_616;
+
+// Of a flow's 128 bits.
+#[tactic(auto, unfolding(crate::specs::Parts::flow_of))]
+pub fn flow_of(bits: u128) -> Flow
+    ensures { result ≡ flow_of bits }
 {
-    if w.some {
-        return Inode::Of(w.value);
+    Flow {
+        high: (bits / WORDS) as u64,
+        low: (bits % WORDS) as u64,
     }
-    Inode::Gone
 }
 
-pub fn reader_of(w: MaybeSmallWord) -> Reader
-    ensures { result ≡ reader_of w }
+#[tactic(auto, unfolding(crate::specs::Parts::kind_of))]
+pub fn kind_of(manual: Option<u64>) -> ExtraDelay
+    ensures { result ≡ kind_of manual }
 {
-    if w.some {
-        return Reader::Open(w.value);
+    match manual {
+        Some(bits) => ExtraDelay::Ms(double(bits)),
+        None => ExtraDelay::Auto(AutoTag::Auto),
     }
-    Reader::Shut
-}
-
-pub fn kind_of(w: KindWord) -> ExtraDelay
-    ensures { result ≡ kind_of w }
-{
-    if w.manual {
-        return ExtraDelay::Ms(double(w.bits));
-    }
-    ExtraDelay::Auto(AutoTag::Auto)
 }
 
 // A kind that is not the desk's.
-pub fn setting_of(w: KindWord) -> DelaySetting
-    ensures { result ≡ setting_of w }
+#[tactic(auto, unfolding(crate::specs::Parts::setting_of))]
+pub fn setting_of(manual: Option<u64>) -> DelaySetting
+    ensures { result ≡ setting_of manual }
 {
-    if w.manual {
-        return DelaySetting::Ms(double(w.bits));
+    match manual {
+        Some(bits) => DelaySetting::Ms(double(bits)),
+        None => DelaySetting::Auto(AutoTag::Auto),
     }
-    DelaySetting::Auto(AutoTag::Auto)
 }
 
-pub fn proposal_of(w: MaybeSmallWord) -> Proposal
-    ensures { result ≡ proposal_of w }
+#[tactic(auto, unfolding(crate::specs::Parts::down_of))]
+pub fn down_of(pair: Option<(u64, u64)>) -> Option<Down>
+    ensures { result ≡ down_of pair }
 {
-    if w.some {
-        return Proposal::Pending(w.value);
-    }
-    Proposal::Nothing
-}
-
-pub fn lag_of(w: MaybeSmallWord) -> Lag
-    ensures { result ≡ lag_of w }
-{
-    if w.some {
-        return Lag::Of(w.value);
-    }
-    Lag::None
-}
-
-pub fn due_of(w: MaybeWord) -> Due
-    ensures { result ≡ due_of w }
-{
-    if w.some {
-        return Due::At(w.value);
-    }
-    Due::Unset
-}
-
-pub fn down_of(w: MaybePair) -> QueryDown
-    ensures { result ≡ down_of w }
-{
-    if w.some {
-        return QueryDown::Until {
-            until: w.first,
-            wait: w.second,
-        };
-    }
-    QueryDown::Never
-}
-
-pub fn moment_of(w: MaybeWord) -> Moment
-    ensures { result ≡ moment_of w }
-{
-    if w.some {
-        return Moment::At(w.value);
-    }
-    Moment::Never
+    let (until, wait) = pair?;
+    Some(Down { until, wait })
 }
 
 // Of a number that has 32 bits.
+#[tactic(auto, unfolding(crate::specs::Parts::low_of))]
 fn low(n: u64) -> u32
     ensures { result ≡ low_of n }
 {
-    if n <= MOST_LAG {
-        return n as u32;
-    }
-    0
+    u32::try_from(n).unwrap_or(0)
 }
 
-pub fn timer_of(w: MaybePair) -> LowerTimer
-    ensures { result ≡ timer_of w }
+#[tactic(auto, unfolding(crate::specs::Parts::timer_of))]
+pub fn timer_of(pair: Option<(u64, u64)>) -> LowerTimer
+    ensures { result ≡ timer_of pair }
 {
-    LowerTimer {
-        on: w.some,
-        since: w.first,
-        highest: low(w.second),
+    match pair {
+        Some((since, highest)) => LowerTimer {
+            on: true,
+            since,
+            highest: low(highest),
+        },
+        None => LowerTimer {
+            on: false,
+            since: 0,
+            highest: 0,
+        },
     }
 }
 
-pub fn seed_of(w: MaybePair) -> Seed
-    ensures { result ≡ seed_of w }
+#[tactic(auto, unfolding(crate::specs::Parts::seed_of))]
+pub fn seed_of(pair: Option<(u64, u64)>) -> Option<Seed>
+    ensures { result ≡ seed_of pair }
 {
-    if w.some {
-        return Seed::From(w.first, low(w.second));
-    }
-    Seed::Nothing
+    let (since, delay) = pair?;
+    Some(Seed {
+        since,
+        delay: low(delay),
+    })
 }

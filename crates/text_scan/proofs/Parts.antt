@@ -1,23 +1,21 @@
 -- The bounds of what scanning answers. Assumes nothing.
-use Rattle.std.specs.Prelude.{◌≡◌, ℕ, zero, suc, ◌+◌, ◌-◌, ◌<◌, ◌≤◌, eqb, leb, List, [], ◌∷◌, length, get_or, drop}
+use Rattle.std.specs.Prelude.{◌≡◌, ℕ, zero, suc, ◌+◌, ◌-◌, ◌<◌, ◌≤◌, eqb, leb, List, [], ◌∷◌, length, get_or, drop, Option, None, Some, unwrap_or}
 use mathlib.Core.Path.{ap, ◌∙◌}
 use native.Mathlib.Omega.{arith}
 use borrow.Author.Tests.{leb-true, leb-false, eqb-false}
 use lib.ListN.{length-drop}
 use lib.Seq.{get_or-drop}
 use Rattle.base.proofs.Choices.{by_bool}
-use Rattle.text_scan.specs.declared.Step.{Step}
-use Rattle.text_scan.specs.declared.Step.TheVariants.{At, Bad}
 use Rattle.text_scan.specs.Scan.{first_of, first_from}
 
 -- the place that `first` answers holds a byte of the list, from `at` on and before `to`
-never : (i : ℕ) → Bad ≡ At i → ⊥
+never : (i : ℕ) → None ≡ Some i → ⊥
 never i q = let z : ◌≡◌ {A = ℕ} 0 1 = cc in omega arith
 
-same_place : (k i : ℕ) → At k ≡ At i → k ≡ i
+same_place : (k i : ℕ) → Some k ≡ Some i → k ≡ i
 same_place k i q = cc
 
-found : (to b i : ℕ) (xs : List ℕ) (k : ℕ) → first_of to b k xs ≡ At i → (k ≤ i) × (i < to) × (i < k + length xs)
+found : (to b i : ℕ) (xs : List ℕ) (k : ℕ) → first_of to b k xs ≡ Some i → (k ≤ i) × (i < to) × (i < k + length xs)
 found to b i [] k q = absurd (never i q)
 found to b i (x ∷ xs) k q =
     by_bool
@@ -31,16 +29,15 @@ found to b i (x ∷ xs) k q =
     there : (suc k ≤ i) × (i < to) × (i < suc k + length xs) → (k ≤ i) × (i < to) × (i < k + suc (length xs))
     there f = (omega arith, omega arith, omega arith)
 
-pub first_within : (s : List ℕ) (at to b i : ℕ) → first_from s at to b ≡ At i → (at ≤ i) × (i < to) × (i < length s)
+pub first_within : (s : List ℕ) (at to b i : ℕ) → first_from s at to b ≡ Some i → (at ≤ i) × (i < to) × (i < length s)
 unfolding first_from
 first_within s at to b i e =
     let f = found to b i (drop at s) at e in
     (f.0, f.1, omega (arith, f.0, f.2, length-drop at s))
 
 -- how far `first` looked: up to the place that it answers, else up to `to`
-abbrev pub looked_to : ℕ → Step → ℕ
-looked_to to (At i) = i
-looked_to to Bad = to
+abbrev pub looked_to : ℕ → Option ℕ → ℕ
+looked_to to found = unwrap_or found to
 
 -- so far there is no such byte
 over : (to b : ℕ) (xs : List ℕ) (k j : ℕ) → j < length xs → k + j < looked_to to (first_of to b k xs) → get_or xs j 0 ≡ b → ⊥

@@ -1,31 +1,11 @@
-// Work on a lent buffer of bytes that base has for numbers of 32 and 64 bits.
+// Parts of a lent buffer of bytes.
 ghost use Rattle.std.specs.Prelude.{◌≡◌, ◌-◌, take, drop};
-ghost use Rattle.base.specs.Lists.{shifted};
-
-use base::least_usize;
 
 // The bytes from `from` up to `to`, as far as there are any.
 pub fn part(s: &[u8], from: usize, to: usize) -> &[u8]
     ensures { result.now ≡ take (to - from) (drop from s.now) }
 {
-    let end = least_usize(to, s.len());
-    let start = least_usize(from, end);
+    let end = to.min(s.len());
+    let start = from.min(end);
     &s[start..end]
-}
-
-// The first k bytes go, the others move down, and zeros come at the end.
-pub fn shift_u8(s: &mut [u8], k: usize)
-    ensures { s.new ≡ shifted k s.old }
-{
-    let n = s.len();
-    let mut i = 0;
-    while i < n {
-        if k < n - i {
-            s[i] = s[i + k];
-            i += 1;
-        } else {
-            s[i] = 0;
-            i += 1;
-        }
-    }
 }

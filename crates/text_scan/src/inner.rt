@@ -1,31 +1,35 @@
 // Numbers: for the crates above, which name a base.
-ghost use Rattle.std.specs.Prelude.{◌≡◌, ◌<◌};
-ghost use Rattle.text_scan.specs.Scan.{number_from};
+ghost use Rattle.std.specs.Prelude.{◌≡◌, ◌≤◌, IfSome};
+ghost use Rattle.text_scan.specs.Scan.{closed, number_from};
 
-use crate::{Number, close, digit};
+use crate::{Word, digit};
 
-// The number of at most `most` whose digits, in base 10 or 16, stand from `at` on.
-pub fn number(s: &[u8], at: usize, base: u64, most: u64) -> Number
-    requires { 1 < base }
-    ensures { result ≡ number_from s.now at base most }
+// A number with at least one digit.
+#[tactic(auto, unfolding(crate::specs::Scan::closed))]
+fn close(from: usize, value: u128, to: usize) -> Option<Word<u128>>
+    ensures { result ≡ closed from value to }
 {
-    let share = most / base;
-    let mut value = 0;
-    let mut i = at;
-    while i < s.len() {
-        let d = digit(s[i]);
-        if base <= d {
+    (from < to).then_some(Word { value, next: to })
+}
+
+// The number of at most `most` whose digits in the base stand from `at` on.
+#[tactic(auto, unfolding(crate::specs::Scan::number_from))]
+pub fn number(s: &[u8], at: usize, base: u64, most: u128) -> Option<Word<u128>>
+    ensures value { result ≡ number_from s.now at base most }
+    ensures bound { IfSome result (λ w. w.value ≤ most) }
+{
+    let mut value: u128 = 0;
+    for i in at..s.len() {
+        let Some(d) = digit(s[i], base) else {
             return close(at, value, i);
+        };
+        let more = value
+            .checked_mul(u128::from(base))?
+            .checked_add(u128::from(d))?;
+        if most < more {
+            return None;
         }
-        if share < value {
-            return Number::Bad;
-        }
-        let more = value * base;
-        if most - more < d {
-            return Number::Bad;
-        }
-        value = more + d;
-        i += 1;
+        value = more;
     }
-    close(at, value, i)
+    close(at, value, s.len())
 }

@@ -5,46 +5,38 @@
 pub mod bytes;
 pub mod inner;
 
-ghost use Rattle.std.specs.Prelude.{◌≡◌};
-ghost use Rattle.text_scan.specs.Scan.{has_byte, after_byte, ends_at, first_from, after_text, after_word, digit_of, closed};
+ghost use Rattle.std.specs.Prelude.{◌≡◌, ◌<◌, IfSome};
+ghost use Rattle.text_scan.specs.Scan.{has_byte, after_byte, ends_at, first_from, after_text, after_word, digit_of};
 
-// The place after what was looked for, or that it is not there.
-#[derive(Clone, Copy)]
-pub enum Step {
-    At(usize),
-    Bad,
-}
-
-// A number and the place after it.
-#[derive(Clone, Copy)]
-pub enum Number {
-    Of(u64, usize),
-    Bad,
+// What stands at a place of a line, and the place after it.
+#[derive(Clone, Copy, Debug, PartialEq, Eq)]
+pub struct Word<T> {
+    pub value: T,
+    pub next: usize,
 }
 
 // Does the byte b stand at this place?
+#[tactic(auto, unfolding(crate::specs::Scan::has_byte))]
 pub fn is_at(s: &[u8], at: usize, b: u8) -> bool
     ensures { result ≡ has_byte s.now at b }
 {
-    if at < s.len() {
-        return s[at] == b;
-    }
-    false
+    at < s.len() && s[at] == b
 }
 
 // The place after the byte b, which stands at this place.
-pub fn after(s: &[u8], at: usize, b: u8) -> Step
+#[tactic(auto, unfolding(crate::specs::Scan::after_byte))]
+pub fn after(s: &[u8], at: usize, b: u8) -> Option<usize>
     ensures { result ≡ after_byte s.now at b }
 {
-    if at < s.len() {
-        if s[at] == b {
-            return Step::At(at + 1);
-        }
+    if at < s.len() && s[at] == b {
+        Some(at + 1)
+    } else {
+        None
     }
-    Step::Bad
 }
 
 // Does the line end at this place?
+#[tactic(auto, unfolding(crate::specs::Scan::ends_at))]
 pub fn ends(s: &[u8], at: usize) -> bool
     ensures { result ≡ ends_at s.now at }
 {
@@ -52,84 +44,53 @@ pub fn ends(s: &[u8], at: usize) -> bool
 }
 
 // The first place from `at` on, and before `to`, that holds the byte b.
-pub fn first(s: &[u8], at: usize, to: usize, b: u8) -> Step
+#[tactic(auto, unfolding(crate::specs::Scan::first_from))]
+pub fn first(s: &[u8], at: usize, to: usize, b: u8) -> Option<usize>
     ensures { result ≡ first_from s.now at to b }
 {
-    let mut i = at;
-    while i < s.len() {
-        if to <= i {
-            return Step::Bad;
-        }
+    for i in at..to.min(s.len()) {
         if s[i] == b {
-            return Step::At(i);
+            return Some(i);
         }
-        i += 1;
     }
-    Step::Bad
+    None
 }
 
-// The value of a hex digit in lower case, 16 for any other byte.
-pub fn digit(b: u8) -> u64
-    ensures { result ≡ digit_of b }
+// The value of a digit of the base; those above 9 are in lower case. What is no digit in base 16 counts as 16.
+#[tactic(auto, unfolding(crate::specs::Scan::digit_of))]
+pub fn digit(b: u8, base: u64) -> Option<u8>
+    ensures value { result ≡ digit_of b base }
+    ensures below { IfSome result (λ d. d < base) }
 {
-    if b < 48 {
-        return 16;
-    }
-    if b < 58 {
-        return (b - 48) as u64;
-    }
-    if b < 97 {
-        return 16;
-    }
-    if b < 103 {
-        return (b - 87) as u64;
-    }
-    16
-}
-
-// A number with at least one digit.
-pub(crate) fn close(from: usize, value: u64, to: usize) -> Number
-    ensures { result ≡ closed from value to }
-{
-    if from < to {
-        return Number::Of(value, to);
-    }
-    Number::Bad
+    let d = match b {
+        b'0'..=b'9' => b - b'0',
+        b'a'..=b'f' => b - b'a' + 10,
+        _ => 16,
+    };
+    (u64::from(d) < base).then_some(d)
 }
 
 // The place after the text, which stands at this place.
-pub fn after_text(s: &[u8], at: usize, text: &[u8]) -> Step
+#[tactic(auto, unfolding(crate::specs::Scan::after_text))]
+pub fn after_text(s: &[u8], at: usize, text: &[u8]) -> Option<usize>
     ensures { result ≡ after_text s.now at text.now }
 {
-    let mut i = at;
-    let mut j = 0;
-    while j < text.len() {
-        if i < s.len() {
-            if s[i] == text[j] {
-                i += 1;
-                j += 1;
-            } else {
-                return Step::Bad;
-            }
-        } else {
-            return Step::Bad;
-        }
+    let mut next = at;
+    for b in text {
+        next = after(s, next, *b)?;
     }
-    Step::At(i)
+    Some(next)
 }
 
 // The place after the word, which stands at this place: a space follows, or the line ends.
-pub fn after_word(s: &[u8], at: usize, text: &[u8]) -> Step
+#[tactic(auto, unfolding(crate::specs::Scan::after_word))]
+pub fn after_word(s: &[u8], at: usize, text: &[u8]) -> Option<usize>
     ensures { result ≡ after_word s.now at text.now }
 {
-    let Step::At(next) = after_text(s, at, text) else {
-        return Step::Bad;
-    };
-    if ends(s, next) {
-        return Step::At(next);
+    let next = after_text(s, at, text)?;
+    if ends(s, next) || is_at(s, next, b' ') {
+        Some(next)
+    } else {
+        None
     }
-    if is_at(s, next, b' ') {
-        return Step::At(next);
-    }
-    Step::Bad
 }

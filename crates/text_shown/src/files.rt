@@ -1,68 +1,29 @@
 // A delay file: the flows and the delays that were read, or the bytes that were written.
-use crate::words::{Word, put_word};
-use base::{least_usize, less_usize, place_u32, product_usize};
+use crate::words::Word;
 use inputs_flows::inner::flow_from;
 use std::io::Write;
-use text_lending::{Bytes, Heard};
-use text_lines::room;
-use text_print::{Out, put_byte};
+use text_lines::Output;
 
 // The bytes of a flow.
 const FLOW_BYTES: usize = 16;
 
-// Flow i and its delay; nothing past the flows that have room.
-fn entry(i: usize, flows: &[u8], delays: &[u32]) -> Word {
-    let at = product_usize(i, FLOW_BYTES);
-    if less_usize(flows.len(), at) < FLOW_BYTES {
-        return Word::End;
-    }
-    let flow = flow_from(flows, at);
-    Word::Flow(flow.high, flow.low, b'=', place_u32(delays, i) as u64)
-}
-
-// The first n flows, each with its delay.
+// The first n flows, each with its delay; nothing past the flows that have room.
 pub(crate) fn show_delays<W: Write>(
-    writer: &mut W,
-    out: &mut Out,
-    place: usize,
+    output: &mut Output<'_, W>,
     n: usize,
-    flows: &Bytes,
-    delays: &Heard,
-) -> usize {
-    let mut next = place;
-    let mut i: usize = 0;
-    while i < n {
-        next = put_word(writer, out, next, entry(i, flows, delays));
-        i += 1;
+    flows: &[u8],
+    delays: &[u32],
+) {
+    for (flow, delay) in flows.chunks_exact(FLOW_BYTES).zip(delays.iter()).take(n) {
+        Word::Flow(flow_from(flow, 0), b'=', *delay as u64).put(output);
     }
-    next
 }
 
 // The first n bytes as one word.
-fn show_bytes<W: Write>(
-    writer: &mut W,
-    out: &mut Out,
-    place: usize,
-    n: usize,
-    file: &[u8],
-) -> usize {
-    let at = room(writer, out, place);
-    let end = least_usize(n, file.len());
-    let mut next = put_byte(out, at, b' ');
-    let mut i: usize = 0;
-    while i < end {
-        next = put_word(writer, out, next, Word::Byte(file[i]));
-        i += 1;
+pub(crate) fn show_file<W: Write>(output: &mut Output<'_, W>, n: usize, file: &[u8]) {
+    output.room();
+    output.printer.put_byte(b' ');
+    for byte in file.iter().take(n) {
+        Word::Byte(*byte).put(output);
     }
-    next
-}
-
-pub(crate) fn show_file<W: Write>(
-    writer: &mut W,
-    out: &mut Out,
-    place: usize,
-    length: usize,
-    file: &Bytes,
-) -> usize {
-    show_bytes(writer, out, place, length, file)
 }

@@ -1,124 +1,72 @@
 // A hold: its peaks, which begin at place `from` of the lists, and its fields from the last change on.
-use crate::words;
-use crate::words::{Line, Word, put_word, put_words};
-use base::{least_usize, place_u32, place_u64, sum_usize};
+use crate::words::{Word, put_words};
 use delay_hold::DelayHold;
 use std::io::Write;
-use text_lending::{Peaks, Times};
-use text_print::Out;
+use text_lending::Lists;
+use text_lines::Output;
 
 // Peak i: past the places that a hold has there are zeros.
-fn peak(i: usize, from: usize, times: &Times, lags: &Peaks) -> Word {
+fn peak(i: usize, from: usize, lists: &Lists<'_>) -> Word {
     if DelayHold::PLACES <= i {
         return Word::Two(b' ', 0, b':', 0);
     }
-    let at = sum_usize(from, i);
-    Word::Two(b' ', place_u64(times, at), b':', place_u32(lags, at) as u64)
+    let at = from.saturating_add(i);
+    Word::Two(
+        b' ',
+        lists.times.get(at).copied().unwrap_or(0),
+        b':',
+        u64::from(lists.peaks.get(at).copied().unwrap_or(0)),
+    )
 }
 
-fn show_peaks<W: Write>(
-    writer: &mut W,
-    out: &mut Out,
-    place: usize,
-    n: usize,
-    from: usize,
-    times: &Times,
-    lags: &Peaks,
-) -> usize {
-    let mut next = place;
-    let mut i: usize = 0;
-    while i < n {
-        next = put_word(writer, out, next, peak(i, from, times, lags));
-        i += 1;
-    }
-    next
-}
-
-// The greatest of the lags from one place up to another.
-fn greatest(from: usize, to: usize, lags: &Peaks) -> u32 {
-    let mut most: u32 = 0;
-    let mut i = from;
-    while i < to {
-        most = base::most(most, place_u32(lags, i));
-        i += 1;
-    }
-    most
+// The greatest of n lags.
+fn greatest(n: usize, from: usize, lags: &[u32]) -> u32 {
+    lags.iter()
+        .skip(from)
+        .take(n)
+        .fold(0, |most: u32, lag| most.max(*lag))
 }
 
 // The first peak of n, the last and the greatest lag.
-fn ends(n: usize, from: usize, times: &Times, lags: &Peaks) -> Line {
-    let end = Word::End;
+fn ends(n: usize, from: usize, lists: &Lists<'_>) -> [Word; 3] {
     if n == 0 {
-        let none = Word::None;
-        return [
-            none, none, none, end, end, end, end, end, end, end, end, end, end, end, end, end,
-        ];
+        return [Word::None; 3];
     }
-    let to = sum_usize(from, least_usize(n, DelayHold::PLACES));
     [
-        peak(0, from, times, lags),
-        peak(n - 1, from, times, lags),
-        Word::Number(greatest(from, to, lags) as u64),
-        end,
-        end,
-        end,
-        end,
-        end,
-        end,
-        end,
-        end,
-        end,
-        end,
-        end,
-        end,
-        end,
+        peak(0, from, lists),
+        peak(n - 1, from, lists),
+        greatest(n.min(DelayHold::PLACES), from, lists.peaks).into(),
     ]
 }
 
 // From the last change on.
-fn fields(hold: DelayHold) -> Line {
-    let last = hold.last_change;
-    let timer = hold.lower;
-    let started = hold.started;
-    let seeded = hold.seeded;
-    let end = Word::End;
+fn fields(hold: DelayHold) -> [Word; 6] {
     [
-        words::moment(last),
-        words::timer(timer),
-        words::moment(started),
-        Word::Number(hold.startup_late as u64),
-        Word::Number(hold.late_before as u64),
-        words::seed(seeded),
-        end,
-        end,
-        end,
-        end,
-        end,
-        end,
-        end,
-        end,
-        end,
-        end,
+        hold.last_change.into(),
+        hold.lower.into(),
+        hold.started.into(),
+        hold.startup_late.into(),
+        hold.late_before.into(),
+        hold.seeded.into(),
     ]
 }
 
 // ` H`, how many peaks, all of them or their ends, and the fields from the last change on.
 pub(crate) fn show<W: Write>(
-    writer: &mut W,
-    out: &mut Out,
-    place: usize,
+    output: &mut Output<'_, W>,
     full: bool,
     hold: DelayHold,
     from: usize,
-    times: &Times,
-    lags: &Peaks,
-) -> usize {
+    lists: &Lists<'_>,
+) {
     let n = hold.peaks;
-    let a = put_word(writer, out, place, Word::Head(b'H', n as u64));
-    let b = if full {
-        show_peaks(writer, out, a, n, from, times, lags)
+    Word::Head(b'H', n as u64).put(output);
+    if full {
+        for i in 0..n {
+            peak(i, from, lists).put(output);
+        }
     } else {
-        put_words(writer, out, a, ends(n, from, times, lags))
-    };
-    put_words(writer, out, b, fields(hold))
+        put_words(output, &ends(n, from, lists));
+    }
+    put_words(output, &fields(hold));
 }

@@ -2,18 +2,15 @@
 // the record that it shows. An answer more is an arm of `first_of` and `second_of`, and where it shows a list an arm of `show`.
 #![tactic(auto)]
 
-use base::{product_usize, sum_usize};
 use delay_hold::DelayHold;
 use lag_window::LagWindow;
 use rules_record::Inputs;
 use std::io::Write;
+use std::ops::Range;
 use text_answers::Answer;
-use text_lending::{
-    Bytes, Counts, Heard, LONE_COUNTS, LONE_PEAKS, LONE_SECONDS, Peaks, Seconds, Times, Words,
-};
-use text_lines::room;
-use text_print::{Out, put_byte, put_text};
-use words::{Word, put_word, put_words};
+use text_lending::{LONE_COUNTS, LONE_PEAKS, LONE_SECONDS, Lists};
+use text_lines::Output;
+use words::{Word, put_words};
 
 mod files;
 mod holds;
@@ -24,136 +21,99 @@ mod windows;
 mod words;
 
 // ---- the words of an answer
-fn first_of(answer: Answer) -> Word {
+fn first_of(answer: Answer) -> Option<Word> {
     match answer {
-        Answer::Refused(number) => Word::Number(number as u64),
-        Answer::Number(value) | Answer::Failed(value, _) => Word::Number(value),
-        Answer::Delays(n) | Answer::File(n) => Word::Number(n as u64),
-        Answer::Maybe(lag) | Answer::Next(lag) => words::lag(lag),
-        Answer::Double(x) => words::double(x),
-        Answer::Bit(bit) | Answer::Taken(bit, _) | Answer::Ticked(bit) => Word::Number(bit as u64),
-        Answer::Dry => Word::Number(0),
-        Answer::Due(due) => words::due(due),
-        _ => Word::End,
+        Answer::Refused(refusal) => Some(refusal.number().into()),
+        Answer::Number(value) | Answer::Failed(value, _) => Some(value.into()),
+        Answer::Delays(n) | Answer::File(n) => Some(n.into()),
+        Answer::Maybe(lag) | Answer::Next(lag) => Some(lag.into()),
+        Answer::Double(x) => Some(x.into()),
+        Answer::Bit(bit) | Answer::Taken(bit, _) | Answer::Ticked(bit) => Some(bit.into()),
+        Answer::Dry => Some(Word::Number(0)),
+        Answer::Due(due) => Some(due.into()),
+        _ => None,
     }
 }
 
-fn second_of(answer: Answer) -> Word {
+fn second_of(answer: Answer) -> Option<Word> {
     match answer {
-        Answer::Taken(_, due) => words::due(due),
-        Answer::Failed(_, down) => words::down(down),
-        _ => Word::End,
+        Answer::Taken(_, due) => Some(due.into()),
+        Answer::Failed(_, down) => Some(down.into()),
+        _ => None,
     }
 }
 
 // What a line begins with, and the words.
-fn show_words<W: Write>(writer: &mut W, out: &mut Out, place: usize, answer: Answer) -> usize {
-    let a = room(writer, out, place);
-    let b = match answer {
-        Answer::BadLine => put_text(out, a, b"bad line"),
-        Answer::Refused(_) => put_text(out, a, b"refused"),
-        _ => put_text(out, a, b"ok"),
-    };
-    let c = put_word(writer, out, b, first_of(answer));
-    put_word(writer, out, c, second_of(answer))
+fn show_words<W: Write>(output: &mut Output<'_, W>, answer: Answer) {
+    output.room();
+    match answer {
+        Answer::BadLine => output.printer.put_text(b"bad line"),
+        Answer::Refused(_) => output.printer.put_text(b"refused"),
+        _ => output.printer.put_text(b"ok"),
+    }
+    if let Some(word) = first_of(answer) {
+        word.put(output);
+    }
+    if let Some(word) = second_of(answer) {
+        word.put(output);
+    }
 }
 
 // ---- the record that an answer shows
 // Whether all of it, how many commands at most, and which inputs.
-#[derive(Clone, Copy)]
+#[derive(Drop)]
 struct Part {
     full: bool,
     commands: usize,
-    from: usize,
-    to: usize,
+    inputs: Range<usize>,
 }
 
 // A call sends at most four commands an input; `dump` and a dry tick send none.
 fn part_of(answer: Answer, full: bool, count: usize) -> Part {
+    let all = Part {
+        full,
+        commands: count.saturating_mul(4),
+        inputs: 0..count,
+    };
     match answer {
         Answer::Input(i) => Part {
-            full,
-            commands: product_usize(count, 4),
-            from: i,
-            to: sum_usize(i, 1),
+            inputs: i..i.saturating_add(1),
+            ..all
         },
         Answer::Dump => Part {
             full: true,
             commands: 0,
-            from: 0,
-            to: count,
+            ..all
         },
-        Answer::Dry => Part {
-            full,
-            commands: 0,
-            from: 0,
-            to: count,
-        },
-        _ => Part {
-            full,
-            commands: product_usize(count, 4),
-            from: 0,
-            to: count,
-        },
+        Answer::Dry => Part { commands: 0, ..all },
+        _ => all,
     }
 }
 
-// Writes the answer's line from `place` of the output buffer on: the place after it. A supervisor has so many buckets a second; the window and
-// the hold alone have the lists' last places. The flows of a delay file, or the file itself, are `bytes`, and its delays the first of `heard`.
+// Puts the answer's line out. A supervisor has so many buckets a second; the window and the hold alone have the lists' last places. The flows of a
+// delay file, or the file itself, are `bytes` of the lists, and its delays the first of `heard`.
 pub fn show<W: Write>(
-    writer: &mut W,
+    output: &mut Output<'_, W>,
     answer: Answer,
     full: bool,
-    out: &mut Out,
-    place: usize,
     inputs: Inputs,
     buckets: usize,
     window: LagWindow,
     hold: DelayHold,
-    starts: &Seconds,
-    totals: &Seconds,
-    counts: &Counts,
-    times: &Times,
-    peaks: &Peaks,
-    commands: &Words,
-    bytes: &Bytes,
-    heard: &Heard,
-) -> usize {
-    let a = show_words(writer, out, place, answer);
-    let b = match answer {
-        Answer::Status(status) => put_words(writer, out, a, status::words_of(status)),
-        Answer::Delays(n) => files::show_delays(writer, out, a, n, bytes, heard),
-        Answer::File(n) => files::show_file(writer, out, a, n, bytes),
-        Answer::Window => windows::show(
-            writer,
-            out,
-            a,
-            true,
-            window,
-            LONE_SECONDS,
-            LONE_COUNTS,
-            starts,
-            totals,
-            counts,
-        ),
-        Answer::Next(_) => holds::show(writer, out, a, true, hold, LONE_PEAKS, times, peaks),
+    lists: &Lists<'_>,
+) {
+    show_words(output, answer);
+    match answer {
+        Answer::Status(status) => put_words(output, &status::words_of(status)),
+        Answer::Delays(n) => files::show_delays(output, n, lists.bytes, lists.heard),
+        Answer::File(n) => files::show_file(output, n, lists.bytes),
+        Answer::Window => windows::show(output, true, window, LONE_SECONDS, LONE_COUNTS, lists),
+        Answer::Next(_) => holds::show(output, true, hold, LONE_PEAKS, lists),
         Answer::Input(_) | Answer::All | Answer::Ticked(_) | Answer::Dump | Answer::Dry => {
-            record::show(
-                writer,
-                out,
-                a,
-                part_of(answer, full, inputs.count),
-                inputs,
-                buckets,
-                starts,
-                totals,
-                counts,
-                times,
-                peaks,
-                commands,
-            )
+            let part = part_of(answer, full, inputs.count);
+            record::show(output, part, inputs, buckets, lists);
         }
-        _ => a,
-    };
-    put_byte(out, b, b'\n')
+        _ => {}
+    }
+    output.printer.put_byte(b'\n');
 }

@@ -1,156 +1,102 @@
 // The record of a supervisor: the commands, the tables and the inputs.
-use crate::words::{Line, Word, put_word, put_words};
-use crate::{Part, holds, tables, windows, words};
-use base::{place_u32, product_usize, sum_usize};
+use crate::words::{Word, put_words};
+use crate::{Part, holds, tables, windows};
 use delay_hold::DelayHold;
 use inputs_flows::flow_at;
 use lag_window::LagWindow;
-use rules_record::{Inputs, Routed, Slot};
+use rules_record::{Inputs, Route, Slot};
 use std::io::Write;
-use text_lending::{Counts, Peaks, Seconds, Times, Words};
-use text_print::Out;
+use text_lending::Lists;
+use text_lines::Output;
 
 // ---- the commands
-// Command i, where one was sent.
-fn command(i: usize, commands: &Words) -> Word {
-    let at = product_usize(i, 3);
-    let kind = place_u32(commands, at);
-    if kind == 0 {
-        return Word::End;
-    }
-    let input = place_u32(commands, sum_usize(at, 1));
-    let word = place_u32(commands, sum_usize(at, 2));
-    Word::Command(kind as u64, input as u64, word as u64)
-}
-
 // ` C`, and of the first n commands each that was sent, in sending order.
-fn show_commands<W: Write>(
-    writer: &mut W,
-    out: &mut Out,
-    place: usize,
-    n: usize,
-    commands: &Words,
-) -> usize {
-    let mut next = put_word(writer, out, place, Word::Mark(b'C'));
-    let mut i: usize = 0;
-    while i < n {
-        next = put_word(writer, out, next, command(i, commands));
-        i += 1;
+fn show_commands<W: Write>(output: &mut Output<'_, W>, n: usize, commands: &[u32]) {
+    Word::Mark(b'C').put(output);
+    for command in commands.chunks_exact(3).take(n) {
+        if let [kind, input, word] = command {
+            if *kind != 0 {
+                Word::Command(*kind, *input, *word).put(output);
+            }
+        }
     }
-    next
 }
 
 // ---- one input
-fn route(inputs: Inputs, to: Routed) -> Word {
-    let Routed::To(route) = to else {
-        return Word::None;
-    };
-    let flow = flow_at(inputs, route.flow);
-    Word::Flow(flow.high, flow.low, b'/', route.domain)
+fn route(inputs: Inputs, to: Option<Route>) -> Word {
+    match to {
+        Some(route) => Word::Flow(flow_at(inputs, route.flow), b'/', route.domain),
+        None => Word::None,
+    }
 }
 
 // Where an input reads from, and its numbers.
-fn numbers(inputs: Inputs, i: usize, slot: Slot) -> Line {
-    let state = slot.state;
+fn numbers(inputs: Inputs, i: usize, slot: Slot) -> [Word; 14] {
     let config = slot.config;
-    let kind = config.extra_delay;
-    let to = slot.route;
-    let inode = slot.inode;
-    let proposed = slot.proposed;
-    let end = Word::End;
     [
         Word::Head(b'|', i as u64),
-        Word::Number(inputs_slots::code(state) as u64),
-        words::kind(kind),
-        route(inputs, to),
-        words::inode(inode),
-        Word::Number(slot.last_head),
-        Word::Number(slot.head_changed),
-        Word::Number(slot.reopens),
-        Word::Number(slot.last_lag as u64),
-        Word::Number(slot.delay as u64),
-        words::proposal(proposed),
-        Word::Number(slot.delay_changes),
-        Word::Number(slot.late_events),
-        Word::Number(slot.late_before as u64),
-        end,
-        end,
+        inputs_slots::code(slot.state).into(),
+        config.extra_delay.into(),
+        route(inputs, slot.route),
+        slot.inode.into(),
+        slot.last_head.into(),
+        slot.head_changed.into(),
+        slot.reopens.into(),
+        slot.last_lag.into(),
+        slot.delay.into(),
+        slot.proposed.into(),
+        slot.delay_changes.into(),
+        slot.late_events.into(),
+        slot.late_before.into(),
     ]
 }
 
 // Input i, with so many buckets a second: its parts of the lists begin at its own places.
 fn show_input<W: Write>(
-    writer: &mut W,
-    out: &mut Out,
-    place: usize,
+    output: &mut Output<'_, W>,
     full: bool,
     inputs: Inputs,
     i: usize,
     buckets: usize,
-    starts: &Seconds,
-    totals: &Seconds,
-    counts: &Counts,
-    times: &Times,
-    peaks: &Peaks,
-) -> usize {
+    lists: &Lists<'_>,
+) {
     let slot = inputs_slots::slot_at(inputs, i);
-    let a = put_words(writer, out, place, numbers(inputs, i, slot));
-    let hold = slot.hold;
-    let b = holds::show(
-        writer,
-        out,
-        a,
+    put_words(output, &numbers(inputs, i, slot));
+    holds::show(
+        output,
         full,
-        hold,
-        product_usize(i, DelayHold::PLACES),
-        times,
-        peaks,
+        slot.hold,
+        i.saturating_mul(DelayHold::PLACES),
+        lists,
     );
     let window = LagWindow {
         seconds: slot.lag_seconds,
         buckets,
         width: inputs.width,
     };
-    let from = product_usize(i, LagWindow::SECONDS);
+    let from = i.saturating_mul(LagWindow::SECONDS);
     windows::show(
-        writer,
-        out,
-        b,
+        output,
         full,
         window,
         from,
-        product_usize(from, buckets),
-        starts,
-        totals,
-        counts,
-    )
+        from.saturating_mul(buckets),
+        lists,
+    );
 }
 
 // The commands, the tables, and the inputs of the part.
 pub(crate) fn show<W: Write>(
-    writer: &mut W,
-    out: &mut Out,
-    place: usize,
+    output: &mut Output<'_, W>,
     part: Part,
     inputs: Inputs,
     buckets: usize,
-    starts: &Seconds,
-    totals: &Seconds,
-    counts: &Counts,
-    times: &Times,
-    peaks: &Peaks,
-    commands: &Words,
-) -> usize {
+    lists: &Lists<'_>,
+) {
     let full = part.full;
-    let to = part.to;
-    let a = show_commands(writer, out, place, part.commands, commands);
-    let mut next = tables::show(writer, out, a, full, inputs);
-    let mut i = part.from;
-    while i < to {
-        next = show_input(
-            writer, out, next, full, inputs, i, buckets, starts, totals, counts, times, peaks,
-        );
-        i += 1;
+    show_commands(output, part.commands, lists.commands);
+    tables::show(output, full, inputs);
+    for i in part.inputs {
+        show_input(output, full, inputs, i, buckets, lists);
     }
-    next
 }

@@ -1,57 +1,32 @@
 // The status of one input.
-use crate::words;
-use crate::words::{Line, Word};
-use rules_calls::{Arrival, InputStatus};
+use crate::words::Word;
+use rules_calls::{ArrivalLag, InputStatus};
 
 // The three quantiles: all of them, or none.
-#[derive(Clone, Copy)]
-struct Quantiles {
-    p50: Word,
-    p99: Word,
-    p999: Word,
-}
-
-fn three_of(arrival: Arrival) -> Quantiles {
-    let Arrival::Of(lag) = arrival else {
-        return Quantiles {
-            p50: Word::None,
-            p99: Word::None,
-            p999: Word::None,
-        };
-    };
-    Quantiles {
-        p50: words::double(lag.p50),
-        p99: words::double(lag.p99),
-        p999: words::double(lag.p999),
+fn three_of(arrival: Option<ArrivalLag>) -> [Word; 3] {
+    match arrival {
+        Some(lag) => [lag.p50.into(), lag.p99.into(), lag.p999.into()],
+        None => [Word::None; 3],
     }
 }
 
-pub(crate) fn words_of(status: InputStatus) -> Line {
-    let source = status.source;
-    let kind = status.extra_delay;
-    let proposed = status.proposed_delay_ms;
-    let arrival = status.arrival_lag_ms;
-    let worst = status.worst_lag_ms;
-    let three = three_of(arrival);
-    let p50 = three.p50;
-    let p99 = three.p99;
-    let p999 = three.p999;
+pub(crate) fn words_of(status: InputStatus) -> [Word; 15] {
+    let [p50, p99, p999] = three_of(status.arrival_lag_ms);
     [
-        Word::Number(status.state as u64),
-        words::source(source),
-        Word::Number(status.channels as u64),
-        words::kind(kind),
-        words::double(status.extra_delay_ms),
-        words::double(status.effective_delay_ms),
-        words::milliseconds(proposed),
-        words::double(status.lag_ms),
+        inputs_slots::code(status.state).into(),
+        status.source.into(),
+        status.channels.into(),
+        status.extra_delay.into(),
+        status.extra_delay_ms.into(),
+        status.effective_delay_ms.into(),
+        status.proposed_delay_ms.into(),
+        status.lag_ms.into(),
         p50,
         p99,
         p999,
-        words::milliseconds(worst),
-        Word::Number(status.delay_changes),
-        Word::Number(status.late_events),
-        Word::Number(status.reopens),
-        Word::End,
+        status.worst_lag_ms.into(),
+        status.delay_changes.into(),
+        status.late_events.into(),
+        status.reopens.into(),
     ]
 }

@@ -1,148 +1,86 @@
 // A window: its seconds, which begin at place `from` of the starts and the totals, each with its row, the first at place `first` of the counts.
-use crate::words::{Line, Word, put_word, put_words};
-use base::{least_usize, place_u32, place_u64, sum_usize};
+use crate::words::{Word, put_words};
 use lag_window::LagWindow;
 use std::io::Write;
-use text_lending::{Counts, Seconds};
-use text_print::Out;
+use text_lending::Lists;
+use text_lines::Output;
 
 // The start and the total of second i: past the places that a window has there are zeros.
-fn second(i: usize, from: usize, starts: &Seconds, totals: &Seconds) -> Word {
+fn second(i: usize, from: usize, lists: &Lists<'_>) -> Word {
     if LagWindow::SECONDS <= i {
         return Word::Two(b' ', 0, b':', 0);
     }
-    let at = sum_usize(from, i);
-    Word::Two(b' ', place_u64(starts, at), b':', place_u64(totals, at))
+    let at = from.saturating_add(i);
+    Word::Two(
+        b' ',
+        lists.starts.get(at).copied().unwrap_or(0),
+        b':',
+        lists.totals.get(at).copied().unwrap_or(0),
+    )
 }
 
-// Row i: past the rows that a window has there is nothing.
-fn show_row<W: Write>(
-    writer: &mut W,
-    out: &mut Out,
-    place: usize,
-    i: usize,
-    buckets: usize,
-    counts: &Counts,
-    first: usize,
-) -> usize {
-    if LagWindow::SECONDS <= i {
-        return place;
-    }
-    let mut next = place;
-    let mut bucket: usize = 0;
-    while bucket < buckets {
-        let count = place_u32(counts, sum_usize(first, bucket));
-        if count != 0 {
-            next = put_word(
-                writer,
-                out,
-                next,
-                Word::Two(b',', bucket as u64, b'=', count as u64),
-            );
+// A row: each bucket that has lags, and how many.
+fn show_row<W: Write>(output: &mut Output<'_, W>, buckets: usize, counts: &[u32], first: usize) {
+    for (bucket, count) in counts.iter().skip(first).take(buckets).enumerate() {
+        if *count != 0 {
+            Word::Two(b',', bucket as u64, b'=', *count as u64).put(output);
         }
-        bucket += 1;
     }
-    next
 }
 
+// Past the rows that a window has there is nothing.
 fn show_rows<W: Write>(
-    writer: &mut W,
-    out: &mut Out,
-    place: usize,
+    output: &mut Output<'_, W>,
     window: LagWindow,
     from: usize,
     first: usize,
-    starts: &Seconds,
-    totals: &Seconds,
-    counts: &Counts,
-) -> usize {
-    let n = window.seconds;
-    let buckets = window.buckets;
-    let mut next = place;
+    lists: &Lists<'_>,
+) {
     let mut cell = first;
-    let mut i: usize = 0;
-    while i < n {
-        next = put_word(writer, out, next, second(i, from, starts, totals));
-        next = show_row(writer, out, next, i, buckets, counts, cell);
-        cell = sum_usize(cell, buckets);
-        i += 1;
+    for i in 0..window.seconds {
+        second(i, from, lists).put(output);
+        if i < LagWindow::SECONDS {
+            show_row(output, window.buckets, lists.counts, cell);
+        }
+        cell = cell.saturating_add(window.buckets);
     }
-    next
 }
 
-// The sum of the totals from one place up to another.
-fn total(from: usize, to: usize, totals: &Seconds) -> u64 {
-    let mut all: usize = 0;
-    let mut i = from;
-    while i < to {
-        all = sum_usize(all, place_u64(totals, i) as usize);
-        i += 1;
-    }
-    all as u64
+// The sum of n totals.
+fn total(n: usize, from: usize, totals: &[u64]) -> u64 {
+    totals
+        .iter()
+        .skip(from)
+        .take(n)
+        .fold(0, |all: u64, total| all.saturating_add(*total))
 }
 
 // The first second of n, the last and how many lags there are in all.
-fn ends(n: usize, from: usize, starts: &Seconds, totals: &Seconds) -> Line {
-    let end = Word::End;
+fn ends(n: usize, from: usize, lists: &Lists<'_>) -> [Word; 3] {
     if n == 0 {
-        let none = Word::None;
-        return [
-            none,
-            none,
-            Word::Number(0),
-            end,
-            end,
-            end,
-            end,
-            end,
-            end,
-            end,
-            end,
-            end,
-            end,
-            end,
-            end,
-            end,
-        ];
+        return [Word::None, Word::None, Word::Number(0)];
     }
-    let to = sum_usize(from, least_usize(n, LagWindow::SECONDS));
     [
-        second(0, from, starts, totals),
-        second(n - 1, from, starts, totals),
-        Word::Number(total(from, to, totals)),
-        end,
-        end,
-        end,
-        end,
-        end,
-        end,
-        end,
-        end,
-        end,
-        end,
-        end,
-        end,
-        end,
+        second(0, from, lists),
+        second(n - 1, from, lists),
+        total(n.min(LagWindow::SECONDS), from, lists.totals).into(),
     ]
 }
 
 // ` L`, how many seconds, and rows or their ends.
 pub(crate) fn show<W: Write>(
-    writer: &mut W,
-    out: &mut Out,
-    place: usize,
+    output: &mut Output<'_, W>,
     full: bool,
     window: LagWindow,
     from: usize,
     first: usize,
-    starts: &Seconds,
-    totals: &Seconds,
-    counts: &Counts,
-) -> usize {
+    lists: &Lists<'_>,
+) {
     let n = window.seconds;
-    let a = put_word(writer, out, place, Word::Head(b'L', n as u64));
+    Word::Head(b'L', n as u64).put(output);
     if full {
-        return show_rows(writer, out, a, window, from, first, starts, totals, counts);
+        show_rows(output, window, from, first, lists);
+    } else {
+        put_words(output, &ends(n, from, lists));
     }
-    put_words(writer, out, a, ends(n, from, starts, totals))
 }

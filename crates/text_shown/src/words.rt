@@ -1,179 +1,170 @@
-// The words of an answer, and what is shown as which word. A word more is a variant and its arm of `put_word`.
-use delay_hold::{Lag, LowerTimer, Moment, Seed};
-use rules_calls::{Milliseconds, Sourced};
-use rules_record::{ExtraDelay, Inode, Proposal};
-use sources::QueryDown;
-use state::Due;
+// The words of an answer, and what is shown as which word. A word more is a variant and its arm of `put`.
+use delay_hold::{LowerTimer, Seed};
+use rules_calls::Source;
+use rules_record::{ExtraDelay, Flow};
+use sources::Down;
 use std::io::Write;
-use text_lines::room;
+use text_lines::Output;
 use text_print::bits::bits_of;
-use text_print::{
-    Out, put_byte, put_decimal_after, put_flow_after, put_hex_after, put_hex_byte, put_none_after,
-};
 
 // Each stands after a space, where it does not say what it stands after.
 #[derive(Clone, Copy)]
 pub(crate) enum Word {
-    // Nothing is written.
-    End,
     // `-`.
     None,
     // A number; of a bit 1 for yes, 0 for no.
     Number(u64),
     // A number after one byte, and a number after another.
     Two(u8, u64, u8, u64),
-    // The bits of a double.
-    Bits(u64),
+    // A double, as its bits.
+    Double(f64),
     // A letter.
     Mark(u8),
     // A letter, and how many of what it stands for follow, or which.
     Head(u8, u64),
     // `M` and the bits of a manual delay's milliseconds.
-    Manual(u64),
-    // A flow's halves, a byte that separates, and a number.
-    Flow(u64, u64, u8, u64),
+    Manual(f64),
+    // A flow, a byte that separates, and a number.
+    Flow(Flow, u8, u64),
     // kind`.`input`.`word.
-    Command(u64, u64, u64),
+    Command(u32, u32, u32),
     // The two digits of a byte, after nothing: the bytes of a file are one word.
     Byte(u8),
 }
 
-// Up to 16 words.
-pub(crate) type Line = [Word; 16];
-
-// A word fits: what is kept free of the buffer is longer.
-pub(crate) fn put_word<W: Write>(writer: &mut W, out: &mut Out, place: usize, word: Word) -> usize {
-    let at = room(writer, out, place);
-    match word {
-        Word::End => at,
-        Word::None => put_none_after(out, at, b' '),
-        Word::Number(n) => put_decimal_after(out, at, b' ', n),
-        Word::Two(before, first, between, second) => {
-            let next = put_decimal_after(out, at, before, first);
-            put_decimal_after(out, next, between, second)
+impl Word {
+    // A word fits: what is kept free of the buffer is longer.
+    pub(crate) fn put<W: Write>(self, output: &mut Output<'_, W>) {
+        output.room();
+        let printer = &mut output.printer;
+        match self {
+            Word::None => printer.put_text(b" -"),
+            Word::Number(n) => {
+                printer.put_byte(b' ');
+                printer.put_decimal(n);
+            }
+            Word::Two(before, first, between, second) => {
+                printer.put_byte(before);
+                printer.put_decimal(first);
+                printer.put_byte(between);
+                printer.put_decimal(second);
+            }
+            Word::Double(x) => {
+                printer.put_byte(b' ');
+                printer.put_hex(bits_of(x));
+            }
+            Word::Mark(letter) => printer.put_text(&[b' ', letter]),
+            Word::Head(letter, n) => {
+                printer.put_text(&[b' ', letter, b' ']);
+                printer.put_decimal(n);
+            }
+            Word::Manual(x) => {
+                printer.put_text(b" M");
+                printer.put_hex(bits_of(x));
+            }
+            Word::Flow(flow, sep, n) => {
+                printer.put_byte(b' ');
+                printer.put_flow(flow.high, flow.low);
+                printer.put_byte(sep);
+                printer.put_decimal(n);
+            }
+            Word::Command(kind, input, word) => {
+                printer.put_byte(b' ');
+                printer.put_decimal(kind as u64);
+                printer.put_byte(b'.');
+                printer.put_decimal(input as u64);
+                printer.put_byte(b'.');
+                printer.put_decimal(word as u64);
+            }
+            Word::Byte(b) => printer.put_hex_byte(b),
         }
-        Word::Bits(bits) => put_hex_after(out, at, b' ', bits),
-        Word::Mark(letter) => {
-            let next = put_byte(out, at, b' ');
-            put_byte(out, next, letter)
-        }
-        Word::Head(letter, n) => {
-            let a = put_byte(out, at, b' ');
-            let b = put_byte(out, a, letter);
-            put_decimal_after(out, b, b' ', n)
-        }
-        Word::Manual(bits) => {
-            let next = put_byte(out, at, b' ');
-            put_hex_after(out, next, b'M', bits)
-        }
-        Word::Flow(high, low, sep, n) => {
-            let next = put_flow_after(out, at, b' ', high, low);
-            put_decimal_after(out, next, sep, n)
-        }
-        Word::Command(kind, input, word) => {
-            let next = put_decimal_after(out, at, b' ', kind);
-            let last = put_decimal_after(out, next, b'.', input);
-            put_decimal_after(out, last, b'.', word)
-        }
-        Word::Byte(b) => put_hex_byte(out, at, b),
     }
 }
 
-pub(crate) fn put_words<W: Write>(
-    writer: &mut W,
-    out: &mut Out,
-    place: usize,
-    words: Line,
-) -> usize {
-    let mut next = place;
-    let mut i: usize = 0;
-    while i < 16 {
-        let word = words[i];
-        next = put_word(writer, out, next, word);
-        i += 1;
+pub(crate) fn put_words<W: Write>(output: &mut Output<'_, W>, words: &[Word]) {
+    for word in words {
+        word.put(output);
     }
-    next
 }
 
 // ---- what is shown as which word
-pub(crate) fn double(x: f64) -> Word {
-    Word::Bits(bits_of(x))
-}
-
-pub(crate) fn milliseconds(ms: Milliseconds) -> Word {
-    let Milliseconds::Of(x) = ms else {
-        return Word::None;
-    };
-    double(x)
-}
-
-pub(crate) fn lag(lag: Lag) -> Word {
-    let Lag::Of(samples) = lag else {
-        return Word::None;
-    };
-    Word::Number(samples as u64)
-}
-
-pub(crate) fn due(due: Due) -> Word {
-    let Due::At(time) = due else {
-        return Word::None;
-    };
-    Word::Number(time)
-}
-
-pub(crate) fn down(down: QueryDown) -> Word {
-    let QueryDown::Until { until, wait } = down else {
-        return Word::None;
-    };
-    Word::Two(b' ', until, b':', wait)
-}
-
-pub(crate) fn kind(kind: ExtraDelay) -> Word {
-    let ExtraDelay::Ms(delay) = kind else {
-        return Word::Mark(b'A');
-    };
-    Word::Manual(bits_of(delay))
-}
-
-pub(crate) fn source(source: Sourced) -> Word {
-    let Sourced::From(place) = source else {
-        return Word::None;
-    };
-    let flow = place.flow;
-    Word::Flow(flow.high, flow.low, b'/', place.domain)
-}
-
-pub(crate) fn inode(inode: Inode) -> Word {
-    let Inode::Of(number) = inode else {
-        return Word::None;
-    };
-    Word::Number(number)
-}
-
-pub(crate) fn proposal(proposed: Proposal) -> Word {
-    let Proposal::Pending(delay) = proposed else {
-        return Word::None;
-    };
-    Word::Number(delay as u64)
-}
-
-pub(crate) fn moment(moment: Moment) -> Word {
-    let Moment::At(time) = moment else {
-        return Word::None;
-    };
-    Word::Number(time)
-}
-
-pub(crate) fn timer(timer: LowerTimer) -> Word {
-    if timer.on {
-        return Word::Two(b' ', timer.since, b':', timer.highest as u64);
+impl From<u64> for Word {
+    fn from(n: u64) -> Word {
+        Word::Number(n)
     }
-    Word::None
 }
 
-pub(crate) fn seed(seed: Seed) -> Word {
-    let Seed::From(time, delay) = seed else {
-        return Word::None;
-    };
-    Word::Two(b' ', time, b':', delay as u64)
+impl From<u8> for Word {
+    fn from(n: u8) -> Word {
+        Word::Number(n as u64)
+    }
+}
+
+impl From<u32> for Word {
+    fn from(n: u32) -> Word {
+        Word::Number(n as u64)
+    }
+}
+
+impl From<usize> for Word {
+    fn from(n: usize) -> Word {
+        Word::Number(n as u64)
+    }
+}
+
+impl From<bool> for Word {
+    fn from(bit: bool) -> Word {
+        Word::Number(bit as u64)
+    }
+}
+
+impl From<f64> for Word {
+    fn from(x: f64) -> Word {
+        Word::Double(x)
+    }
+}
+
+impl From<Down> for Word {
+    fn from(down: Down) -> Word {
+        Word::Two(b' ', down.until, b':', down.wait)
+    }
+}
+
+impl From<Seed> for Word {
+    fn from(seed: Seed) -> Word {
+        Word::Two(b' ', seed.since, b':', seed.delay as u64)
+    }
+}
+
+impl From<LowerTimer> for Word {
+    fn from(timer: LowerTimer) -> Word {
+        if timer.on {
+            return Word::Two(b' ', timer.since, b':', timer.highest as u64);
+        }
+        Word::None
+    }
+}
+
+impl From<Source> for Word {
+    fn from(source: Source) -> Word {
+        Word::Flow(source.flow, b'/', source.domain)
+    }
+}
+
+impl From<ExtraDelay> for Word {
+    fn from(kind: ExtraDelay) -> Word {
+        match kind {
+            ExtraDelay::Ms(delay) => Word::Manual(delay),
+            ExtraDelay::Auto(_) => Word::Mark(b'A'),
+        }
+    }
+}
+
+impl<T: Into<Word>> From<Option<T>> for Word {
+    fn from(value: Option<T>) -> Word {
+        match value {
+            Some(x) => x.into(),
+            None => Word::None,
+        }
+    }
 }

@@ -1,98 +1,81 @@
--- The words of a line as a call reads them: the value that stands after a separating byte, and the place after it. Where nothing of that form
--- stands, the value is zero and the place is one that no line has. Assumes nothing.
-use Rattle.std.specs.Prelude.{ℕ, ◌-◌, ◌^◌, true, false, List, leb}
-use Rattle.base.specs.Choice.{pick}
-use Rattle.text_scan.specs.declared.Step.{Step}
-use Rattle.text_scan.specs.declared.Step.TheVariants.{At, Bad}
-use Rattle.text_scan.specs.declared.Number.{Number}
-use Rattle.text_scan.specs.declared.Number.TheVariants.{Of, Bad as no_number}
-use Rattle.text_fields.specs.declared.Small.{Small}
-use Rattle.text_fields.specs.declared.Small.TheVariants.{Of as small_of, Bad as no-small}
-use Rattle.text_fields.specs.declared.Flag.{Flag}
-use Rattle.text_fields.specs.declared.Flag.TheVariants.{Of as flag-of, Bad as no_flag}
-use Rattle.text_fields.specs.declared.Maybe.{Maybe}
-use Rattle.text_fields.specs.declared.Maybe.TheVariants.{Of as maybe-of, Nothing, Bad as no-maybe}
-use Rattle.text_fields.specs.declared.MaybeSmall.{MaybeSmall}
-use Rattle.text_fields.specs.declared.MaybeSmall.TheVariants.{Of as maybe-small-of, Nothing as nothing-small, Bad as no-maybe-small}
-use Rattle.text_fields.specs.declared.FlowText.{FlowText}
-use Rattle.text_fields.specs.declared.FlowText.TheVariants.{Of as flow-of, Bad as no_flow}
-use Rattle.text_fields.specs.declared.KindText.{KindText}
-use Rattle.text_fields.specs.declared.KindText.TheVariants.{Auto, Ms, Bad as no_kind}
-use Rattle.text_words.specs.declared.Word.{Word}
-use Rattle.text_words.specs.declared.SmallWord.{SmallWord}
-use Rattle.text_words.specs.declared.ByteWord.{ByteWord}
-use Rattle.text_words.specs.declared.BitWord.{BitWord}
-use Rattle.text_words.specs.declared.MaybeWord.{MaybeWord}
-use Rattle.text_words.specs.declared.MaybeSmallWord.{MaybeSmallWord}
-use Rattle.text_words.specs.declared.MaybePair.{MaybePair}
-use Rattle.text_words.specs.declared.FlowWord.{FlowWord}
-use Rattle.text_words.specs.declared.KindWord.{KindWord}
-use Rattle.text_fields.specs.Fields.{number_after}
+-- The words of a line, each after the byte that separates it from the one before: the value that stands there, and the place after it, or none
+-- where nothing of that form stands there. Assumes nothing.
+use Rattle.std.specs.Prelude.{ℕ, ◌==◌, Bool, List, Option, None, Some, option_map}
+use Rattle.std.specs.Option.{option_or}
+use Rattle.text_scan.specs.declared.Word.{Word}
+use Rattle.text_scan.specs.Scan.{word, ◌>>=◌, after_byte, number_from}
 
--- the place where nothing was found: no line is that long, so nothing stands there either
-abbrev pub lost : ℕ
-lost = 2 ^ 64 - 1
+-- ---- what a reader answered, with the place at which it then stands
+abbrev pub read_as : {A : Type 0} → (next : ℕ) → Option A → Option (Word A)
+read_as next found = option_map (λ value. word value next) found
 
--- ---- the place after a text
-abbrev pub place_of : Step → ℕ
-place_of Bad = lost
-place_of (At next) = next
+abbrev pub passed_as : {A : Type 0} → (next : ℕ) → Option A → Option ℕ
+passed_as next found = option_map (λ value. next) found
 
--- ---- a number, in decimal or in hex
-abbrev pub word_of : Number → Word
-word_of no_number = record { value = 0; next = lost }
-word_of (Of value next) = record { value = value; next = next }
+-- ---- numbers: in base 10 or 16, of at most `most`
+unfoldable pub number_after : (s : List ℕ) (at sep base most : ℕ) → Option (Word ℕ)
+number_after s at sep base most = do
+  from ← after_byte s at sep
+  number_from s from base most
 
-abbrev pub small_word_of : Small → SmallWord
-small_word_of no-small = record { value = 0; next = lost }
-small_word_of (small_of value next) = record { value = value; next = next }
+-- u64, and hex64
+unfoldable pub u64_in : (s : List ℕ) (at sep base : ℕ) → Option (Word ℕ)
+u64_in s at sep base = number_after s at sep base 18446744073709551615
 
-abbrev pub byte_word : (value next : ℕ) → ByteWord
-byte_word value next = record { value = value; next = next }
+unfoldable pub u64_at : (s : List ℕ) (at sep : ℕ) → Option (Word ℕ)
+u64_at s at sep = u64_in s at sep 10
 
--- a number above 255 is no byte
-abbrev pub byte_word_of : Number → ByteWord
-byte_word_of no_number = byte_word 0 lost
-byte_word_of (Of value next) = pick (leb value 255) (byte_word value next) (byte_word 0 lost)
+unfoldable pub hex_at : (s : List ℕ) (at sep : ℕ) → Option (Word ℕ)
+hex_at s at sep = u64_in s at sep 16
 
-abbrev pub bit_word_of : Flag → BitWord
-bit_word_of no_flag = record { value = false; next = lost }
-bit_word_of (flag-of value next) = record { value = value; next = next }
+-- u32, and a number from 0 to 255
+unfoldable pub u32_at : (s : List ℕ) (at sep : ℕ) → Option (Word ℕ)
+u32_at s at sep = number_after s at sep 10 4294967295
 
--- ---- a number, or none
-abbrev pub maybe_word_of : Maybe → MaybeWord
-maybe_word_of no-maybe = record { some = false; value = 0; next = lost }
-maybe_word_of (Nothing next) = record { some = false; value = 0; next = next }
-maybe_word_of (maybe-of value next) = record { some = true; value = value; next = next }
+unfoldable pub u8_at : (s : List ℕ) (at sep : ℕ) → Option (Word ℕ)
+u8_at s at sep = number_after s at sep 10 255
 
-abbrev pub maybe_small_word_of : MaybeSmall → MaybeSmallWord
-maybe_small_word_of no-maybe-small = record { some = false; value = 0; next = lost }
-maybe_small_word_of (nothing-small next) = record { some = false; value = 0; next = next }
-maybe_small_word_of (maybe-small-of value next) = record { some = true; value = value; next = next }
+-- bit: 1 for yes, 0 for no
+unfoldable pub bit_at : (s : List ℕ) (at sep : ℕ) → Option (Word Bool)
+bit_at s at sep = do
+  w ← number_after s at sep 10 1
+  Some (word (w.value == 1) w.next)
 
--- ---- two numbers with a colon (58) between them, or none: the second is at most `most`, and where it is missing the place is lost
-abbrev pub pair_with : (first : ℕ) (second : Word) → MaybePair
-pair_with first second = record { some = true; first = first; second = second.value; next = second.next }
+-- flow: a number of 128 bits in hex
+unfoldable pub flow_at : (s : List ℕ) (at sep : ℕ) → Option (Word ℕ)
+flow_at s at sep = number_after s at sep 16 340282366920938463463374607431768211455
 
-abbrev pub no_pair : ℕ → MaybePair
-no_pair next = record { some = false; first = 0; second = 0; next = next }
+-- ---- a value, or a mark for none
+unfoldable pub mark_after : (s : List ℕ) (at sep b : ℕ) → Option ℕ
+mark_after s at sep b = do
+  from ← after_byte s at sep
+  after_byte s from b
 
-abbrev pub pair_of : (s : List ℕ) (most : ℕ) → Maybe → MaybePair
-pair_of s most no-maybe = no_pair lost
-pair_of s most (Nothing next) = no_pair next
-pair_of s most (maybe-of first next) = pair_with first (word_of (number_after s next 58 10 most))
+unfoldable pub or_none : {A : Type 0} → (mark : Option ℕ) (found : Option (Word A)) → Option (Word (Option A))
+or_none mark found = option_or (option_map (λ next. word None next) mark) (option_map (λ w. word (Some w.value) w.next) found)
 
--- ---- a flow's high and low 64 bits
-abbrev pub flow_word_of : FlowText → FlowWord
-flow_word_of no_flow = record { high = 0; low = 0; next = lost }
-flow_word_of (flow-of high low next) = record { high = high; low = low; next = next }
+-- u64|-, u32|- (45)
+unfoldable pub maybe_u64_at : (s : List ℕ) (at sep : ℕ) → Option (Word (Option ℕ))
+maybe_u64_at s at sep = or_none (mark_after s at sep 45) (u64_at s at sep)
 
--- ---- a delay kind: the bits of a double where it is manual
-abbrev pub kind_word_of : KindText → KindWord
-kind_word_of no_kind = record { manual = false; bits = 0; next = lost }
-kind_word_of (Auto next) = record { manual = false; bits = 0; next = next }
-kind_word_of (Ms bits next) = record { manual = true; bits = bits; next = next }
+unfoldable pub maybe_u32_at : (s : List ℕ) (at sep : ℕ) → Option (Word (Option ℕ))
+maybe_u32_at s at sep = or_none (mark_after s at sep 45) (u32_at s at sep)
 
--- ---- this place, if n is below the limit
-unfoldable pub below : (limit n next : ℕ) → ℕ
-below limit n next = pick (leb limit n) lost next
+-- (u64:number)|-, with a colon (58) between the two numbers; the second is at most `most`
+unfoldable pub pair_at : (s : List ℕ) (at sep most : ℕ) → Option (Word (ℕ × ℕ))
+pair_at s at sep most = do
+  first ← u64_at s at sep
+  second ← number_after s first.next 58 10 most
+  Some (word (first.value, second.value) second.next)
+
+unfoldable pub maybe_pair_at : (s : List ℕ) (at sep most : ℕ) → Option (Word (Option (ℕ × ℕ)))
+maybe_pair_at s at sep most = or_none (mark_after s at sep 45) (pair_at s at sep most)
+
+-- kind: `M` (77) and the bits of a double, or `A` (65) for an automatic one
+unfoldable pub manual_at : (s : List ℕ) (at sep : ℕ) → Option (Word ℕ)
+manual_at s at sep = do
+  from ← after_byte s at sep
+  hex_at s from 77
+
+unfoldable pub kind_at : (s : List ℕ) (at sep : ℕ) → Option (Word (Option ℕ))
+kind_at s at sep = or_none (mark_after s at sep 65) (manual_at s at sep)

@@ -1,282 +1,207 @@
-// The words of a line, read one after the other. Each function reads what stands after a separating byte and answers its value with the
-// place after it. Where nothing of that form stands, the value is zero and the place is LOST, at which nothing stands either: so the words of
-// a call are read without a test between them, and one test at the end tells whether all were there.
+// The words of a line (compare/README.md), read one after the other. Each method reads what stands after a separating byte, and the reader then
+// stands after it, or answers none where nothing of that form stands there. The caller asks for the next separator, or that the line ends, so
+// that nothing but the protocol's own text is taken.
 #![tactic(auto)]
 
-ghost use Rattle.std.specs.Prelude.{◌≡◌};
-ghost use Rattle.text_scan.specs.Scan.{after_text, after_word};
-ghost use Rattle.text_fields.specs.Fields.{number_after, small_after, flag_after, maybe_after, maybe_small_after, flow_after, kind_after};
-ghost use Rattle.text_words.specs.Words.{word_of, small_word_of, byte_word_of, bit_word_of, maybe_word_of, maybe_small_word_of, pair_of, flow_word_of, kind_word_of, place_of, below};
+ghost use Rattle.std.specs.Prelude.{◌≡◌, ◌≤◌, IfSome, IfNone};
+ghost use Rattle.text_scan.specs.Scan.{word, after_text, after_word};
+ghost use Rattle.text_words.specs.Words.{read_as, passed_as, number_after, mark_after, u64_in, u64_at, hex_at, u32_at, u8_at, bit_at, maybe_u64_at, maybe_u32_at, pair_at, maybe_pair_at, flow_at, manual_at, kind_at};
 
-use text_fields::{
-    Flag, FlowText, KindText, Maybe, MaybeSmall, Small, bit_after, flow_after, hex_after,
-    kind_after, maybe_u32_after, maybe_u64_after, number_after, u32_after, u64_after,
-};
-use text_scan::{Number, Step, after_text, after_word};
+use text_scan::inner::number;
+use text_scan::{Word, after, after_text, after_word};
 
-// A place that no line has.
-pub const LOST: usize = 18_446_744_073_709_551_615;
-
+// A place of a line, from which its words are read. Where a word is not there, the place is not told.
 #[derive(Clone, Copy)]
-pub struct Word {
-    pub value: u64,
-    pub next: usize,
+pub struct Reader<'a> {
+    pub s: &'a [u8],
+    pub at: usize,
 }
 
-#[derive(Clone, Copy)]
-pub struct SmallWord {
-    pub value: u32,
-    pub next: usize,
-}
-
-#[derive(Clone, Copy)]
-pub struct ByteWord {
-    pub value: u8,
-    pub next: usize,
-}
-
-#[derive(Clone, Copy)]
-pub struct BitWord {
-    pub value: bool,
-    pub next: usize,
-}
-
-// A number, or none.
-#[derive(Clone, Copy)]
-pub struct MaybeWord {
-    pub some: bool,
-    pub value: u64,
-    pub next: usize,
-}
-
-#[derive(Clone, Copy)]
-pub struct MaybeSmallWord {
-    pub some: bool,
-    pub value: u32,
-    pub next: usize,
-}
-
-// Two numbers, or none.
-#[derive(Clone, Copy)]
-pub struct MaybePair {
-    pub some: bool,
-    pub first: u64,
-    pub second: u64,
-    pub next: usize,
-}
-
-#[derive(Clone, Copy)]
-pub struct FlowWord {
-    pub high: u64,
-    pub low: u64,
-    pub next: usize,
-}
-
-// A delay kind: a double's bits where it is manual.
-#[derive(Clone, Copy)]
-pub struct KindWord {
-    pub manual: bool,
-    pub bits: u64,
-    pub next: usize,
-}
-
-fn numeral(n: Number) -> Word
-    ensures { result ≡ word_of n }
-{
-    let Number::Of(value, next) = n else {
-        return Word {
-            value: 0,
-            next: LOST,
-        };
-    };
-    Word { value, next }
-}
-
-pub fn u64_word(s: &[u8], at: usize, sep: u8) -> Word
-    ensures { result ≡ word_of (number_after s.now at sep 10 18446744073709551615) }
-{
-    numeral(u64_after(s, at, sep))
-}
-
-pub fn hex_word(s: &[u8], at: usize, sep: u8) -> Word
-    ensures { result ≡ word_of (number_after s.now at sep 16 18446744073709551615) }
-{
-    numeral(hex_after(s, at, sep))
-}
-
-pub fn u32_word(s: &[u8], at: usize, sep: u8) -> SmallWord
-    ensures { result ≡ small_word_of (small_after s.now at sep) }
-{
-    let Small::Of(value, next) = u32_after(s, at, sep) else {
-        return SmallWord {
-            value: 0,
-            next: LOST,
-        };
-    };
-    SmallWord { value, next }
-}
-
-pub fn u8_word(s: &[u8], at: usize, sep: u8) -> ByteWord
-    ensures { result ≡ byte_word_of (number_after s.now at sep 10 255) }
-{
-    let w = numeral(number_after(s, at, sep, 255));
-    if w.value <= 255 {
-        return ByteWord {
-            value: w.value as u8,
-            next: w.next,
-        };
-    }
-    ByteWord {
-        value: 0,
-        next: LOST,
-    }
-}
-
-pub fn bit_word(s: &[u8], at: usize, sep: u8) -> BitWord
-    ensures { result ≡ bit_word_of (flag_after s.now at sep) }
-{
-    let Flag::Of(value, next) = bit_after(s, at, sep) else {
-        return BitWord {
-            value: false,
-            next: LOST,
-        };
-    };
-    BitWord { value, next }
-}
-
-pub fn maybe_u64_word(s: &[u8], at: usize, sep: u8) -> MaybeWord
-    ensures { result ≡ maybe_word_of (maybe_after s.now at sep 18446744073709551615) }
-{
-    let m = maybe_u64_after(s, at, sep);
-    match m {
-        Maybe::Of(value, next) => MaybeWord {
-            some: true,
+impl<'a> Reader<'a> {
+    // What was read up to this place.
+    pub fn found<T: Copy>(self, value: T) -> Word<T>
+        ensures { result ≡ word value self.entry.at }
+    {
+        Word {
             value,
-            next,
-        },
-        Maybe::Nothing(next) => MaybeWord {
-            some: false,
-            value: 0,
-            next,
-        },
-        Maybe::Bad => MaybeWord {
-            some: false,
-            value: 0,
-            next: LOST,
-        },
+            next: self.at,
+        }
     }
-}
 
-pub fn maybe_u32_word(s: &[u8], at: usize, sep: u8) -> MaybeSmallWord
-    ensures { result ≡ maybe_small_word_of (maybe_small_after s.now at sep) }
-{
-    let m = maybe_u32_after(s, at, sep);
-    match m {
-        MaybeSmall::Of(value, next) => MaybeSmallWord {
-            some: true,
-            value,
-            next,
-        },
-        MaybeSmall::Nothing(next) => MaybeSmallWord {
-            some: false,
-            value: 0,
-            next,
-        },
-        MaybeSmall::Bad => MaybeSmallWord {
-            some: false,
-            value: 0,
-            next: LOST,
-        },
+    // ---- texts
+
+    pub fn text(&mut self, text: &[u8]) -> Option<()>
+        ensures read { passed_as self.new.at result ≡ after_text self.old.s.now self.old.at text.now }
+        ensures same { self.new.s.now ≡ self.old.s.now }
+    {
+        self.at = after_text(self.s, self.at, text)?;
+        Some(())
     }
-}
 
-// Two numbers with a colon between them, or none; the second is at most `most`.
-pub fn maybe_pair_word(s: &[u8], at: usize, sep: u8, most: u64) -> MaybePair
-    ensures { result ≡ pair_of s.now most (maybe_after s.now at sep 18446744073709551615) }
-{
-    let first = maybe_u64_word(s, at, sep);
-    if first.some {
-        let second = numeral(number_after(s, first.next, b':', most));
-        return MaybePair {
-            some: true,
-            first: first.value,
-            second: second.value,
-            next: second.next,
+    // A text that is a whole word.
+    pub fn word(&mut self, text: &[u8]) -> Option<()>
+        ensures read { passed_as self.new.at result ≡ after_word self.old.s.now self.old.at text.now }
+        ensures same { self.new.s.now ≡ self.old.s.now }
+    {
+        self.at = after_word(self.s, self.at, text)?;
+        Some(())
+    }
+
+    // ---- numbers
+
+    // A number of at most `most`, in base 10 or 16.
+    #[tactic(auto, unfolding(crate::specs::Words::number_after))]
+    pub fn number(&mut self, sep: u8, base: u64, most: u128) -> Option<u128>
+        ensures read { read_as self.new.at result ≡ number_after self.old.s.now self.old.at sep base most }
+        ensures bound { IfSome result (λ n. n ≤ most) }
+        ensures same { self.new.s.now ≡ self.old.s.now }
+    {
+        let from = after(self.s, self.at, sep)?;
+        let w = number(self.s, from, base, most)?;
+        self.at = w.next;
+        Some(w.value)
+    }
+
+    #[tactic(auto, unfolding(crate::specs::Words::u64_in))]
+    fn u64_in(&mut self, sep: u8, base: u64) -> Option<u64>
+        ensures read { read_as self.new.at result ≡ u64_in self.old.s.now self.old.at sep base }
+        ensures same { self.new.s.now ≡ self.old.s.now }
+    {
+        let n = self.number(sep, base, u128::from(u64::MAX))?;
+        Some(n as u64)
+    }
+
+    #[tactic(auto, unfolding(crate::specs::Words::u64_at))]
+    pub fn u64(&mut self, sep: u8) -> Option<u64>
+        ensures read { read_as self.new.at result ≡ u64_at self.old.s.now self.old.at sep }
+        ensures same { self.new.s.now ≡ self.old.s.now }
+    {
+        self.u64_in(sep, 10)
+    }
+
+    // 64 bits in hex, as of a double.
+    #[tactic(auto, unfolding(crate::specs::Words::hex_at))]
+    pub fn hex(&mut self, sep: u8) -> Option<u64>
+        ensures read { read_as self.new.at result ≡ hex_at self.old.s.now self.old.at sep }
+        ensures same { self.new.s.now ≡ self.old.s.now }
+    {
+        self.u64_in(sep, 16)
+    }
+
+    #[tactic(auto, unfolding(crate::specs::Words::u32_at))]
+    pub fn u32(&mut self, sep: u8) -> Option<u32>
+        ensures read { read_as self.new.at result ≡ u32_at self.old.s.now self.old.at sep }
+        ensures same { self.new.s.now ≡ self.old.s.now }
+    {
+        let n = self.number(sep, 10, u128::from(u32::MAX))?;
+        Some(n as u32)
+    }
+
+    #[tactic(auto, unfolding(crate::specs::Words::u8_at))]
+    pub fn u8(&mut self, sep: u8) -> Option<u8>
+        ensures read { read_as self.new.at result ≡ u8_at self.old.s.now self.old.at sep }
+        ensures same { self.new.s.now ≡ self.old.s.now }
+    {
+        let n = self.number(sep, 10, u128::from(u8::MAX))?;
+        Some(n as u8)
+    }
+
+    // `0` for no, `1` for yes.
+    #[tactic(auto, unfolding(crate::specs::Words::bit_at))]
+    pub fn bit(&mut self, sep: u8) -> Option<bool>
+        ensures read { read_as self.new.at result ≡ bit_at self.old.s.now self.old.at sep }
+        ensures same { self.new.s.now ≡ self.old.s.now }
+    {
+        let n = self.number(sep, 10, 1)?;
+        Some(n == 1)
+    }
+
+    // A flow's 128 bits in hex.
+    #[tactic(auto, unfolding(crate::specs::Words::flow_at))]
+    pub fn flow(&mut self, sep: u8) -> Option<u128>
+        ensures read { read_as self.new.at result ≡ flow_at self.old.s.now self.old.at sep }
+        ensures same { self.new.s.now ≡ self.old.s.now }
+    {
+        self.number(sep, 16, u128::MAX)
+    }
+
+    // ---- a value, or a mark for none
+
+    // The byte b after the byte sep. Where it is not there, the reader stays.
+    #[tactic(auto, unfolding(crate::specs::Words::mark_after))]
+    pub fn mark(&mut self, sep: u8, b: u8) -> Option<()>
+        ensures read { passed_as self.new.at result ≡ mark_after self.old.s.now self.old.at sep b }
+        ensures stays { IfNone result (self.new.at ≡ self.old.at) }
+        ensures same { self.new.s.now ≡ self.old.s.now }
+    {
+        let from = after(self.s, self.at, sep)?;
+        self.at = after(self.s, from, b)?;
+        Some(())
+    }
+
+    #[tactic(auto, unfolding(crate::specs::Words::maybe_u64_at, crate::specs::Words::or_none))]
+    pub fn maybe_u64(&mut self, sep: u8) -> Option<Option<u64>>
+        ensures read { read_as self.new.at result ≡ maybe_u64_at self.old.s.now self.old.at sep }
+        ensures same { self.new.s.now ≡ self.old.s.now }
+    {
+        let Some(()) = self.mark(sep, b'-') else {
+            return Some(Some(self.u64(sep)?));
         };
+        Some(None)
     }
-    MaybePair {
-        some: false,
-        first: 0,
-        second: 0,
-        next: first.next,
-    }
-}
 
-pub fn flow_word(s: &[u8], at: usize, sep: u8) -> FlowWord
-    ensures { result ≡ flow_word_of (flow_after s.now at sep) }
-{
-    let FlowText::Of(high, low, next) = flow_after(s, at, sep) else {
-        return FlowWord {
-            high: 0,
-            low: 0,
-            next: LOST,
+    #[tactic(auto, unfolding(crate::specs::Words::maybe_u32_at, crate::specs::Words::or_none))]
+    pub fn maybe_u32(&mut self, sep: u8) -> Option<Option<u32>>
+        ensures read { read_as self.new.at result ≡ maybe_u32_at self.old.s.now self.old.at sep }
+        ensures same { self.new.s.now ≡ self.old.s.now }
+    {
+        let Some(()) = self.mark(sep, b'-') else {
+            return Some(Some(self.u32(sep)?));
         };
-    };
-    FlowWord { high, low, next }
-}
-
-pub fn kind_word(s: &[u8], at: usize, sep: u8) -> KindWord
-    ensures { result ≡ kind_word_of (kind_after s.now at sep) }
-{
-    let k = kind_after(s, at, sep);
-    match k {
-        KindText::Auto(next) => KindWord {
-            manual: false,
-            bits: 0,
-            next,
-        },
-        KindText::Ms(bits, next) => KindWord {
-            manual: true,
-            bits,
-            next,
-        },
-        KindText::Bad => KindWord {
-            manual: false,
-            bits: 0,
-            next: LOST,
-        },
+        Some(None)
     }
-}
 
-fn place(step: Step) -> usize
-    ensures { result ≡ place_of step }
-{
-    let Step::At(next) = step else {
-        return LOST;
-    };
-    next
-}
-
-// The place after this text.
-pub fn text_end(s: &[u8], at: usize, text: &[u8]) -> usize
-    ensures { result ≡ place_of (after_text s.now at text.now) }
-{
-    place(after_text(s, at, text))
-}
-
-// The place after this text, which is a whole word.
-pub fn word_end(s: &[u8], at: usize, text: &[u8]) -> usize
-    ensures { result ≡ place_of (after_word s.now at text.now) }
-{
-    place(after_word(s, at, text))
-}
-
-// This place, if n is below the limit.
-pub fn present(limit: usize, n: usize, next: usize) -> usize
-    ensures { result ≡ below limit n next }
-{
-    if limit <= n {
-        return LOST;
+    // Two numbers with a colon between them; the second is at most `most`.
+    #[tactic(auto, unfolding(crate::specs::Words::pair_at))]
+    fn pair(&mut self, sep: u8, most: u64) -> Option<(u64, u64)>
+        ensures read { read_as self.new.at result ≡ pair_at self.old.s.now self.old.at sep most }
+        ensures same { self.new.s.now ≡ self.old.s.now }
+    {
+        let first = self.u64(sep)?;
+        let second = self.number(b':', 10, u128::from(most))?;
+        Some((first, second as u64))
     }
-    next
+
+    #[tactic(auto, unfolding(crate::specs::Words::maybe_pair_at, crate::specs::Words::or_none))]
+    pub fn maybe_pair(&mut self, sep: u8, most: u64) -> Option<Option<(u64, u64)>>
+        ensures read { read_as self.new.at result ≡ maybe_pair_at self.old.s.now self.old.at sep most }
+        ensures same { self.new.s.now ≡ self.old.s.now }
+    {
+        let Some(()) = self.mark(sep, b'-') else {
+            return Some(Some(self.pair(sep, most)?));
+        };
+        Some(None)
+    }
+
+    // The bits of a manual delay: `M` and a double's in hex.
+    #[tactic(auto, unfolding(crate::specs::Words::manual_at))]
+    fn manual(&mut self, sep: u8) -> Option<u64>
+        ensures read { read_as self.new.at result ≡ manual_at self.old.s.now self.old.at sep }
+        ensures same { self.new.s.now ≡ self.old.s.now }
+    {
+        self.at = after(self.s, self.at, sep)?;
+        self.hex(b'M')
+    }
+
+    // A delay kind: the bits of a manual delay, or `A` for none.
+    #[tactic(auto, unfolding(crate::specs::Words::kind_at, crate::specs::Words::or_none))]
+    pub fn kind(&mut self, sep: u8) -> Option<Option<u64>>
+        ensures read { read_as self.new.at result ≡ kind_at self.old.s.now self.old.at sep }
+        ensures same { self.new.s.now ≡ self.old.s.now }
+    {
+        let Some(()) = self.mark(sep, b'A') else {
+            return Some(Some(self.manual(sep)?));
+        };
+        Some(None)
+    }
 }

@@ -1,15 +1,13 @@
 -- What `auto_delay` makes of an input's view: the last event of its tick. Assumes nothing.
+use Rattle.std.specs.Prelude.{None, Option, Some}
 use Prim.Native.Nat.{ℕ, ◌+◌, ◌≤◌, ◌<◌}
 use mathlib.Core.Bool.{true, false}
 use mathlib.Core.Path.{◌≡◌, refl, sym, ap, ◌∙◌}
 use Rattle.base.specs.Limits.{time_limit}
 use Rattle.base.specs.Choice.{both}
 use Rattle.base.proofs.Choices.{by_bool}
-use Rattle.delay_hold.specs.declared.Lag.{Lag}
 use Rattle.delay_hold.specs.Steps5To8.{timer_off, with_lower}
 use Rattle.delay_hold.specs.Next.{held, Decided, next_of, delay_after, one_millisecond, always_lower}
-use Rattle.rules_record.specs.declared.Proposal.{Proposal}
-use Rattle.rules_record.specs.declared.Proposal.TheVariants.{Nothing, Pending}
 use Rattle.rules_record.specs.declared.Slot.{Slot}
 use Rattle.rules_record.specs.declared.Inputs.{Inputs}
 use Rattle.rules_record.specs.Slots.{is_auto, with_hold, with_proposed, with_delay_changes, with_delay}
@@ -38,7 +36,7 @@ use Rattle.third_demand.proofs.Lifted.{view_of}
 use Rattle.third_demand.proofs.Ends.{pushed_view, Last}
 
 -- ---- `auto_delay`
-module _ (i : ℕ) (largest : Lag) (time : ℕ) (s : Inputs) (l : Lists) (low : i < 16) (sized : Sized s) where
+module _ (i : ℕ) (largest : Option ℕ) (time : ℕ) (s : Inputs) (l : Lists) (low : i < 16) (sized : Sized s) where
   abbrev decided : Slot
   decided = with_hold (slot_at s i) (next_for i largest time s l).held.hold
 
@@ -57,7 +55,7 @@ module _ (i : ℕ) (largest : Lag) (time : ℕ) (s : Inputs) (l : Lists) (low : 
       (λ e. ap (λ (x : Slot). x.state) (put _))
       (λ e. refl)
       (λ on e. ap (λ (x : Slot). x.state) (put decided))
-      (λ on delay e h. ap (λ (x : Slot). x.state) (put (with_proposed decided (Pending delay))))
+      (λ on delay e h. ap (λ (x : Slot). x.state) (put (with_proposed decided (Some delay))))
       (λ on delay e h. ap (λ (x : Slot). x.state) (changed delay))
 
   pub auto_config : (slot_at (auto_delayed i largest time s l).inputs i).config ≡ (slot_at s i).config
@@ -67,21 +65,21 @@ module _ (i : ℕ) (largest : Lag) (time : ℕ) (s : Inputs) (l : Lists) (low : 
       (λ e. ap (λ (x : Slot). x.config) (put _))
       (λ e. refl)
       (λ on e. ap (λ (x : Slot). x.config) (put decided))
-      (λ on delay e h. ap (λ (x : Slot). x.config) (put (with_proposed decided (Pending delay))))
+      (λ on delay e h. ap (λ (x : Slot). x.config) (put (with_proposed decided (Some delay))))
       (λ on delay e h. ap (λ (x : Slot). x.config) (changed delay))
 
   pub auto_goes : goes_on (slot_at (auto_delayed i largest time s l).inputs i) ≡ goes_on (slot_at s i)
   unfolding goes_on
   auto_goes = λ t. both (is_running (auto_state t)) (is_auto (auto_config t).extra_delay)
 
-module _ (i : ℕ) (tick : Tick) (s : Inputs) (l : Lists) (r : Ready s l i) (sized : Sized s) (soon : tick.time ≤ time_limit) (lowers : tick.may_lower ≡ always_lower) (off : s.confirm ≡ false) (none : (slot_at s i).proposed ≡ Nothing)
+module _ (i : ℕ) (tick : Tick) (s : Inputs) (l : Lists) (r : Ready s l i) (sized : Sized s) (soon : tick.time ≤ time_limit) (lowers : tick.may_lower ≡ always_lower) (off : s.confirm ≡ false) (none : (slot_at s i).proposed ≡ None)
     (view : InputView) (is : pushed_view tick view ≡ view_of s l i) where
   abbrev answer : Effect
   answer = auto_delayed i (largest_of tick.lags) tick.time s l
 
   -- "current is .. the delay", without a proposal
   current_is : (slot_at s i).delay ≡ current_of (slot_at s i)
-  current_is = sym (ap (λ (x : Proposal). proposed_or x (slot_at s i).delay) none)
+  current_is = sym (ap (λ (x : Option ℕ). proposed_or x (slot_at s i).delay) none)
 
   decision_is : decided_at (rules_of s.policy) view tick ≡ next_for i (largest_of tick.lags) tick.time s l
   unfolding next_for

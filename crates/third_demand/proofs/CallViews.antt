@@ -1,4 +1,5 @@
 -- What an accepted call on one input leaves of every input's window, hold and delay: laws for each such call. Assumes nothing.
+use Rattle.std.specs.Prelude.{None}
 use Prim.Native.Nat.{ℕ, ◌<◌}
 use mathlib.Core.Path.{◌≡◌, refl, sym, ap, subst, ◌∙◌}
 use mathlib.Core.List.{[]}
@@ -11,7 +12,6 @@ use Rattle.rules_window.specs.Window.{fresh, windowed}
 use Rattle.rules_window.specs.Parts.{part_of}
 use Rattle.delay_hold.specs.Next.{cleared_hold}
 use Rattle.rules_record.specs.declared.Slot.{Slot}
-use Rattle.rules_record.specs.declared.Proposal.TheVariants.{Nothing}
 use Rattle.rules_record.specs.declared.Inputs.{Inputs}
 use Rattle.rules_record.specs.Inputs.{slot_at}
 use Rattle.rules_record.specs.Lent.{Lists, buckets_in, window_for, held_for, held_of, with_window, with_held, buckets_for}
@@ -102,7 +102,7 @@ pub record CallOn (i time : ℕ) (s : Inputs) (l : Lists) (z : Inputs) (m : List
   pub lifted : Lifted s.policy time (view_of s l i) (view_of z m i)
   pub other_slot : (j : ℕ) → (j ≡ i → ⊥) → slot_at z j ≡ slot_at s j
   pub other_view : (j : ℕ) → j < s.count → (j ≡ i → ⊥) → view_of z m j ≡ view_of s l j
-  pub proposed : (slot_at s i).proposed ≡ Nothing → (slot_at z i).proposed ≡ Nothing
+  pub proposed : (slot_at s i).proposed ≡ None → (slot_at z i).proposed ≡ None
   pub reopens : (slot_at z i).reopens ≡ (slot_at s i).reopens
   pub changes : (slot_at z i).delay_changes ≡ (slot_at s i).delay_changes
   pub lates : (slot_at z i).late_events ≡ (slot_at s i).late_events
@@ -147,9 +147,9 @@ module _ (i time : ℕ) (s : Inputs) (l : Lists) (z : Inputs) (m : Lists) (call 
       every (λ k. Lifted s.policy time (view_of s l k) (view_of z m k)) j call.lifted
       (λ apart. lifted_none s.policy time (view_of s l j) (view_of z m j) (call.other_view j there apart))
 
-  pub call_proposed : (j : ℕ) → (slot_at s j).proposed ≡ Nothing → (slot_at z j).proposed ≡ Nothing
+  pub call_proposed : (j : ℕ) → (slot_at s j).proposed ≡ None → (slot_at z j).proposed ≡ None
   call_proposed j =
-      every (λ k. (slot_at s k).proposed ≡ Nothing → (slot_at z k).proposed ≡ Nothing) j call.proposed
+      every (λ k. (slot_at s k).proposed ≡ None → (slot_at z k).proposed ≡ None) j call.proposed
       (λ apart none. ap (λ (x : Slot). x.proposed) (call.other_slot j apart) ∙ none)
 
   pub call_reopens : (j : ℕ) → (slot_at z j).reopens ≡ (slot_at s j).reopens

@@ -1,5 +1,6 @@
 -- A night of calls that meets what the floor and the ceiling ask, computed on the definitions: neither is empty. `new`, a route, a tick with a lag
 -- of 4,000, then one every 5 s with a lag of 480 and a refused call among them. Hold 0, window 1 s, W 480. Assumes nothing.
+use Rattle.std.specs.Prelude.{Some}
 use Prim.Native.Nat.{ℕ, ◌+◌, ◌*◌, ◌≤◌}
 use mathlib.Core.Path.{◌≡◌, refl, sym, subst, ◌∙◌}
 use mathlib.Core.Bool.{Bool, true, false}
@@ -16,18 +17,14 @@ use Rattle.base.proofs.Choices.{yes_pick, no_pick, by_zero, accepted_new, refuse
 use Rattle.base.proofs.Points.{both_true}
 use Rattle.base.proofs.Tests.{not_both}
 use Rattle.policy.specs.Need.{need_of}
-use Rattle.delay_hold.specs.declared.Lag.TheVariants as Lag
 use Rattle.rules_record.specs.declared.AutoTag.TheVariants as AutoTag
 use Rattle.rules_record.specs.declared.ExtraDelay.TheVariants as ExtraDelay
 use Rattle.rules_calls.specs.declared.DelaySetting.TheVariants as DelaySetting
-use Rattle.rules_record.specs.declared.Inode.TheVariants as Inode
 use Rattle.rules_record.specs.Lent.{lists}
 use Rattle.rules_record.specs.Reply.{Reply}
 use Rattle.rules_record.specs.Inputs.{slot_at}
 use Rattle.rules_routing.specs.declared.World.{World}
-use Rattle.rules_routing.specs.declared.Reader.TheVariants as Reader
 use Rattle.rules_calls.specs.declared.Settings.{Settings}
-use Rattle.rules_calls.specs.declared.Wanted.TheVariants as Wanted
 use Rattle.rules_calls.specs.NewRecord.{policy_of}
 use Rattle.rules_tick.specs.declared.Look.{Look}
 use Rattle.rules_tick.specs.Lags.{largest_of}
@@ -58,14 +55,14 @@ night = record {
 
 -- the flow is there, with one channel
 abbrev world : World
-world = record { inode = Inode.Of 7; made = true; reader = Reader.Open 1; head = 1 }
+world = record { inode = Some 7; made = true; reader = Some 1; head = 1 }
 
 abbrev opens : Call
-opens = routes 0 (Wanted.From (record { domain = 0; flow = record { high = 0; low = 1 } })) 0 world
+opens = routes 0 (Some (record { domain = 0; flow = record { high = 0; low = 1 } })) 0 world
 
 -- each tick brings one lag
 abbrev looks : List Look
-looks = record { seen = Inode.Of 7; world = world; applied = 0; lags = 1 } ∷ []
+looks = record { seen = Some 7; world = world; applied = 0; lags = 1 } ∷ []
 
 -- a tick with this lag, at so many seconds
 abbrev tick_at : (second lag : ℕ) → Call
@@ -156,7 +153,7 @@ record Computed : Type 0 where
   new : (fresh night).number ≡ 0
   late_taken : Accepted (left_by night (opens ∷ [])) (tick_at 0 4000)
   late_runs : RunsOn 0 (left_by night (opens ∷ tick_at 0 4000 ∷ []))
-  late_lag : largest_of (lags_of looks (4000 ∷ []) 0) ≡ Lag.Of 4000
+  late_lag : largest_of (lags_of looks (4000 ∷ []) 0) ≡ Some 4000
   late_delay : delay_of 0 night (opens ∷ tick_at 0 4000 ∷ []) ≡ 4800
   first_taken : Accepted (left_by night (opens ∷ tick_at 0 4000 ∷ [])) (tick_at 5 480)
   first_in : InStretch 0 480 (5 * nanos) looks (480 ∷ []) (5 * nanos) (after (left_by night (opens ∷ tick_at 0 4000 ∷ [])) (tick_at 5 480))

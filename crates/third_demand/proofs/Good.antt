@@ -1,11 +1,11 @@
 -- What every call from a fresh supervisor keeps, with confirmation and without, and the laws of one call on which the third demand rests.
 -- Assumes nothing.
+use Rattle.std.specs.Prelude.{None, Option}
 use Prim.Native.Nat.{ℕ, ◌+◌, ◌*◌, ◌≤◌, ◌<◌}
 use mathlib.Core.Path.{◌≡◌}
 use mathlib.Core.List.{List}
 use lib.ListN.{length}
 use Rattle.rules_calls.specs.declared.DelaySetting.{DelaySetting}
-use Rattle.rules_record.specs.declared.Proposal.TheVariants.{Nothing}
 use Rattle.rules_record.specs.declared.Slot.{Slot}
 use Rattle.rules_record.specs.States.{is_running}
 use Rattle.rules_record.specs.Inputs.{slot_at}
@@ -16,13 +16,13 @@ use Rattle.rules_routing.proofs.SettingsKept.{SameSettings}
 use Rattle.rules_tick.specs.AutoDelay.{goes_on}
 use Rattle.rules_calls.specs.declared.Settings.{Settings}
 use Rattle.rules_calls.specs.NewRecord.{policy_of, blank_for}
-use Rattle.rules_calls.specs.declared.Wanted.{Wanted}
 use Rattle.rules_tick.specs.declared.Look.{Look}
 use Rattle.rules_tick.specs.Looks.{lags_of}
 use Rattle.sent_delays.specs.Last.{last_delay}
 use Rattle.history.specs.View.{InputView, tick_of}
 use Rattle.third_demand.specs.Calls.{Call, routes, updates, ticks, time_of, after, Accepted}
 use Rattle.third_demand.proofs.Lifted.{view_of, Lifted, TickLifted}
+use Rattle.rules_calls.specs.declared.Source.{Source}
 
 -- an input after n calls: each counter is at most n
 pub record Counted (n : ℕ) (slot : Slot) : Type 0 where
@@ -32,7 +32,7 @@ pub record Counted (n : ℕ) (slot : Slot) : Type 0 where
 
 -- no input has a proposal
 abbrev pub Unproposed : (settings : Settings) (r : Reply) → Type 0
-Unproposed settings r = (i : ℕ) → i < settings.count → (slot_at r.inputs i).proposed ≡ Nothing
+Unproposed settings r = (i : ℕ) → i < settings.count → (slot_at r.inputs i).proposed ≡ None
 
 -- what n calls leave, with confirmation or without
 pub record Sure (settings : Settings) (n : ℕ) (r : Reply) : Type 0 where
@@ -77,7 +77,7 @@ pub record Laws (settings : Settings) : Type 0 where
       TickLifted (policy_of settings) (tick_of time (lags_of looks lags i)) (is_running (slot_at r.inputs i).state)
       (goes_on (slot_at (after r (ticks looks lags time)).inputs i)) (seen_at r i) (seen_at (after r (ticks looks lags time)) i)
   pub route_other :
-      (n : ℕ) (r : Reply) (input : ℕ) (wanted : Wanted) (time : ℕ) (world : World) (i : ℕ) → Sure settings n r → Accepted r (routes input wanted time world) → i < settings.count →
+      (n : ℕ) (r : Reply) (input : ℕ) (wanted : Option Source) (time : ℕ) (world : World) (i : ℕ) → Sure settings n r → Accepted r (routes input wanted time world) → i < settings.count →
       (input ≡ i → ⊥) → Alone i r (after r (routes input wanted time world))
   pub update_other :
       (n : ℕ) (r : Reply) (input : ℕ) (setting : DelaySetting) (time i : ℕ) → Sure settings n r → Accepted r (updates input setting time) → i < settings.count →

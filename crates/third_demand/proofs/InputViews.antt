@@ -1,4 +1,5 @@
 -- What the tick of one input makes of it, as events of its history: seeded perhaps, then the event of its lags. Assumes nothing.
+use Rattle.std.specs.Prelude.{None}
 use Prim.Native.Nat.{ℕ, ◌≤◌, ◌<◌}
 use mathlib.Core.Bool.{Bool, true, false}
 use mathlib.Core.Path.{◌≡◌, refl, sym, ap, subst, ◌∙◌}
@@ -8,7 +9,6 @@ use Rattle.base.specs.Limits.{time_limit}
 use Rattle.policy.specs.declared.DelayPolicy.{DelayPolicy}
 use Rattle.rules_window.specs.Checks.{room_for}
 use Rattle.rules_record.specs.declared.State.{State}
-use Rattle.rules_record.specs.declared.Proposal.TheVariants.{Nothing}
 use Rattle.rules_record.specs.declared.Inputs.{Inputs}
 use Rattle.rules_record.specs.States.{is_running}
 use Rattle.rules_record.specs.Inputs.{slot_at}
@@ -51,7 +51,7 @@ module _ (i : ℕ) (look : Look) (lags : List ℕ) (time : ℕ) (s : Inputs) (l 
     between_proposed : (slot_at (looked_inputs i look lags time s l) i).proposed ≡ (slot_at s i).proposed
     between_proposed = (looked_slot i look time (heard_inputs i look lags time s l) low (heard_sized i look lags time s l sized)).proposed ∙ heard_proposed i look lags time s l low sized
 
-  module _ (r : Ready s l i) (sized : Sized s) (soon : time ≤ time_limit) (room : room_for time (length lags) (window_of s l i) ≡ true) (off : s.confirm ≡ false) (none : (slot_at s i).proposed ≡ Nothing) where
+  module _ (r : Ready s l i) (sized : Sized s) (soon : time ≤ time_limit) (room : room_for time (length lags) (window_of s l i) ≡ true) (off : s.confirm ≡ false) (none : (slot_at s i).proposed ≡ None) where
     input : i < 16
     input = ready_low s l i r
 

@@ -1,4 +1,5 @@
 -- How many words a call sends: they fit into the lent commands, whose length stays. Assumes nothing.
+use Rattle.std.specs.Prelude.{None, Option, Some}
 use Prim.Native.Nat.{ℕ, zero, suc, ◌+◌, ◌*◌, ◌≤◌, ◌<◌, zero-le}
 use mathlib.Core.Path.{◌≡◌}
 use mathlib.Core.List.{List, [], ◌++◌}
@@ -7,12 +8,8 @@ use lib.ListN.{length, length-append}
 use Rattle.base.specs.Lists.{padded}
 use Rattle.base.proofs.Choices.{pick_all}
 use Rattle.base.proofs.Pads.{length_padded}
-use Rattle.delay_hold.specs.declared.Lag.{Lag}
-use Rattle.delay_hold.specs.declared.Change.TheVariants.{To}
 use Rattle.rules_record.specs.declared.ExtraDelay.{ExtraDelay}
 use Rattle.rules_record.specs.declared.ExtraDelay.TheVariants.{Auto, Ms}
-use Rattle.rules_record.specs.declared.Routed.{Routed}
-use Rattle.rules_record.specs.declared.Routed.TheVariants.{Nowhere, To}
 use Rattle.rules_record.specs.declared.Slot.{Slot}
 use Rattle.rules_record.specs.declared.Inputs.{Inputs}
 use Rattle.rules_record.specs.Inputs.{slot_at}
@@ -30,7 +27,6 @@ use Rattle.rules_tick.specs.Lags.{arrived, largest_of}
 use Rattle.rules_tick.specs.AutoDelay.{auto_delayed}
 use Rattle.rules_tick.proofs.AutoDelayKeeps.{auto_rule}
 use Rattle.rules_calls.specs.Update.{delay_set, updated}
-use Rattle.rules_calls.specs.declared.Wanted.{Wanted}
 use Rattle.rules_calls.specs.Route.{enrolled_for, route_for, equal_route, starts_over, forgetting, zeroing, routed_slot, opened_for, moved, rerouted, routed_to, routed}
 use Rattle.rules_tick.specs.declared.Look.{Look}
 use Rattle.rules_tick.specs.Looks.{look_at, lags_of}
@@ -39,6 +35,8 @@ use Rattle.rules_tick.proofs.TickFrames.{heard_sized, below_sized}
 use Rattle.rules_tick.proofs.Looked.{looked_outcomes}
 use Rattle.rules_calls.specs.NewStart.{kind_at, started_one, started_below}
 use Rattle.sent_delays.proofs.OneInput.{tells_wanted}
+use Rattle.rules_calls.specs.declared.Source.{Source}
+use Rattle.rules_record.specs.declared.Route.{Route}
 
 -- at most so many words
 abbrev pub Few : ℕ → List ℕ → Type 0
@@ -76,7 +74,7 @@ module _ (i : ℕ) (low : i < 16) where
       (λ stalls. few_none 6)
       (λ inode channels stalls of to. omega arith)
 
-  auto_few : (largest : Lag) (time : ℕ) (s : Inputs) (l : Lists) → Few 3 (auto_delayed i largest time s l).words
+  auto_few : (largest : Option ℕ) (time : ℕ) (s : Inputs) (l : Lists) → Few 3 (auto_delayed i largest time s l).words
   auto_few largest time s l =
       auto_rule i largest time s l (λ effect. Few 3 effect.words) (λ e. few_none 3) (λ e. few_none 3) (λ on e. few_none 3) (λ on delay e h. few_none 3) (λ on delay e h. set_few _ i delay time)
 
@@ -111,32 +109,32 @@ updated_few i (Auto tag) time s l = few_none 3
 updated_few i (Ms delay) time s l = set_few _ i _ time
 
 -- ---- `route`
-forgetting_few : (i : ℕ) (old : Routed) → Few 3 (forgetting i old)
-forgetting_few i Nowhere = few_none 3
-forgetting_few i (To old) = omega arith
+forgetting_few : (i : ℕ) (old : Option Route) → Few 3 (forgetting i old)
+forgetting_few i None = few_none 3
+forgetting_few i (Some old) = omega arith
 
-zeroing_few : (i : ℕ) (new : Routed) (slot : Slot) → Few 3 (zeroing i new slot)
+zeroing_few : (i : ℕ) (new : Option Route) (slot : Slot) → Few 3 (zeroing i new slot)
 unfolding zeroing
 zeroing_few i new slot = pick_all (Few 3) (starts_over new slot) (omega arith) (few_none 3)
 
 module _ (i : ℕ) (low : i < 16) (time : ℕ) (world : World) where
-  opened_few : (new : Routed) (s : Inputs) → Sized s → Few 6 (opened_for new i time world s).words
+  opened_few : (new : Option Route) (s : Inputs) → Sized s → Few 6 (opened_for new i time world s).words
   unfolding quiet
-  opened_few Nowhere s sized = few_none 6
-  opened_few (To new) s sized = open_few i low s time world sized
+  opened_few None s sized = few_none 6
+  opened_few (Some new) s sized = open_few i low s time world sized
 
-  moved_few : (new : Routed) (s : Inputs) (l : Lists) → Sized s → Few 6 (moved new i time world s l).words
+  moved_few : (new : Option Route) (s : Inputs) (l : Lists) → Sized s → Few 6 (moved new i time world s l).words
   unfolding moved cleared
   moved_few new s l sized = few_then 0 6 (cleared i (routed_slot new time (slot_at s i)) s l) (λ z m. beside m (opened_for new i time world z)) (few_none 0) (opened_few new _ (sized_put s i _ sized))
 
-  routed_to_few : (new : Routed) (s : Inputs) (l : Lists) → Sized s → Few 12 (routed_to new i time world s l).words
+  routed_to_few : (new : Option Route) (s : Inputs) (l : Lists) → Sized s → Few 12 (routed_to new i time world s l).words
   unfolding routed_to rerouted
   routed_to_few new s l sized =
       pick_all (λ (effect : Effect). Few 12 effect.words) (equal_route new (slot_at s i).route) (few_none 12)
       (few_append 3 9 (forgetting i (slot_at s i).route) (zeroing i new (slot_at s i) ++ (moved new i time world s l).words) (forgetting_few i (slot_at s i).route)
       (few_append 3 6 (zeroing i new (slot_at s i)) (moved new i time world s l).words (zeroing_few i new (slot_at s i)) (moved_few new s l sized)))
 
-  pub routed_few : (wanted : Wanted) (s : Inputs) (l : Lists) → Sized s → Few 12 (routed i wanted time world s l).words
+  pub routed_few : (wanted : Option Source) (s : Inputs) (l : Lists) → Sized s → Few 12 (routed i wanted time world s l).words
   unfolding routed
   routed_few wanted s l sized = routed_to_few (route_for (enrolled_for s wanted) wanted) (enrolled_for s wanted) l (tells_wanted {time = time} s wanted sized).sized
 

@@ -4,7 +4,7 @@ use Prim.Native.Nat.{ℕ}
 use lib.Ieee.{round, mul, div, of_int, le}
 use Rattle.base.specs.Any.{any}
 use Rattle.base.specs.Choice.{both, ask}
-use Rattle.base.specs.Lists.{padded, blank_from, sum, all, listed, sum_from}
+use Rattle.base.specs.Lists.{padded, each_from, sum, all, listed, sum_from}
 use Rattle.base.specs.Rows.{apart, up_to}
 use Rattle.base.specs.First as firsts
 use Rattle.buckets.specs.Ranges.{reaches_allowed, width_allowed, buckets_of, buckets_few, ranges_number}
@@ -58,7 +58,7 @@ use Rattle.rules_tick.specs.TickReply.{tick_reply}
 
 -- of base, doubles and policy
 unfoldable pub base_opened : ℕ
-unfolding any both ask padded blank_from sum all listed sum_from apart up_to firsts.first half_away ceil_of quantiles.target_of share_of need_of reaches_allowed width_allowed buckets_few ranges_number times_allowed margins_allowed share_of_percent percent_allowed round mul div of_int le
+unfolding any both ask padded each_from sum all listed sum_from apart up_to firsts.first half_away ceil_of quantiles.target_of share_of need_of reaches_allowed width_allowed buckets_few ranges_number times_allowed margins_allowed share_of_percent percent_allowed round mul div of_int le
 base_opened = 0
 
 -- of a window

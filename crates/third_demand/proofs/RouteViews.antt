@@ -1,5 +1,6 @@
 -- What an accepted `route` makes of every input: of its own nothing, or "window and hold are cleared" and a seed where it opens; nothing of
 -- another. Assumes nothing.
+use Rattle.std.specs.Prelude.{None, Option, Some}
 use Prim.Native.Nat.{ℕ, ◌<◌, ◌≤◌}
 use mathlib.Core.Bool.{Bool}
 use mathlib.Core.Path.{◌≡◌, refl, sym, ap, subst, ◌∙◌}
@@ -11,9 +12,6 @@ use Rattle.base.proofs.Choices.{accepted_new, pick_all}
 use Rattle.rules_window.specs.Window.{fresh}
 use Rattle.delay_hold.specs.Next.{cleared_hold}
 use Rattle.rules_record.specs.declared.Route.{Route}
-use Rattle.rules_record.specs.declared.Routed.{Routed}
-use Rattle.rules_record.specs.declared.Routed.TheVariants.{Nowhere, To}
-use Rattle.rules_record.specs.declared.Proposal.TheVariants.{Nothing}
 use Rattle.rules_record.specs.declared.Slot.{Slot}
 use Rattle.rules_record.specs.declared.Inputs.{Inputs}
 use Rattle.rules_record.specs.Inputs.{slot_at, put_slot}
@@ -33,7 +31,6 @@ use Rattle.rules_record.proofs.Numbers.{input_told, call_fitting, call_low}
 use Rattle.rules_routing.specs.Clear.{cleared_slot, cleared_lists, cleared}
 use Rattle.rules_routing.proofs.ClearFrames.{cleared_beside}
 use Rattle.rules_routing.proofs.SettingsKept.{SameSettings, settings_put, settings_frame}
-use Rattle.rules_calls.specs.declared.Wanted.{Wanted}
 use Rattle.rules_calls.specs.RouteChecks.{route_number}
 use Rattle.rules_calls.specs.Route.{enrolled_for, route_for, equal_route, starts_over, started_over, routed_slot, opened_for, moved, rerouted, routed_to, routed}
 use Rattle.rules_calls.specs.RouteReply.{route_reply}
@@ -44,14 +41,15 @@ use Rattle.history.specs.View.{InputView, rules_of}
 use Rattle.history.specs.Events.{Event, seeds, clears, after, history}
 use Rattle.third_demand.proofs.Lifted.{view_of, Lifted, view_for}
 use Rattle.third_demand.proofs.CallViews.{fitting_same, view_own, view_other, view_cleared, CallOn, call_none, call_from}
+use Rattle.rules_calls.specs.declared.Source.{Source}
 
 -- ---- the slot of the new route
 
-module _ (new : Routed) (time : ℕ) (slot : Slot) where
+module _ (new : Option Route) (time : ℕ) (slot : Slot) where
   -- no proposal comes, and no counter changes
-  over_proposed : slot.proposed ≡ Nothing → (started_over new time slot).proposed ≡ Nothing
+  over_proposed : slot.proposed ≡ None → (started_over new time slot).proposed ≡ None
   unfolding started_over
-  over_proposed none = pick_all (λ (x : Slot). x.proposed ≡ Nothing) (starts_over new slot) refl none
+  over_proposed none = pick_all (λ (x : Slot). x.proposed ≡ None) (starts_over new slot) refl none
 
   over_reopens : (started_over new time slot).reopens ≡ slot.reopens
   unfolding started_over
@@ -71,16 +69,16 @@ pub data RouteEvents (time : ℕ) (zeroed : Bool) : List Event → Type 0 where
   seeding : (delay : ℕ) → RouteEvents time zeroed (clears time zeroed ∷ seeds time delay ∷ [])
 
 -- what such a route makes of its input, with this slot after it
-pub record Moved (s : Inputs) (l : Lists) (i time : ℕ) (new : Routed) (slot : Slot) : Type 0 where
+pub record Moved (s : Inputs) (l : Lists) (i time : ℕ) (new : Option Route) (slot : Slot) : Type 0 where
   pub lifted : Lifted s.policy time (view_of s l i) (view_for s (cleared_lists i s l) i slot)
   pub events : RouteEvents time (starts_over new (slot_at s i)) lifted.events
-  pub proposed : (slot_at s i).proposed ≡ Nothing → slot.proposed ≡ Nothing
+  pub proposed : (slot_at s i).proposed ≡ None → slot.proposed ≡ None
   pub reopens : slot.reopens ≡ (slot_at s i).reopens
   pub changes : slot.delay_changes ≡ (slot_at s i).delay_changes
   pub lates : slot.late_events ≡ (slot_at s i).late_events
 
 module _ (s : Inputs) (l : Lists) (i time : ℕ) (f : Fitting s l) (h : i < s.count) (soon : time ≤ time_limit) where
-  module _ (new : Routed) where
+  module _ (new : Option Route) where
     -- before it opens
     abbrev base : Slot
     base = cleared_slot (routed_slot new time (slot_at s i))
@@ -109,21 +107,21 @@ module _ (s : Inputs) (l : Lists) (i time : ℕ) (f : Fitting s l) (h : i < s.co
     }
 
   -- "was Waiting": no reopen is counted
-  opened_moved : (new : Route) (inode head : ℕ) → Moved s l i time (To new) (opened_slot (base (To new)) inode head time)
+  opened_moved : (new : Route) (inode head : ℕ) → Moved s l i time (Some new) (opened_slot (base (Some new)) inode head time)
   unfolding opened_slot running_slot routed_slot
   opened_moved new inode head =
-      let b = base_moved (To new) in
+      let b = base_moved (Some new) in
       record { lifted = b.lifted; events = b.events; proposed = b.proposed; reopens = b.reopens; changes = b.changes; lates = b.lates }
 
   -- ".. set the smaller of it and maximum, and seed"
-  started_moved : (new : Route) (inode head delay : ℕ) → delay ≤ s.policy.delay_max → Moved s l i time (To new) (started_slot (opened_slot (base (To new)) inode head time) delay time)
+  started_moved : (new : Route) (inode head delay : ℕ) → delay ≤ s.policy.delay_max → Moved s l i time (Some new) (started_slot (opened_slot (base (Some new)) inode head time) delay time)
   unfolding opened_slot running_slot routed_slot history after
   started_moved new inode head delay fits =
-      let b = base_moved (To new) in
+      let b = base_moved (Some new) in
       record {
         lifted = record {
-          events = clears time (starts_over (To new) (slot_at s i)) ∷ seeds time delay ∷ [];
-          leads = ap (λ (view : InputView). after (rules_of s.policy) view (seeds time delay)) (cleared_is (To new));
+          events = clears time (starts_over (Some new) (slot_at s i)) ∷ seeds time delay ∷ [];
+          leads = ap (λ (view : InputView). after (rules_of s.policy) view (seeds time delay)) (cleared_is (Some new));
           lawful = λ before first. (first, soon, tt, tt, (omega arith, soon, fits, tt, tt));
           clocked = λ before first. omega arith;
         };
@@ -136,33 +134,33 @@ module _ (s : Inputs) (l : Lists) (i time : ℕ) (f : Fitting s l) (h : i < s.co
 
 -- ---- the slot that is left, opened or not
 module _ (s : Inputs) (l : Lists) (i time : ℕ) (sized : Sized s) (f : Fitting s l) (h : i < s.count) (low : i < 16) (soon : time ≤ time_limit) (world : World) where
-  module _ (new : Routed) where
+  module _ (new : Option Route) where
     abbrev placed : Inputs
     placed = put_slot s i (cleared_slot (routed_slot new time (slot_at s i)))
 
     placed_slot : slot_at placed i ≡ cleared_slot (routed_slot new time (slot_at s i))
     placed_slot = slot_same s i _ low sized.slots
 
-  opened_frame : (new : Routed) → Frame i s (opened_for new i time world (placed new)).inputs
+  opened_frame : (new : Option Route) → Frame i s (opened_for new i time world (placed new)).inputs
   unfolding quiet
-  opened_frame Nowhere = frame_put i s _
-  opened_frame (To new) = frame_then i (frame_put i s _) (open_leaves i (placed (To new)) time world)
+  opened_frame None = frame_put i s _
+  opened_frame (Some new) = frame_then i (frame_put i s _) (open_leaves i (placed (Some new)) time world)
 
-  opened_slot_law : (new : Routed) → Moved s l i time new (slot_at (opened_for new i time world (placed new)).inputs i)
+  opened_slot_law : (new : Option Route) → Moved s l i time new (slot_at (opened_for new i time world (placed new)).inputs i)
   unfolding quiet
-  opened_slot_law Nowhere = subst (Moved s l i time Nowhere) (sym (placed_slot Nowhere)) (base_moved s l i time f h soon Nowhere)
-  opened_slot_law (To new) =
-      open_outcomes i low (placed (To new)) time world (sized_put s i _ sized) (λ (x : Slot) (words : List ℕ). Moved s l i time (To new) x)
-      (subst (Moved s l i time (To new)) (sym (placed_slot (To new))) (base_moved s l i time f h soon (To new)))
+  opened_slot_law None = subst (Moved s l i time None) (sym (placed_slot None)) (base_moved s l i time f h soon None)
+  opened_slot_law (Some new) =
+      open_outcomes i low (placed (Some new)) time world (sized_put s i _ sized) (λ (x : Slot) (words : List ℕ). Moved s l i time (Some new) x)
+      (subst (Moved s l i time (Some new)) (sym (placed_slot (Some new))) (base_moved s l i time f h soon (Some new)))
       (λ inode channels of open-to.
-      subst (λ (x : Slot). Moved s l i time (To new) (opened_slot x inode world.head time)) (sym (placed_slot (To new))) (opened_moved s l i time f h soon new inode world.head))
+      subst (λ (x : Slot). Moved s l i time (Some new) (opened_slot x inode world.head time)) (sym (placed_slot (Some new))) (opened_moved s l i time f h soon new inode world.head))
       (λ inode channels delay of open-to anew fits.
-      subst (λ (x : Slot). Moved s l i time (To new) (started_slot (opened_slot x inode world.head time) delay time)) (sym (placed_slot (To new)))
+      subst (λ (x : Slot). Moved s l i time (Some new) (started_slot (opened_slot x inode world.head time) delay time)) (sym (placed_slot (Some new)))
       (started_moved s l i time f h soon new inode world.head delay (subst (λ (z : Inputs). delay ≤ z.policy.delay_max) (settings_put s i _) fits)))
 
   -- ---- a route of a record where its flow is enrolled
 
-  rerouted_call : (new : Routed) → CallOn i time s l (rerouted new i time world s l).inputs (rerouted new i time world s l).lists
+  rerouted_call : (new : Option Route) → CallOn i time s l (rerouted new i time world s l).inputs (rerouted new i time world s l).lists
   unfolding rerouted moved followed_by cleared
   rerouted_call new =
       let z : Inputs = (opened_for new i time world (placed new)).inputs in
@@ -180,13 +178,13 @@ module _ (s : Inputs) (l : Lists) (i time : ℕ) (sized : Sized s) (f : Fitting 
         lates = own.lates;
       }
 
-  routed_to_call : (new : Routed) → CallOn i time s l (routed_to new i time world s l).inputs (routed_to new i time world s l).lists
+  routed_to_call : (new : Option Route) → CallOn i time s l (routed_to new i time world s l).inputs (routed_to new i time world s l).lists
   unfolding routed_to
   routed_to_call new =
       pick_all (λ (effect : Effect). CallOn i time s l effect.inputs effect.lists) (equal_route new (slot_at s i).route) (call_none i time s l) (rerouted_call new)
 
 -- ---- the call
-module _ (s : Inputs) (l : Lists) (commands : List ℕ) (input : ℕ) (wanted : Wanted) (time : ℕ) (world : World) (accepted : route_number s l (length commands) input wanted time world ≡ 0) where
+module _ (s : Inputs) (l : Lists) (commands : List ℕ) (input : ℕ) (wanted : Option Source) (time : ℕ) (world : World) (accepted : route_number s l (length commands) input wanted time world ≡ 0) where
   abbrev effect : Effect
   effect = routed input wanted time world s l
 

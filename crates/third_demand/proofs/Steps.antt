@@ -1,4 +1,5 @@
 -- One accepted call: what it keeps and what its commands tell, with confirmation and without; and without it, the call as events. Assumes nothing.
+use Rattle.std.specs.Prelude.{Option}
 use Prim.Native.Nat.{ℕ, ◌+◌, ◌*◌, ◌≤◌, ◌<◌}
 use mathlib.Core.Bool.{false}
 use mathlib.Core.Path.{◌≡◌, sym, ap, subst, ◌∙◌}
@@ -22,7 +23,6 @@ use Rattle.rules_calls.specs.UpdateChecks.{update_number}
 use Rattle.rules_calls.specs.Update.{kind_of, updated}
 use Rattle.rules_calls.specs.UpdateReply.{update_reply}
 use Rattle.rules_calls.proofs.UpdateKeeps.{update_keeps}
-use Rattle.rules_calls.specs.declared.Wanted.{Wanted}
 use Rattle.rules_calls.specs.RouteChecks.{route_number}
 use Rattle.rules_calls.specs.Route.{routed}
 use Rattle.rules_calls.specs.RouteReply.{route_reply}
@@ -50,6 +50,7 @@ use Rattle.third_demand.proofs.RouteViews.{route_call, route_reply_law}
 use Rattle.third_demand.proofs.TickViews.{tick_lifted}
 use Rattle.third_demand.proofs.Lengths.{Few, padded_long, updated_few, routed_few, ticked_few}
 use Rattle.third_demand.proofs.Good.{Counted, Sure, Unproposed, Good, most, seen_at, SureStep, Step, Alone, Laws}
+use Rattle.rules_calls.specs.declared.Source.{Source}
 
 -- ---- the commands
 module _ (settings : Settings) (n : ℕ) (r : Reply) (g : Sure settings n r) where
@@ -121,7 +122,7 @@ module _ (settings : Settings) (n : ℕ) (r : Reply) (g : Sure settings n r) whe
     }
 
   -- ---- `route`
-  module _ (input : ℕ) (wanted : Wanted) (time : ℕ) (world : World) (took : Accepted r (routes input wanted time world)) where
+  module _ (input : ℕ) (wanted : Option Source) (time : ℕ) (world : World) (took : Accepted r (routes input wanted time world)) where
     route_passed : route_number r.inputs r.lists (length r.commands) input wanted time world ≡ 0
     unfolding after route_reply
     route_passed = passed_of _ r.inputs r.lists r.commands (routed input wanted time world r.inputs r.lists) took

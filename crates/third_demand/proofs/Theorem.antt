@@ -1,4 +1,5 @@
 -- The third demand is met, given the laws of one call and of `new`. Assumes nothing.
+use Rattle.std.specs.Prelude.{Some}
 use Prim.Native.Nat.{ℕ, suc, ◌+◌, ◌*◌, ◌≤◌, ◌<◌}
 use mathlib.Core.Bool.{Bool, true, false}
 use mathlib.Core.Path.{◌≡◌, refl, sym, ap, subst, ◌∙◌}
@@ -8,7 +9,6 @@ use lib.ListN.{length}
 use Rattle.base.specs.Limits.{nanos}
 use Rattle.base.proofs.Choices.{accepted_new}
 use Rattle.policy.specs.Need.{need_of}
-use Rattle.delay_hold.specs.declared.Lag.TheVariants.{Of}
 use Rattle.rules_record.specs.declared.Inputs.{Inputs}
 use Rattle.rules_record.specs.States.{is_running}
 use Rattle.rules_record.specs.Inputs.{slot_at}
@@ -155,7 +155,7 @@ module _ (laws : (settings : Settings) → settings.confirm ≡ false → Laws s
         past_clock = clock_append 0 past (events.ticks tick ∷ [])
 
         -- ---- the floor
-        floor_here : (lag : ℕ) → largest_of (lags_of looks lags i) ≡ Of lag → lag ≤ (policy_of settings).read_offset + (policy_of settings).delay_max
+        floor_here : (lag : ℕ) → largest_of (lags_of looks lags i) ≡ Some lag → lag ≤ (policy_of settings).read_offset + (policy_of settings).delay_max
             → lag ≤ (policy_of settings).read_offset + (slot_at (after (left_by night calls) call).inputs i).delay
         floor_here lag e fits =
             subst (λ (x : InputView). lag ≤ (policy_of settings).read_offset + x.delay) past_leads

@@ -1,4 +1,5 @@
 -- What an accepted tick makes of each input, as events of its history. Assumes nothing.
+use Rattle.std.specs.Prelude.{None}
 use Prim.Native.Nat.{ℕ, ◌<◌}
 use mathlib.Core.Bool.{true, false}
 use mathlib.Core.Path.{◌≡◌, sym, ap, ◌∙◌}
@@ -6,7 +7,6 @@ use mathlib.Core.List.{List}
 use native.Mathlib.Omega.{arith}
 use lib.ListN.{length}
 use Rattle.rules_window.specs.Checks.{room_for}
-use Rattle.rules_record.specs.declared.Proposal.TheVariants.{Nothing}
 use Rattle.rules_record.specs.declared.Slot.{Slot}
 use Rattle.rules_record.specs.declared.Inputs.{Inputs}
 use Rattle.rules_record.specs.States.{is_running}
@@ -88,7 +88,7 @@ module _ (s : Inputs) (l : Lists) (words : ℕ) (looks : List Look) (lags : List
         ∙ ap (λ (x : Slot). x.config) same_before.slot
 
     module _ (off : s.confirm ≡ false) where
-      module _ (none : (slot_at s i).proposed ≡ Nothing) where
+      module _ (none : (slot_at s i).proposed ≡ None) where
         turn_lifted : TickLifted at.policy tick (is_running (slot_at at i).state) (goes_on (slot_at own.inputs i)) (view_of at lists i) (view_of own.inputs own.lists i)
         turn_lifted =
             input_lifted i (look_at looks i) (lags_of looks lags i) time at lists ready at_sized facts.timely
@@ -108,7 +108,7 @@ module _ (s : Inputs) (l : Lists) (words : ℕ) (looks : List Look) (lags : List
 
 -- an accepted tick, without confirmation: input i is seeded, at most, and then its lags are an event
 pub tick_lifted : (s : Inputs) (l : Lists) (words : ℕ) (looks : List Look) (lags : List ℕ) (time i : ℕ) → Sized s → Checked s l → tick_number s l words looks lags time ≡ 0 → s.confirm ≡ false
-    → (slot_at s i).proposed ≡ Nothing → i < s.count
+    → (slot_at s i).proposed ≡ None → i < s.count
     → TickLifted s.policy (tick_of time (lags_of looks lags i)) (is_running (slot_at s i).state) (goes_on (slot_at (ticked looks lags time s l).inputs i)) (view_of s l i)
     (view_of (ticked looks lags time s l).inputs (ticked looks lags time s l).lists i)
 tick_lifted s l words looks lags time i sized c passed off none h = own_lifted s l words looks lags time i sized c passed h off none

@@ -1,5 +1,6 @@
 -- What an accepted `update` makes of every input: "`set_delay` of `samples`" or "window and hold are cleared" of its own, nothing of another.
 -- Assumes nothing.
+use Rattle.std.specs.Prelude.{None}
 use Prim.Native.Nat.{ℕ, ◌<◌, ◌≤◌}
 use mathlib.Core.Bool.{true, false}
 use mathlib.Core.Path.{◌≡◌, refl, sym, ap, subst, ◌∙◌}
@@ -11,7 +12,6 @@ use Rattle.base.proofs.Choices.{asked, accepted_new}
 use Rattle.doubles.specs.Doubles.{samples_of}
 use Rattle.rules_record.specs.declared.ExtraDelay.{ExtraDelay}
 use Rattle.rules_record.specs.declared.ExtraDelay.TheVariants.{Auto, Ms}
-use Rattle.rules_record.specs.declared.Proposal.TheVariants.{Nothing}
 use Rattle.rules_record.specs.declared.Slot.{Slot}
 use Rattle.rules_record.specs.declared.Inputs.{Inputs}
 use Rattle.rules_record.specs.Inputs.{slot_at}
@@ -37,7 +37,7 @@ use Rattle.third_demand.proofs.CallViews.{view_own, view_other, view_cleared, Ca
 -- ---- its own input
 module _ (s : Inputs) (l : Lists) (i time : ℕ) (sized : Sized s) (low : i < 16) where
   -- "the proposal goes", and no counter changes
-  stored_proposed : (kind : ExtraDelay) → (slot_at (updated i kind time s l).inputs i).proposed ≡ Nothing
+  stored_proposed : (kind : ExtraDelay) → (slot_at (updated i kind time s l).inputs i).proposed ≡ None
   stored_proposed (Ms delay) = ap (λ (x : Slot). x.proposed) (manual_slot s i time low sized l delay)
   stored_proposed (Auto tag) = ap (λ (x : Slot). x.proposed) (auto_slot s i time low sized l tag)
 

@@ -1,6 +1,6 @@
 -- Lists of calls from an accepted `new` on: what each is answered and leaves, by the very definitions that the contracts of `new`, `route`,
 -- `update` and `tick` cite. Assumes nothing.
-use Rattle.std.specs.Prelude.{ℕ, ◌≤◌, ◌<◌, false, ◌≡◌, List, [], ◌∷◌, length}
+use Rattle.std.specs.Prelude.{ℕ, ◌≤◌, ◌<◌, false, ◌≡◌, List, [], ◌∷◌, length, Option}
 use Rattle.base.specs.Choice.{accepted}
 use Rattle.rules_record.specs.declared.ExtraDelay.{ExtraDelay}
 use Rattle.rules_routing.specs.declared.World.{World}
@@ -8,17 +8,17 @@ use Rattle.rules_record.specs.Lent.{Lists}
 use Rattle.rules_record.specs.Reply.{Reply}
 use Rattle.rules_calls.specs.declared.DelaySetting.{DelaySetting}
 use Rattle.rules_calls.specs.UpdateReply.{update_reply}
-use Rattle.rules_calls.specs.declared.Wanted.{Wanted}
 use Rattle.rules_calls.specs.RouteReply.{route_reply}
 use Rattle.rules_calls.specs.declared.Settings.{Settings}
 use Rattle.rules_calls.specs.NewReply.{new_reply}
 use Rattle.rules_tick.specs.declared.Look.{Look}
 use Rattle.rules_tick.specs.TickReply.{tick_reply}
 use Rattle.sent_delays.specs.Last.{last_delay}
+use Rattle.rules_calls.specs.declared.Source.{Source}
 
 -- "every list of .. calls (route, delay setting, tick ..)"; "a delay setting is a call that stores a delay kind, here `update`"
 pub data Call : Type 0 where
-  routes : (input : ℕ) → Wanted → (time : ℕ) → World → Call
+  routes : (input : ℕ) → Option Source → (time : ℕ) → World → Call
   updates : (input : ℕ) → DelaySetting → (time : ℕ) → Call
   ticks : List Look → (lags : List ℕ) → (time : ℕ) → Call
 

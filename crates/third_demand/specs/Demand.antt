@@ -1,10 +1,9 @@
 -- The mission's third demand, sentence by sentence. Assumes nothing.
-use Rattle.std.specs.Prelude.{ℕ, ◌+◌, ◌*◌, ◌≤◌, ◌<◌, true, false, ◌≡◌, List, [], ◌∷◌, ◌++◌, length}
+use Rattle.std.specs.Prelude.{ℕ, ◌+◌, ◌*◌, ◌≤◌, ◌<◌, true, false, ◌≡◌, List, [], ◌∷◌, ◌++◌, length, Some}
 use Rattle.base.specs.Limits.{nanos, time_limit}
 use Rattle.base.specs.Choice.{accepted}
 use Rattle.policy.specs.declared.DelayPolicy.{DelayPolicy}
 use Rattle.policy.specs.Need.{need_of}
-use Rattle.delay_hold.specs.declared.Lag.TheVariants.{Of}
 use Rattle.rules_record.specs.Inputs.{slot_at}
 use Rattle.rules_record.specs.Checks.{own_number}
 use Rattle.rules_record.specs.WholeRecord.{whole_record}
@@ -52,7 +51,7 @@ Floor =
     i < night.settings.count →
     Accepted (left_by night calls) (ticks looks lags time) →
     RunsOn i (left_by night (calls ++ (ticks looks lags time ∷ []))) →
-    largest_of (lags_of looks lags i) ≡ Of lag →
+    largest_of (lags_of looks lags i) ≡ Some lag →
     lag ≤ (policy_in night).read_offset + (policy_in night).delay_max →
     lag ≤ delay_of i night (calls ++ (ticks looks lags time ∷ [])) + (policy_in night).read_offset
 

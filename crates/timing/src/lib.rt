@@ -2,9 +2,10 @@
 #![tactic(auto)]
 
 ghost use Rattle.std.specs.Prelude.{◌≡◌};
-ghost use Rattle.timing.specs.Clock.{index_answer, time_answer};
+ghost use Rattle.timing.specs.Clock.{index_answer, time_answer, told};
 
 use base::{NANOS, TIME_LIMIT};
+use refusals::Refusal;
 
 // Samples a second.
 const RATE: u64 = 48_000;
@@ -14,52 +15,30 @@ const LAST_SECOND: u64 = 18_446_744_073;
 
 const LAST_TIME: u64 = 18_446_744_073_709_551_615;
 
-// A value, or the number of the check that refused and a zero value. An accepted call has number 0.
-#[derive(Clone, Copy)]
-pub struct Answer {
-    pub number: u32,
-    pub value: u64,
-}
-
 // The sample index at a time, rounded down.
-pub fn index_at(ns: u64) -> Answer
-    ensures { result ≡ index_answer 48000 ns }
+pub fn index_at(ns: u64) -> Result<u64, Refusal>
+    ensures { told result ≡ index_answer 48000 ns }
 {
     if ns > TIME_LIMIT {
-        return Answer {
-            number: 8,
-            value: 0,
-        };
+        return Err(Refusal::Time);
     }
     let seconds = ns / NANOS;
     let rest = ns % NANOS;
-    Answer {
-        number: 0,
-        value: seconds * RATE + rest * RATE / NANOS,
-    }
+    Ok(seconds * RATE + rest * RATE / NANOS)
 }
 
 // The time of a sample index, rounded up.
-pub fn time_of(index: u64) -> Answer
-    ensures { result ≡ time_answer 48000 index }
+pub fn time_of(index: u64) -> Result<u64, Refusal>
+    ensures { told result ≡ time_answer 48000 index }
 {
     let seconds = index / RATE;
     let rest = (index % RATE * NANOS + (RATE - 1)) / RATE;
     if seconds > LAST_SECOND {
-        return Answer {
-            number: 8,
-            value: 0,
-        };
+        return Err(Refusal::Time);
     }
     let begins = seconds * NANOS;
     if begins > LAST_TIME - rest {
-        return Answer {
-            number: 8,
-            value: 0,
-        };
+        return Err(Refusal::Time);
     }
-    Answer {
-        number: 0,
-        value: begins + rest,
-    }
+    Ok(begins + rest)
 }

@@ -1,13 +1,9 @@
 -- `byte_order::byte_of` meets its contract. Assumes nothing.
-use mathlib.Core.Path.{refl}
-use Rattle.byte_order.proofs.ByteLoops.{byte_more, byte_end}
+use Rattle.std.proofs.Common.{◌≡◌, get_or, arith, rules}
+use Rattle.byte_order.proofs.Written.{byte_at_place}
 use Rattle.byte_order.proofs.byte_of.Goals as goal
 
-pub loop-i-init : goal.loop-i-init
-loop-i-init c = refl
-
-pub loop-i-preserved : goal.loop-i-preserved
-loop-i-preserved c = search byte_more
-
 pub returns : goal.returns
-returns c = search byte_end
+returns c =
+    let e : c.unwrap_or.result ≡ get_or c.to_le_bytes.result c.args.k 0 = search rules in
+    rw (e, c.to_le_bytes.ensures) (byte_at_place c.args.k c.args.value (omega arith))

@@ -7,7 +7,7 @@ pub returns-in_default : goal.returns-in_default
 returns-in_default c = sym (for_nowhere _ _ _ c.in_default.is)
 
 pub returns-then-automatic : goal.returns-then-automatic
-returns-then-automatic c = c.remember.ensures ∙ sym (for_automatic _ _ _ c.in-To.is (sym c.automatic.ensures ∙ c.if-automatic.true))
+returns-then-automatic c = c.remember.ensures ∙ sym (for_automatic _ _ _ c.in-Some.is (sym c.automatic.ensures ∙ c.if-automatic.true))
 
 pub returns : goal.returns
 returns c = sym (for_manual _ _ _ (sym c.automatic.ensures ∙ c.if-automatic.false))

@@ -2,4 +2,4 @@
 use Rattle.inputs_instances.proofs.is_extra.Goals as goal
 
 pub returns : goal.returns
-returns c = rw c.in-Key.is c.same.ensures
+returns c = rw c.in-Some.is c.same.ensures

@@ -25,8 +25,8 @@ returns-in_default c key = rw (may_read c.code.ensures c.if-code-lt-RUNNING.fals
 
 pub returns-in_default-seen : goal.returns-in_default-seen
 unfolding uses_key
-returns-in_default-seen c key = rw (may_read c.code.ensures c.if-code-lt-RUNNING.false, c.in-To.is, c.in_default-seen.is)
+returns-in_default-seen c key = rw (may_read c.code.ensures c.if-code-lt-RUNNING.false, c.in-Some.is, c.in_default-seen.is)
 
 pub returns : goal.returns
 unfolding uses_key
-returns c key = rw (may_read c.code.ensures c.if-code-lt-RUNNING.false, c.in-To.is, c.in-Of.is)
+returns c key = rw (may_read c.code.ensures c.if-code-lt-RUNNING.false, c.in-Some.is, c.in-Some-seen.is)

@@ -3,4 +3,4 @@ use Rattle.rules_record.specs.Lent.{lists}
 use Rattle.inputs_new.proofs.zero_lists.Goals as goal
 
 pub returns : goal.returns
-returns c = λ t. lists (c.zero_u64.ensures t) (c.zero_u64-2.ensures t) (c.zero_u32.ensures t) (c.zero_u64-3.ensures t) (c.zero_u64-4.ensures t) (c.zero_u32-2.ensures t)
+returns c = λ t. lists ((c.fill.ensures.after (λ y e. e)) t) ((c.fill-2.ensures.after (λ y e. e)) t) ((c.fill-3.ensures.after (λ y e. e)) t) ((c.fill-4.ensures.after (λ y e. e)) t) ((c.fill-5.ensures.after (λ y e. e)) t) ((c.fill-6.ensures.after (λ y e. e)) t)

@@ -6,4 +6,4 @@ pub returns-in_default : goal.returns-in_default
 returns-in_default c = no_proposed _ _ c.in_default.is
 
 pub returns : goal.returns
-returns c = some_proposed _ _ c.in-Pending.is
+returns c = some_proposed _ _ c.in-Some.is

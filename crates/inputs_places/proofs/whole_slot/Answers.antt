@@ -32,10 +32,10 @@ pub returns-then-slot-gt-TIME_LIMIT : goal.returns-then-slot-gt-TIME_LIMIT
 unfolding whole_slot
 returns-then-slot-gt-TIME_LIMIT c = both_yes _ _ _ (le-leb _ _ c.if-maximum-slot.false) (both_yes _ _ _ (told_yes _ _ c.proposal_fits.ensures c.if-not-proposal_fits.false) (both_yes _ _ _ (told_yes _ _ c.route_fits.ensures c.if-not-route_fits.false) (both_yes _ _ _ (lt-ltb _ _ c.if-slot-ge-COUNTER_LIMIT.false) (both_yes _ _ _ (lt-ltb _ _ c.if-slot-ge-COUNTER_LIMIT-2.false) (both_yes _ _ _ (lt-ltb _ _ c.if-slot-ge-COUNTER_LIMIT-3.false) (both_no _ _ (lt-leb _ _ c.if-slot-gt-TIME_LIMIT.true)))))))
 
-pub returns-then-not-moment_fits : goal.returns-then-not-moment_fits
+pub returns-then-not-moment_timely : goal.returns-then-not-moment_timely
 unfolding whole_slot
-returns-then-not-moment_fits c = both_yes _ _ _ (le-leb _ _ c.if-maximum-slot.false) (both_yes _ _ _ (told_yes _ _ c.proposal_fits.ensures c.if-not-proposal_fits.false) (both_yes _ _ _ (told_yes _ _ c.route_fits.ensures c.if-not-route_fits.false) (both_yes _ _ _ (lt-ltb _ _ c.if-slot-ge-COUNTER_LIMIT.false) (both_yes _ _ _ (lt-ltb _ _ c.if-slot-ge-COUNTER_LIMIT-2.false) (both_yes _ _ _ (lt-ltb _ _ c.if-slot-ge-COUNTER_LIMIT-3.false) (both_yes _ _ _ (le-leb _ _ c.if-slot-gt-TIME_LIMIT.false) (both_no _ _ (told_no _ _ c.moment_fits.ensures c.if-not-moment_fits.true))))))))
+returns-then-not-moment_timely c = both_yes _ _ _ (le-leb _ _ c.if-maximum-slot.false) (both_yes _ _ _ (told_yes _ _ c.proposal_fits.ensures c.if-not-proposal_fits.false) (both_yes _ _ _ (told_yes _ _ c.route_fits.ensures c.if-not-route_fits.false) (both_yes _ _ _ (lt-ltb _ _ c.if-slot-ge-COUNTER_LIMIT.false) (both_yes _ _ _ (lt-ltb _ _ c.if-slot-ge-COUNTER_LIMIT-2.false) (both_yes _ _ _ (lt-ltb _ _ c.if-slot-ge-COUNTER_LIMIT-3.false) (both_yes _ _ _ (le-leb _ _ c.if-slot-gt-TIME_LIMIT.false) (both_no _ _ (told_no _ _ c.moment_timely.ensures c.if-not-moment_timely.true))))))))
 
 pub returns : goal.returns
 unfolding whole_slot
-returns c = both_yes _ _ _ (le-leb _ _ c.if-maximum-slot.false) (both_yes _ _ _ (told_yes _ _ c.proposal_fits.ensures c.if-not-proposal_fits.false) (both_yes _ _ _ (told_yes _ _ c.route_fits.ensures c.if-not-route_fits.false) (both_yes _ _ _ (lt-ltb _ _ c.if-slot-ge-COUNTER_LIMIT.false) (both_yes _ _ _ (lt-ltb _ _ c.if-slot-ge-COUNTER_LIMIT-2.false) (both_yes _ _ _ (lt-ltb _ _ c.if-slot-ge-COUNTER_LIMIT-3.false) (both_yes _ _ _ (le-leb _ _ c.if-slot-gt-TIME_LIMIT.false) (both_yes _ _ _ (told_yes _ _ c.moment_fits.ensures c.if-not-moment_fits.false) c.moment_fits-2.ensures)))))))
+returns c = both_yes _ _ _ (le-leb _ _ c.if-maximum-slot.false) (both_yes _ _ _ (told_yes _ _ c.proposal_fits.ensures c.if-not-proposal_fits.false) (both_yes _ _ _ (told_yes _ _ c.route_fits.ensures c.if-not-route_fits.false) (both_yes _ _ _ (lt-ltb _ _ c.if-slot-ge-COUNTER_LIMIT.false) (both_yes _ _ _ (lt-ltb _ _ c.if-slot-ge-COUNTER_LIMIT-2.false) (both_yes _ _ _ (lt-ltb _ _ c.if-slot-ge-COUNTER_LIMIT-3.false) (both_yes _ _ _ (le-leb _ _ c.if-slot-gt-TIME_LIMIT.false) (both_yes _ _ _ (told_yes _ _ c.moment_timely.ensures c.if-not-moment_timely.false) c.moment_timely-2.ensures)))))))

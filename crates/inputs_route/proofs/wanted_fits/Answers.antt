@@ -3,4 +3,4 @@ use Rattle.rules_calls.proofs.RouteCases.{fits_from}
 use Rattle.inputs_route.proofs.wanted_fits.Goals as goal
 
 pub returns : goal.returns
-returns c = fits_from _ c.in-From.is c.has_room.ensures
+returns c = fits_from _ c.in-Some.is c.has_room.ensures

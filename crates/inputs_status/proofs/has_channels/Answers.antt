@@ -1,16 +1,19 @@
 -- `inputs_status::has_channels` meets its contract. Assumes nothing.
+use Rattle.std.proofs.Common.{refl, rules}
+use Rattle.std.specs.Prelude.{◌≡◌, Err}
+use Rattle.refusals.proofs.Answers.{never_zero}
 use Rattle.rules_calls.specs.HasChannels.{has_channels_reply}
 use Rattle.rules_calls.proofs.StatusReplies.{answer_refused, answer_accepted, channels_idle, channels_running}
 use Rattle.inputs_status.proofs.has_channels.Goals as goal
 
-pub returns-then-number-ne0 : goal.returns-then-number-ne0
+pub returns-in_err-check_channels : goal.returns-in_err-check_channels
 unfolding has_channels_reply
-returns-then-number-ne0 c = answer_refused _ c.channels_number-number.ensures c.if-number-ne0.true _
+returns-in_err-check_channels c = let e : c.from_residual.result ≡ Err c.in_err-check_channels.field-0.0 = search rules in rw e (answer_refused _ c.in_err-check_channels.ensures (never_zero _) _)
 
 pub returns-then-code-ne-RUNNING : goal.returns-then-code-ne-RUNNING
 unfolding has_channels_reply
-returns-then-code-ne-RUNNING c = answer_accepted _ c.channels_number-number.ensures c.if-number-ne0.false _ (channels_idle c.slot_at-slot.ensures c.code.ensures c.if-code-ne-RUNNING.true _ _)
+returns-then-code-ne-RUNNING c = answer_accepted _ c.in_ok-check_channels.ensures refl _ (channels_idle c.slot_at-slot.ensures c.code.ensures c.if-code-ne-RUNNING.true _ _)
 
 pub returns : goal.returns
 unfolding has_channels_reply
-returns c = answer_accepted _ c.channels_number-number.ensures c.if-number-ne0.false _ (channels_running c.slot_at-slot.ensures c.code.ensures c.if-code-ne-RUNNING.false _ _)
+returns c = answer_accepted _ c.in_ok-check_channels.ensures refl _ (channels_running c.slot_at-slot.ensures c.code.ensures c.if-code-ne-RUNNING.false _ _)

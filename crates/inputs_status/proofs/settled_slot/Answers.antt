@@ -7,8 +7,8 @@ use Rattle.inputs_status.proofs.settled_slot.Goals as goal
 pub returns-then-code-ne-RUNNING : goal.returns-then-code-ne-RUNNING
 returns-then-code-ne-RUNNING c = settled_idle refl c.code.ensures c.if-code-ne-RUNNING.true _ _
 
-pub returns-then-not-held : goal.returns-then-not-held
-returns-then-not-held c = settled_lately refl c.code.ensures c.if-code-ne-RUNNING.false _ _ (told_no _ _ c.held.ensures c.if-not-held.true)
+pub returns-then-not-held_since : goal.returns-then-not-held_since
+returns-then-not-held_since c = settled_lately refl c.code.ensures c.if-code-ne-RUNNING.false _ _ (told_no _ _ c.held_since.ensures c.if-not-held_since.true)
 
 pub returns : goal.returns
-returns c = settled_running refl c.code.ensures c.if-code-ne-RUNNING.false _ _ (told_yes _ _ c.held.ensures c.if-not-held.false) c.held-2.ensures
+returns c = settled_running refl c.code.ensures c.if-code-ne-RUNNING.false _ _ (told_yes _ _ c.held_since.ensures c.if-not-held_since.false) c.held_since-2.ensures

@@ -4,4 +4,4 @@ use Rattle.rules_routing.specs.ReaderCheck.{reader_fits}
 use Rattle.inputs_try_open.proofs.reader_fits.Goals as goal
 
 pub returns : goal.returns
-returns c = sym (ap reader_fits c.in-Open.is)
+returns c = sym (ap reader_fits c.in-Some.is)

@@ -4,4 +4,4 @@ use Rattle.inputs_update.proofs.desk_limit.Goals as goal
 
 pub returns : goal.returns
 unfolding desk_limit
-returns c = c.least.ensures
+returns c = c.min.ensures

@@ -6,4 +6,4 @@ pub returns-then-code-ne-RUNNING : goal.returns-then-code-ne-RUNNING
 returns-then-code-ne-RUNNING c = stalls_other _ _ _ c.code.ensures c.if-code-ne-RUNNING.true
 
 pub returns : goal.returns
-returns c = stalls_running _ _ _ c.code.ensures c.if-code-ne-RUNNING.false c.age.ensures
+returns c = stalls_running _ _ _ c.code.ensures c.if-code-ne-RUNNING.false c.saturating_sub.ensures

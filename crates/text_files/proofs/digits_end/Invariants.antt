@@ -5,8 +5,8 @@ use lib.ListN.{length, drop}
 use Rattle.text_files.specs.Files.{bytes_from, digits_end}
 use Rattle.text_files.proofs.digits_end.Given as goal
 
-abbrev pub invariant-loop-i : goal.invariant-loop-i
-invariant-loop-i l = digits_end l.s l.from ≡ l.i + length (bytes_from (drop l.i l.s)) * 2
+abbrev pub invariant-loop-next : goal.invariant-loop-next
+invariant-loop-next l = digits_end l.s l.from ≡ l.next + length (bytes_from (drop l.next l.s)) * 2
 
-abbrev pub decreases-loop-i : goal.decreases-loop-i
-decreases-loop-i l = length l.s - l.i
+abbrev pub decreases-loop-next : goal.decreases-loop-next
+decreases-loop-next l = length l.s - l.next

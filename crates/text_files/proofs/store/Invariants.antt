@@ -2,12 +2,9 @@
 use Prim.Native.Nat.{◌-◌}
 use mathlib.Core.Path.{◌≡◌}
 use mathlib.Core.List.{◌++◌}
-use lib.ListN.{length, take, drop}
+use lib.ListN.{take, drop}
 use Rattle.text_files.specs.Files.{bytes_from, kept_from}
 use Rattle.text_files.proofs.store.Given as goal
 
 abbrev pub invariant-loop-k : goal.invariant-loop-k
-invariant-loop-k l = (take l.k l.file ++ take (1292 - l.k) (bytes_from (drop l.i l.s)) ≡ kept_from l.s l.at) × (length l.file ≡ length l.initial.file)
-
-abbrev pub decreases-loop-k : goal.decreases-loop-k
-decreases-loop-k l = 1292 - l.k
+invariant-loop-k l = take l.k l.file ++ take (1292 - l.k) (bytes_from (drop l.next l.s)) ≡ kept_from l.s l.at

@@ -1,24 +1,32 @@
--- `text_read::request_at` meets its contract. Assumes nothing.
-use Rattle.text_read.specs.Table.{request_at}
-use Rattle.text_read.proofs.Telling.{call_silent}
+-- `text_read::request_at` meets its contract: the first of its lines that was read to the end of the line. Assumes nothing.
+use mathlib.Core.Path.{sym, ◌∙◌}
+use Rattle.text_read.proofs.Telling.{call_silent, requested}
 use Rattle.text_read.proofs.request_at.Goals as goal
 
-pub returns-then-ends : goal.returns-then-ends
-unfolding request_at
-returns-then-ends c = rw (← c.tick-ticked.ensures, ← c.ends.ensures, c.if-ends.true)
+pub returns-in-Some : goal.returns-in-Some
+returns-in-Some c = sym (requested c.args.s.now c.tick.new.heard c.args.at c.args.known _ c.tick.result c.tick.ensures ∙ rw (← c.whole.ensures, c.in-Some.is))
 
-pub returns-then-ends-2 : goal.returns-then-ends-2
-unfolding request_at
-returns-then-ends-2 c = rw (← c.tick-ticked.ensures, ← c.ends.ensures, c.if-ends.false, ← c.call_at-called.ensures, ← c.ends-2.ensures, c.if-ends-2.true, call_silent c.args.s.now c.args.at c.args.known c.call_at-called.ensures)
+pub returns-in-Some-whole : goal.returns-in-Some-whole
+returns-in-Some-whole c =
+    let found = rw c.call_at.ensures at c.whole-2.ensures in
+    sym (requested c.args.s.now c.tick.new.heard c.args.at c.args.known _ c.tick.result c.tick.ensures ∙ rw (← c.whole.ensures, c.in_default.is, ← found, c.in-Some-whole.is, call_silent c.args.s.now c.args.at c.args.known (sym c.in-Some-whole.is ∙ found)))
 
-pub returns-then-ends-3 : goal.returns-then-ends-3
-unfolding request_at
-returns-then-ends-3 c = rw (← c.tick-ticked.ensures, ← c.ends.ensures, c.if-ends.false, ← c.call_at-called.ensures, ← c.ends-2.ensures, c.if-ends-2.false, ← c.lone_at-alone.ensures, ← c.ends-3.ensures, c.if-ends-3.true)
+pub returns-in-Some-whole-2 : goal.returns-in-Some-whole-2
+returns-in-Some-whole-2 c =
+    let called = rw c.call_at.ensures at c.whole-2.ensures in
+    let alone = rw c.lone_at.ensures at c.whole-3.ensures in
+    sym (requested c.args.s.now c.tick.new.heard c.args.at c.args.known _ c.tick.result c.tick.ensures ∙ rw (← c.whole.ensures, c.in_default.is, ← called, c.in_default-whole.is, ← alone, c.in-Some-whole-2.is))
 
-pub returns-then-ends-4 : goal.returns-then-ends-4
-unfolding request_at
-returns-then-ends-4 c = rw (← c.tick-ticked.ensures, ← c.ends.ensures, c.if-ends.false, ← c.call_at-called.ensures, ← c.ends-2.ensures, c.if-ends-2.false, ← c.lone_at-alone.ensures, ← c.ends-3.ensures, c.if-ends-3.false, ← c.full-bit.ensures, ← c.ends-4.ensures, c.if-ends-4.true)
+pub returns-in-Some-whole-3 : goal.returns-in-Some-whole-3
+returns-in-Some-whole-3 c =
+    let called = rw c.call_at.ensures at c.whole-2.ensures in
+    let alone = rw c.lone_at.ensures at c.whole-3.ensures in
+    let full = rw c.full.ensures at c.whole-4.ensures in
+    sym (requested c.args.s.now c.tick.new.heard c.args.at c.args.known _ c.tick.result c.tick.ensures ∙ rw (← c.whole.ensures, c.in_default.is, ← called, c.in_default-whole.is, ← alone, c.in_default-whole-2.is, ← full, c.in-Some-whole-3.is))
 
 pub returns : goal.returns
-unfolding request_at
-returns c = rw (← c.tick-ticked.ensures, ← c.ends.ensures, c.if-ends.false, ← c.call_at-called.ensures, ← c.ends-2.ensures, c.if-ends-2.false, ← c.lone_at-alone.ensures, ← c.ends-3.ensures, c.if-ends-3.false, ← c.full-bit.ensures, ← c.ends-4.ensures, c.if-ends-4.false)
+returns c =
+    let called = rw c.call_at.ensures at c.whole-2.ensures in
+    let alone = rw c.lone_at.ensures at c.whole-3.ensures in
+    let full = rw c.full.ensures at c.whole-4.ensures in
+    sym (requested c.args.s.now c.tick.new.heard c.args.at c.args.known _ c.tick.result c.tick.ensures ∙ rw (← c.whole.ensures, c.in_default.is, ← called, c.in_default-whole.is, ← alone, c.in_default-whole-2.is, ← full, c.in_default-whole-3.is))

@@ -1,19 +1,19 @@
 -- `base::inner::spaced` meets its contract. Assumes nothing.
-use Rattle.base.proofs.Rows.{apart_none, apart_empty, apart_more, apart_stop, apart_end}
-use native.Mathlib.Omega.{arith}
+use Rattle.std.proofs.Common.{◌∙◌, ap}
+use Rattle.std.specs.Slice.Iter.{windows_rest, windows_size}
+use Rattle.base.proofs.Pairs.{walk_none, walk_more, walk_stop, walk_end}
 use Rattle.base.proofs.inner.spaced.Goals as goal
 
-pub returns-then-n-eq0 : goal.returns-then-n-eq0
-returns-then-n-eq0 c = apart_empty _ _ _ c.if-n-eq0.true
+pub loop-pair-init : goal.loop-pair-init
+loop-pair-init c =
+    walk_none _ _ (ap windows_rest c.into_iter-pair-iterator.ensures.into_iter_gives ∙ c.windows-pair-items.ensures.rest) (ap windows_size c.into_iter-pair-iterator.ensures.into_iter_gives ∙ c.windows-pair-items.ensures.size)
 
-pub loop-i-init : goal.loop-i-init
-loop-i-init c = (omega arith, apart_none _ _)
+pub returns-then-saturating_sub-gap : goal.returns-then-saturating_sub-gap
+returns-then-saturating_sub-gap c =
+    walk_stop c.args.gap c.args.n c.args.times.now c.requires _ _ c.loop-pair.invariant c.in-Some.is c.next.ensures.steps c.saturating_sub.ensures c.if-saturating_sub-gap.true
 
-pub returns-then-age-gap : goal.returns-then-age-gap
-returns-then-age-gap c = apart_stop _ _ _ _ _ c.loop-i-test.true c.age.ensures c.if-age-gap.true
-
-pub loop-i-preserved : goal.loop-i-preserved
-loop-i-preserved c = (omega arith, apart_more _ _ _ _ c.loop-i.invariant.1 c.age.ensures c.if-age-gap.false)
+pub loop-pair-preserved : goal.loop-pair-preserved
+loop-pair-preserved c = walk_more _ _ _ _ c.loop-pair.invariant c.in-Some.is c.next.ensures.steps c.saturating_sub.ensures c.if-saturating_sub-gap.false
 
 pub returns : goal.returns
-returns c = apart_end _ _ _ _ c.loop-i.invariant.1 c.loop-i.invariant.0 (omega arith)
+returns c = walk_end c.args.gap c.args.n c.args.times.now c.requires _ _ c.loop-pair.invariant c.in-None.is c.next.ensures.steps

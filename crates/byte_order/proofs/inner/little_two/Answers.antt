@@ -5,4 +5,4 @@ use Rattle.byte_order.proofs.inner.little_two.Goals as goal
 
 pub returns : goal.returns
 unfolding little_at
-returns c = omega (arith, c.pair.ensures)
+returns c = omega (arith, c.from.ensures, c.from_le_bytes.ensures)

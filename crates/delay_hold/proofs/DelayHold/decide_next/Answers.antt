@@ -1,20 +1,18 @@
 -- `delay_hold::DelayHold::decide_next` meets its contract. Assumes nothing.
-use Rattle.delay_hold.proofs.Gate.{accepted_asked, next_refused, next_kept, next_changed}
-use mathlib.Core.Path.{sym, ◌∙◌}
+use Rattle.std.proofs.Common.{refl, rules}
+use Rattle.std.specs.Prelude.{◌≡◌, Err}
+use Rattle.refusals.proofs.Answers.{never_zero}
+use Rattle.delay_hold.proofs.Gate.{accepted_asked, next_refused, next_told}
+use mathlib.Core.Path.{sym}
 use native.Mathlib.Omega.{arith}
 use Rattle.delay_hold.proofs.DelayHold.decide_next.Goals as goal
 
-pub returns-then-number-ne0 : goal.returns-then-number-ne0
-returns-then-number-ne0 c =
-    next_refused c.args.policy c.args.width _ c.args.p999 c.args.current c.args.time c.args.max_lag _ c.next_number-number.ensures c.if-number-ne0.true
+pub returns-in_err-check_next : goal.returns-in_err-check_next
+returns-in_err-check_next c = let e : c.from_residual.result ≡ Err c.in_err-check_next.field-0.0 = search rules in rw e (next_refused c.args.policy c.args.width _ c.args.p999 c.args.current c.args.time c.args.max_lag _ c.in_err-check_next.ensures (never_zero _))
 
-pub next-next-requires : goal.next-next-requires
-next-next-requires c = record { asked = accepted_asked c.args.policy c.args.width _ c.args.p999 c.args.current c.args.time (sym c.next_number-number.ensures ∙ c.if-number-ne0.false); millisecond_le_samples_limit = omega arith }
-
-pub returns-in_default : goal.returns-in_default
-returns-in_default c =
-    next_kept c.args.policy c.args.width _ c.args.p999 c.args.current c.args.time c.args.max_lag _ c.next_number-number.ensures c.if-number-ne0.false c.next-next.result _ _ c.next-next.ensures c.in_default.is
+pub next-requires : goal.next-requires
+next-requires c = record { asked = accepted_asked c.args.policy c.args.width _ c.args.p999 c.args.current c.args.time (sym c.in_ok-check_next.ensures); millisecond_le_samples_limit = omega arith }
 
 pub returns : goal.returns
 returns c =
-    next_changed c.args.policy c.args.width _ c.args.p999 c.args.current c.args.time c.args.max_lag _ c.next_number-number.ensures c.if-number-ne0.false c.next-next.result _ _ c.next-next.ensures _ c.in-To.is
+    next_told c.args.policy c.args.width _ c.args.p999 c.args.current c.args.time c.args.max_lag _ c.in_ok-check_next.ensures refl c.next.result _ _ c.next.ensures

@@ -7,11 +7,11 @@ use Rattle.delay_hold.proofs.DelayHold.decided.Goals as goal
 
 pub decided_for-requires : goal.decided_for-requires
 decided_for-requires c =
-    (c.requires.0, rw c.larger.ensures (larger_up c.args.p999 c.args.peak peak_limit c.requires.1 c.requires.2), c.requires.3, c.requires.4, c.requires.5)
+    (c.requires.0, rw c.larger_lag.ensures (larger_up c.args.p999 c.args.peak peak_limit c.requires.1 c.requires.2), c.requires.3, c.requires.4, c.requires.5)
 
 pub returns-then-late : goal.returns-then-late
 unfolding decide
-returns-then-late c = simp (c.decided_for.ensures, c.larger.ensures, c.if-late.true) (simp (and-false (missing c.args.p999)))
+returns-then-late c = simp (c.decided_for.ensures, c.larger_lag.ensures, c.if-late.true) (simp (and-false (missing c.args.p999)))
 
 pub returns-in_default : goal.returns-in_default
 unfolding decide
@@ -19,9 +19,9 @@ returns-in_default c = simp (c.in_default.is, c.if-late.false)
 
 pub decided_for-requires-2 : goal.decided_for-requires-2
 decided_for-requires-2 c =
-    (c.requires.0, rw c.larger-2.ensures (larger_up c.args.p999 c.args.peak peak_limit c.requires.1 c.requires.2), c.requires.3, c.requires.4, c.requires.5)
+    (c.requires.0, rw c.larger_lag-2.ensures (larger_up c.args.p999 c.args.peak peak_limit c.requires.1 c.requires.2), c.requires.3, c.requires.4, c.requires.5)
 
 pub returns : goal.returns
 unfolding decide
 returns c =
-    simp (c.decided_for-2.ensures, c.larger-2.ensures, c.in-Of.is, c.if-late.false)
+    simp (c.decided_for-2.ensures, c.larger_lag-2.ensures, c.in-Some.is, c.if-late.false)

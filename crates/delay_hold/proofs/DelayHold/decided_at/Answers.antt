@@ -6,9 +6,9 @@ use Rattle.delay_hold.proofs.DelayHold.decided_at.Goals as goal
 
 pub weighed-requires : goal.weighed-requires
 weighed-requires c =
-    (omega (arith, c.most-high.ensures, c.floor.ensures, c.need.ensures, need_at_most c.args.policy c.args.worst, c.requires.0.maximum, c.requires.3), c.requires.4)
+    (omega (arith, c.max-high.ensures, c.floor_of.ensures, c.need.ensures, need_at_most c.args.policy c.args.worst, c.requires.0.maximum, c.requires.3), c.requires.4)
 
 pub returns : goal.returns
 unfolding decide_at
 returns c =
-    simp (c.weighed.ensures, c.most-high.ensures, c.floor.ensures, c.need.ensures, c.urgent.ensures)
+    simp (c.weighed.ensures, c.max-high.ensures, c.floor_of.ensures, c.need.ensures, c.urgent.ensures)

@@ -2,7 +2,7 @@
 use Rattle.delay_hold.proofs.LowerTimer.met.Goals as goal
 
 pub returns-then-self : goal.returns-then-self
-returns-then-self c = simp (c.if-self.true, c.most.ensures)
+returns-then-self c = simp (c.if-self.true, c.max.ensures)
 
 pub returns : goal.returns
 returns c = simp c.if-self.false

@@ -3,4 +3,4 @@ use Rattle.delay_hold.proofs.inner.cleared.Goals as goal
 
 pub returns : goal.returns
 returns c =
-    simp (c.fresh.ensures, c.zero_u64.ensures, c.zero_u32.ensures)
+    simp (c.fresh.ensures, (c.fill.ensures.after (λ y e. e)), (c.fill-2.ensures.after (λ y e. e)))

@@ -11,7 +11,7 @@ peaks_next-n-requires c =
 
 pub worst-peak-requires : goal.worst-peak-requires
 worst-peak-requires c =
-    peaks_fit c.requires.asked.asked c.in_startup-startup.result c.cap-window.result c.cap-window.ensures c.args.time c.larger.result c.peaks_next-n.result c.peaks_next-n.new.lags c.peaks_next-n.ensures.0 c.peaks_next-n.ensures.2
+    peaks_fit c.requires.asked.asked c.in_startup-startup.result c.cap-window.result c.cap-window.ensures c.args.time c.larger_lag.result c.peaks_next-n.result c.peaks_next-n.new.lags c.peaks_next-n.ensures.0 c.peaks_next-n.ensures.2
 
 pub noted-requires : goal.noted-requires
 noted-requires c =
@@ -19,8 +19,8 @@ noted-requires c =
 
 pub decided-requires : goal.decided-requires
 decided-requires c =
-    let d = decision_asks c.requires.asked.asked c.in_startup-startup.result c.cap-window.result c.cap-window.ensures c.args.time c.larger.result c.peaks_next-n.result c.peaks_next-n.new.lags c.peaks_next-n.ensures.0 c.peaks_next-n.ensures.2 c.worst-peak.result c.worst-peak.ensures c.args.max_lag c.within-lag.result c.within-lag.ensures c.larger.ensures c.late-late.result c.with_peaks-before.result c.noted.result c.args.millisecond c.noted.ensures c.with_peaks-before.ensures in (c.requires.asked.asked.sound, d.0, d.1, d.2, d.3, c.requires.millisecond_le_samples_limit)
+    let d = decision_asks c.requires.asked.asked c.in_startup-startup.result c.cap-window.result c.cap-window.ensures c.args.time c.larger_lag.result c.peaks_next-n.result c.peaks_next-n.new.lags c.peaks_next-n.ensures.0 c.peaks_next-n.ensures.2 c.worst-peak.result c.worst-peak.ensures c.args.max_lag c.lag_within-lag.result c.lag_within-lag.ensures c.larger_lag.ensures c.late_at-late.result c.with_peaks-before.result c.noted.result c.args.millisecond c.noted.ensures c.with_peaks-before.ensures in (c.requires.asked.asked.sound, d.0, d.1, d.2, d.3, c.requires.millisecond_le_samples_limit)
 
 pub returns : goal.returns
 returns c =
-    next_is c.requires.asked.asked c.in_startup-startup.result c.cap-window.result c.cap-window.ensures c.args.time c.larger.result c.peaks_next-n.result c.peaks_next-n.new.lags c.peaks_next-n.ensures.0 c.peaks_next-n.ensures.2 c.worst-peak.result c.worst-peak.ensures c.args.max_lag c.within-lag.result c.within-lag.ensures c.larger.ensures c.late-late.result c.with_peaks-before.result c.noted.result c.args.millisecond c.noted.ensures c.with_peaks-before.ensures c.cap-hold_now.result _ c.decided.result c.args.may_lower (c.in_startup-startup.ensures ∙ ap (λ (t : ℕ). startup_at t c.args.hold.startup_late c.args.time) c.started.ensures) c.cap-hold_now.ensures c.late-late.ensures c.peaks_next-n.ensures.1 c.decided.ensures
+    next_is c.requires.asked.asked c.in_startup-startup.result c.cap-window.result c.cap-window.ensures c.args.time c.larger_lag.result c.peaks_next-n.result c.peaks_next-n.new.lags c.peaks_next-n.ensures.0 c.peaks_next-n.ensures.2 c.worst-peak.result c.worst-peak.ensures c.args.max_lag c.lag_within-lag.result c.lag_within-lag.ensures c.larger_lag.ensures c.late_at-late.result c.with_peaks-before.result c.noted.result c.args.millisecond c.noted.ensures c.with_peaks-before.ensures c.cap-hold_now.result _ c.decided.result c.args.may_lower (c.in_startup-startup.ensures ∙ ap (λ (t : ℕ). startup_at t c.args.hold.startup_late c.args.time) c.started_at.ensures) c.cap-hold_now.ensures c.late_at-late.ensures c.peaks_next-n.ensures.1 c.decided.ensures

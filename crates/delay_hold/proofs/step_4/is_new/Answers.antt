@@ -6,4 +6,4 @@ pub returns-then-n-eq0 : goal.returns-then-n-eq0
 returns-then-n-eq0 c = simp (eq-eqb _ _ c.if-n-eq0.true)
 
 pub returns : goal.returns
-returns c = simp (ne_eqb _ _ c.if-n-eq0.false, ← c.age.ensures)
+returns c = simp (ne_eqb _ _ c.if-n-eq0.false, ← c.saturating_sub.ensures)

@@ -18,7 +18,7 @@ overflow_add-result c =
 
 pub returns-then-is_new : goal.returns-then-is_new
 returns-then-is_new c =
-    (simp (c.in-Of.is, ← c.is_new.ensures, c.if-is_new.true), simp (c.in-Of.is, ← c.is_new.ensures, c.if-is_new.true), simp (c.in-Of.is, ← c.is_new.ensures, c.if-is_new.true))
+    (simp (c.in-Some.is, ← c.is_new.ensures, c.if-is_new.true), simp (c.in-Some.is, ← c.is_new.ensures, c.if-is_new.true), simp (c.in-Some.is, ← c.is_new.ensures, c.if-is_new.true))
 
 pub overflow_sub-last : goal.overflow_sub-last
 overflow_sub-last c =
@@ -34,4 +34,4 @@ bounds-lags-last-2 c =
 
 pub returns : goal.returns
 returns c =
-    (simp (c.in-Of.is, ← c.is_new.ensures, c.if-is_new.false), simp (c.in-Of.is, ← c.is_new.ensures, c.if-is_new.false), simp (c.in-Of.is, ← c.is_new.ensures, c.if-is_new.false, c.most-high.ensures))
+    (simp (c.in-Some.is, ← c.is_new.ensures, c.if-is_new.false), simp (c.in-Some.is, ← c.is_new.ensures, c.if-is_new.false), simp (c.in-Some.is, ← c.is_new.ensures, c.if-is_new.false, c.max-high.ensures))

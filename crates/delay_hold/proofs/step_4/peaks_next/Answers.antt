@@ -9,8 +9,8 @@ overflow_sub-n c =
 
 pub join-requires : goal.join-requires
 join-requires c =
-    join_asks c.args.n c.args.times.now c.args.lags.now c.args.window c.args.time c.requires c.count_old-k.result c.count_old-k.ensures c.shift_u64.new.s c.shift_u32.new.s c.shift_u64.ensures c.shift_u32.ensures
+    join_asks c.args.n c.args.times.now c.args.lags.now c.args.window c.args.time c.requires c.count_old-k.result c.count_old-k.ensures c.shift.new.s c.shift-2.new.s c.shift.ensures c.shift-2.ensures
 
 pub returns : goal.returns
 returns c =
-    let p = peaks_are c.args.n c.args.times.now c.args.lags.now c.args.window c.args.time c.requires c.count_old-k.result c.count_old-k.ensures c.shift_u64.new.s c.shift_u32.new.s c.shift_u64.ensures c.shift_u32.ensures c.args.lag in (c.join.ensures.0 ∙ p.0, c.join.ensures.1 ∙ p.1, c.join.ensures.2 ∙ p.2)
+    let p = peaks_are c.args.n c.args.times.now c.args.lags.now c.args.window c.args.time c.requires c.count_old-k.result c.count_old-k.ensures c.shift.new.s c.shift-2.new.s c.shift.ensures c.shift-2.ensures c.args.lag in (c.join.ensures.0 ∙ p.0, c.join.ensures.1 ∙ p.1, c.join.ensures.2 ∙ p.2)

@@ -6,12 +6,12 @@ use Rattle.delay_hold.proofs.steps_1_to_3.lates_seeded.Goals as goal
 
 pub overflow_add-need : goal.overflow_add-need
 overflow_add-need c =
-    omega (arith, c.need.ensures, need_at_most c.args.policy c.in-Of.l, c.requires.0.maximum, c.requires.1)
+    omega (arith, c.need.ensures, need_at_most c.args.policy c.in-Some.l, c.requires.0.maximum, c.requires.1)
 
-pub returns-then-delay-need : goal.returns-then-delay-need
-returns-then-delay-need c =
-    simp (c.in-Of.is, c.in-From.is, ← c.need.ensures, le-leb _ _ c.if-delay-need.true)
+pub returns-then-last-need : goal.returns-then-last-need
+returns-then-last-need c =
+    simp (c.in-Some.is, c.in-Some-seed.is, ← c.need.ensures, le-leb _ _ c.if-last-need.true)
 
 pub returns : goal.returns
 returns c =
-    simp (c.in-Of.is, c.in-From.is, ← c.need.ensures, lt-leb _ _ c.if-delay-need.false)
+    simp (c.in-Some.is, c.in-Some-seed.is, ← c.need.ensures, lt-leb _ _ c.if-last-need.false)

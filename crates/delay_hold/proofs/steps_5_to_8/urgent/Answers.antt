@@ -9,4 +9,4 @@ overflow_add-need c =
 
 pub returns : goal.returns
 returns c =
-    simp (c.if-late.false, c.less-half.ensures, c.need.ensures)
+    simp (c.if-late.false, c.saturating_sub-half.ensures, c.need.ensures)

@@ -12,7 +12,7 @@ pub returns-in_default : goal.returns-in_default
 returns-in_default c = did_by (answered_keep _ _ _ _ c.in_default.is) (did_quiet c.put_slot.ensures)
 
 pub returns-then-inputs : goal.returns-then-inputs
-returns-then-inputs c = did_by (answered_proposal _ _ _ _ _ c.in-To.is c.if-inputs.true) (did_quiet (c.put_slot-then-inputs.ensures ∙ ap (put_slot _ _) c.with_proposed-changed.ensures))
+returns-then-inputs c = did_by (answered_proposal _ _ _ _ _ c.in-Some.is c.if-inputs.true) (did_quiet (c.put_slot-then-inputs.ensures ∙ ap (put_slot _ _) c.with_proposed-changed.ensures))
 
 pub overflow_add-slot : goal.overflow_add-slot
 overflow_add-slot c = omega (arith, c.requires.2)
@@ -21,4 +21,4 @@ pub set_delay-requires : goal.set_delay-requires
 set_delay-requires c = (c.requires.0, c.requires.1)
 
 pub returns : goal.returns
-returns c = did_by (answered_change c.args.i c.args.time c.args.slot c.args.inputs _ c.in-To.is c.if-inputs.false ∙ ap (λ (z : Inputs). set_delay_of z c.args.i c.in-To.delay c.args.time) (sym (c.put_slot-all.ensures ∙ ap (put_slot c.args.inputs c.args.i) c.with_delay_changes-changed.ensures))) c.set_delay.ensures
+returns c = did_by (answered_change c.args.i c.args.time c.args.slot c.args.inputs _ c.in-Some.is c.if-inputs.false ∙ ap (λ (z : Inputs). set_delay_of z c.args.i c.in-Some.delay c.args.time) (sym (c.put_slot-all.ensures ∙ ap (put_slot c.args.inputs c.args.i) c.with_delay_changes-changed.ensures))) c.set_delay.ensures

@@ -6,4 +6,4 @@ pub returns-in_default : goal.returns-in_default
 returns-in_default c = current_none c.args.slot c.in_default.is
 
 pub returns : goal.returns
-returns c = current_pending c.args.slot _ c.in-Pending.is
+returns c = current_pending c.args.slot _ c.in-Some.is

@@ -10,7 +10,7 @@ pub returns-in_default : goal.returns-in_default
 returns-in_default c = late_none _ _ _ _ (sym c.code.ensures ∙ c.if-code-ne-RUNNING.false) c.in_default.is
 
 pub returns-then-policy-lag : goal.returns-then-policy-lag
-returns-then-policy-lag c = late_beyond _ _ _ _ (sym c.code.ensures ∙ c.if-code-ne-RUNNING.false) _ c.in-Of.is c.if-policy-lag.true
+returns-then-policy-lag c = late_beyond _ _ _ _ (sym c.code.ensures ∙ c.if-code-ne-RUNNING.false) _ c.in-Some.is c.if-policy-lag.true
 
 pub returns : goal.returns
-returns c = late_within _ _ _ _ (sym c.code.ensures ∙ c.if-code-ne-RUNNING.false) _ c.in-Of.is c.if-policy-lag.false
+returns c = late_within _ _ _ _ (sym c.code.ensures ∙ c.if-code-ne-RUNNING.false) _ c.in-Some.is c.if-policy-lag.false

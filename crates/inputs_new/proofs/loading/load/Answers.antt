@@ -1,5 +1,8 @@
 -- `inputs_new::loading::load` meets its contract. Assumes nothing.
-use mathlib.Core.Path.{refl, sym}
+use mathlib.Core.Path.{refl, sym, ap, ◌∙◌}
+use Rattle.std.specs.Prelude.{Option}
+use Rattle.std.specs.Option.{is_some, unwrap_or}
+use Rattle.rules_record.specs.declared.Inputs.{Inputs}
 use native.Mathlib.Omega.{arith}
 use Rattle.base.proofs.Tests.{not_both}
 use Rattle.rules_calls.proofs.NewLoops.{loading_none, loading_stop, loading_more, loading_fits, loading_end}
@@ -15,7 +18,7 @@ pub has_room-requires : goal.has_room-requires
 has_room-requires c = tt
 
 pub returns-then-not-has_room : goal.returns-then-not-has_room
-returns-then-not-has_room c = record { fits_value = loading_stop _ _ _ c.loop-k.invariant c.loop-k-test.true c.flow_of-flow.ensures c.has_room.ensures (c.if-not-has_room.true); inputs_value = λ e. absurd (not_both refl (sym e)) }
+returns-then-not-has_room c = record { fits_value = loading_stop _ _ _ c.loop-k.invariant c.loop-k-test.true c.flow_of-flow.ensures c.has_room.ensures (c.if-not-has_room.true); inputs_value = λ all e. absurd (not_both refl (sym (ap is_some e))) }
 
 pub bounds-delays-k : goal.bounds-delays-k
 bounds-delays-k c = c.loop-k-test.true
@@ -30,4 +33,4 @@ pub loop-k-preserved : goal.loop-k-preserved
 loop-k-preserved c = loading_more _ _ _ c.loop-k.invariant c.loop-k-test.true c.flow_of-flow.ensures c.has_room.ensures (c.if-not-has_room.false) c.load_one-all.ensures
 
 pub returns : goal.returns
-returns c = record { fits_value = loading_fits _ _ _ c.loop-k.invariant c.loop-k-test.false; inputs_value = λ e. loading_end _ _ _ c.loop-k.invariant c.loop-k-test.false }
+returns c = record { fits_value = loading_fits _ _ _ c.loop-k.invariant c.loop-k-test.false; inputs_value = λ all e. sym (ap (λ (o : Option Inputs). unwrap_or o c.loop-k.all) e) ∙ loading_end _ _ _ c.loop-k.invariant c.loop-k-test.false }

@@ -6,4 +6,4 @@ pub returns-in_default : goal.returns-in_default
 returns-in_default c = started_auto _ _ _ c.made_at-all.ensures c.in_default.is
 
 pub returns : goal.returns
-returns c = started_manual _ _ _ c.made_at-all.ensures c.in-Ms.is c.samples.ensures c.least-samples.ensures c.set_delay.ensures
+returns c = started_manual _ _ _ c.made_at-all.ensures c.in-Ms.is c.samples.ensures c.min-samples.ensures c.set_delay.ensures

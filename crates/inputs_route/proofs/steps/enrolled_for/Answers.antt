@@ -3,4 +3,4 @@ use Rattle.rules_calls.proofs.RouteCases.{enrolled_from}
 use Rattle.inputs_route.proofs.steps.enrolled_for.Goals as goal
 
 pub returns : goal.returns
-returns c = enrolled_from _ c.in-From.is c.enrol.ensures
+returns c = enrolled_from _ c.in-Some.is c.enrol.ensures

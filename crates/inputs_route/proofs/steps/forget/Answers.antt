@@ -6,4 +6,4 @@ pub returns-in_default : goal.returns-in_default
 returns-in_default c = forget_none _ _ _ c.in_default.is
 
 pub returns : goal.returns
-returns c = forget_old _ _ _ c.in-To.is c.send.ensures
+returns c = forget_old _ _ _ c.in-Some.is c.send.ensures

@@ -8,4 +8,4 @@ pub returns-in_default : goal.returns-in_default
 returns-in_default c = did_by (open_none _ _ _ _ c.in_default.is) (did_quiet refl)
 
 pub returns : goal.returns
-returns c = did_by (open_new _ _ _ _ c.in-To.is) c.try_open.ensures
+returns c = did_by (open_new _ _ _ _ c.in-Some.is) c.try_open.ensures

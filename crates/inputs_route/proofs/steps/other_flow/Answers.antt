@@ -6,7 +6,7 @@ pub returns-in_default : goal.returns-in_default
 returns-in_default c = other_none _ _ c.in_default.is c.flow_leaves.ensures
 
 pub returns-in_default-old : goal.returns-in_default-old
-returns-in_default-old c = other_unrouted _ _ c.in-To.is c.in_default-old.is
+returns-in_default-old c = other_unrouted _ _ c.in-Some.is c.in_default-old.is
 
 pub returns : goal.returns
-returns c = other_flows _ _ c.in-To.is c.in-To-old.is
+returns c = other_flows _ _ c.in-Some.is c.in-Some-old.is

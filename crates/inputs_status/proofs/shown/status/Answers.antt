@@ -1,6 +1,7 @@
 -- `inputs_status::shown::status` meets its contract. Assumes nothing.
 use Rattle.std.specs.Prelude.{◌*◌}
 use native.Mathlib.Omega.{arith}
+use mathlib.Core.Path.{refl}
 use Rattle.rules_record.specs.Lent.{lists}
 use Rattle.inputs_status.proofs.ShownCases.{countable, lags_within, peaks_in, span_is, status_by_law}
 use Rattle.inputs_status.proofs.shown.status.Goals as goal
@@ -27,4 +28,4 @@ pub overflow_add-policy : goal.overflow_add-policy
 overflow_add-policy c = omega (arith, c.requires.applied_most, c.requires.checked.fitting.allowed.sound.offset, c.requires.checked.fitting.allowed.sound.maximum)
 
 pub returns : goal.returns
-returns c starts totals counts times own = status_by_law c.args.inputs (lists starts totals counts c.args.sums.now times c.args.peaks.now) c.args.i c.args.applied c.args.channels c.slot_at-slot.ensures c.source_of-source.ensures c.window_in-window.ensures c.arrival-arrival_lag_ms.ensures own (span_is (c.args.i * 600) 600) c.worst_ms-worst_lag_ms.ensures c.proposed_ms-proposed_delay_ms.ensures c.code.ensures c.channels_shown.ensures c.ms.ensures c.ms-2.ensures c.ms-3.ensures
+returns c starts totals counts times own = status_by_law c.args.inputs (lists starts totals counts c.args.sums.now times c.args.peaks.now) c.args.i c.args.applied c.args.channels c.slot_at-slot.ensures c.source_of-source.ensures c.window_in-window.ensures c.arrival-arrival_lag_ms.ensures own (span_is (c.args.i * 600) 600) c.worst_ms-worst_lag_ms.ensures c.proposed_ms-proposed_delay_ms.ensures refl c.channels_shown.ensures c.ms.ensures c.ms-2.ensures c.ms-3.ensures

@@ -15,4 +15,4 @@ pub recall-requires : goal.recall-requires
 recall-requires c = (omega (arith, c.requires.0, c.send-next.ensures.0, c.send-next.auto.commands), c.requires.1)
 
 pub returns : goal.returns
-returns c = did_by (reader_opens _ _ _ _ _ _ c.in-Open.is c.slot_at-slot.ensures c.opened-open.ensures c.put_slot-all.ensures) (did_first _ _ _ c.send-next.ensures.0 c.send-next.ensures.1 c.recall.ensures)
+returns c = did_by (reader_opens _ _ _ _ _ _ c.in-Some.is c.slot_at-slot.ensures c.opened-open.ensures c.put_slot-all.ensures) (did_first _ _ _ c.send-next.ensures.0 c.send-next.ensures.1 c.recall.ensures)

@@ -11,4 +11,4 @@ pub returns-in_default : goal.returns-in_default
 returns-in_default c = did_by (recall_none _ _ _ _ _ (sym c.starts.ensures ∙ c.if-not-starts.false) c.recall-remembered.ensures c.in_default.is) (did_quiet refl)
 
 pub returns : goal.returns
-returns c = did_by (recall_last _ _ _ _ _ (sym c.starts.ensures ∙ c.if-not-starts.false) c.recall-remembered.ensures c.in-Delay.is) c.start.ensures
+returns c = did_by (recall_last _ _ _ _ _ (sym c.starts.ensures ∙ c.if-not-starts.false) c.recall-remembered.ensures c.in-Some.is) c.start.ensures

@@ -6,4 +6,4 @@ use Rattle.inputs_try_open.proofs.inner.start.Goals as goal
 
 pub returns : goal.returns
 unfolding start_at
-returns c = did_by (start_by_law _ _ _ _ c.least-delay.ensures) (did_changed _ c.set_delay-sent.ensures c.seed-seeded.ensures)
+returns c = did_by (start_by_law _ _ _ _ c.min-delay.ensures) (did_changed _ c.set_delay-sent.ensures c.seed-seeded.ensures)

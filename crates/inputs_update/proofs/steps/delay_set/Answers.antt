@@ -3,4 +3,4 @@ use Rattle.rules_calls.proofs.UpdateParts.{set_by}
 use Rattle.inputs_update.proofs.steps.delay_set.Goals as goal
 
 pub returns : goal.returns
-returns c = set_by _ _ _ _ _ _ c.zero_u32.ensures c.put_slot-all.ensures c.requires.0 c.set_delay-sent.ensures
+returns c = set_by _ _ _ _ _ _ (c.fill.ensures.after (λ y e. e)) c.put_slot-all.ensures c.requires.0 c.set_delay-sent.ensures

@@ -1,5 +1,5 @@
 -- `lag_rows::inner::add_column` meets its contract. Assumes nothing.
-use Rattle.std.proofs.Common.{◌≡◌, ◌+◌, ◌-◌, ◌%◌, ◌≤◌, length}
+use Rattle.std.proofs.Common.{◌≡◌, ◌+◌, ◌%◌}
 use Rattle.base.proofs.Toward.{toward}
 use Rattle.rules_window.specs.Quantile.{column}
 use Rattle.lag_rows.specs.Tallies.{rows_to}
@@ -7,7 +7,4 @@ use Rattle.lag_rows.proofs.Tallies.{Passed}
 use Rattle.lag_rows.proofs.inner.add_column.Given as goal
 
 abbrev pub invariant-loop-r : goal.invariant-loop-r
-invariant-loop-r l = (l.r ≤ 11) × (length l.rows ≡ 11) × (l.rows ≡ toward (rows_to l.buckets (l.b + 1) l.counts) (rows_to l.buckets l.b l.counts) l.r) × (l.sum ≡ column l.buckets l.b l.r l.counts % 4294967296) × Passed l.buckets l.b l.r l.joined l.counts
-
-abbrev pub decreases-loop-r : goal.decreases-loop-r
-decreases-loop-r l = 11 - l.r
+invariant-loop-r l = (l.rows ≡ toward (rows_to l.buckets (l.b + 1) l.counts) (rows_to l.buckets l.b l.counts) l.r) × (l.sum ≡ column l.buckets l.b l.r l.counts % 4294967296) × Passed l.buckets l.b l.r l.joined l.counts

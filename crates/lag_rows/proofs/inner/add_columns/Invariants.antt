@@ -1,10 +1,7 @@
 -- `lag_rows::inner::add_columns` meets its contract. Assumes nothing.
-use Rattle.std.proofs.Common.{◌≡◌, ◌+◌, ◌-◌, ◌≤◌, length}
+use Rattle.std.proofs.Common.{◌≡◌, ◌+◌}
 use Rattle.lag_rows.specs.Tallies.{rows_to, Covered, Columns}
 use Rattle.lag_rows.proofs.inner.add_columns.Given as goal
 
 abbrev pub invariant-loop-i : goal.invariant-loop-i
-invariant-loop-i l = (l.i ≤ l.k) × (length l.rows ≡ 11) × (length l.columns ≡ length l.initial.columns) × (l.rows ≡ rows_to l.buckets (l.from + l.i) l.counts) × Covered l.buckets (l.from + l.i) l.joined l.counts × Columns l.buckets l.from l.i l.counts l.columns
-
-abbrev pub decreases-loop-i : goal.decreases-loop-i
-decreases-loop-i l = l.k - l.i
+invariant-loop-i l = (l.rows ≡ rows_to l.buckets (l.from + l.i) l.counts) × Covered l.buckets (l.from + l.i) l.joined l.counts × Columns l.buckets l.from l.i l.counts l.columns

@@ -1,11 +1,8 @@
 -- `lag_rows::inner::differing` meets its contract. Assumes nothing.
-use Rattle.std.proofs.Common.{◌≡◌, ◌-◌, ◌≤◌, eqb}
+use Rattle.std.proofs.Common.{◌≡◌, eqb}
 use Rattle.base.specs.Choice.{both}
 use Rattle.lag_rows.specs.Tallies.{alike}
 use Rattle.lag_rows.proofs.inner.differing.Given as goal
 
 abbrev pub invariant-loop-i : goal.invariant-loop-i
-invariant-loop-i l = (l.i ≤ l.k) × (eqb l.joined 0 ≡ both (eqb l.wrong 0) (alike l.from l.i l.columns l.sums))
-
-abbrev pub decreases-loop-i : goal.decreases-loop-i
-decreases-loop-i l = l.k - l.i
+invariant-loop-i l = eqb l.joined 0 ≡ both (eqb l.wrong 0) (alike l.from l.i l.columns l.sums)

@@ -6,7 +6,7 @@ use Rattle.rules_window.proofs.Reaching.{column_none, column_more, column_end}
 use Rattle.lag_rows.proofs.inner.long_column.Goals as goal
 
 pub loop-r-init : goal.loop-r-init
-loop-r-init c = (omega arith, search column_none, omega arith)
+loop-r-init c = (search column_none, omega arith)
 
 pub overflow_mul-r : goal.overflow_mul-r
 overflow_mul-r c = search (row_fits, rules)
@@ -21,7 +21,7 @@ pub bounds-counts-r : goal.bounds-counts-r
 bounds-counts-r c = search (flat_in, rules)
 
 pub loop-r-preserved : goal.loop-r-preserved
-loop-r-preserved c = (omega arith, search column_more, omega arith)
+loop-r-preserved c = (search column_more, omega arith)
 
 pub returns : goal.returns
 returns c = (search column_end, omega arith)

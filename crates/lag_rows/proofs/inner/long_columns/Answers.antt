@@ -4,13 +4,13 @@ use Rattle.rules_window.proofs.Checking.{columns_none, columns_more, columns_sto
 use Rattle.lag_rows.proofs.inner.long_columns.Goals as goal
 
 pub loop-b-init : goal.loop-b-init
-loop-b-init c = (omega arith, search columns_none)
+loop-b-init c = search columns_none
 
-pub returns-then-long_column-sums : goal.returns-then-long_column-sums
-returns-then-long_column-sums c = search columns_stop
+pub returns-then-long_column-sum : goal.returns-then-long_column-sum
+returns-then-long_column-sum c = columns_stop _ _ _ _ _ (omega arith) c.long_column.ensures.0 c.if-long_column-sum.true
 
 pub loop-b-preserved : goal.loop-b-preserved
-loop-b-preserved c = (omega arith, columns_more _ _ _ _ _ c.loop-b.invariant.1 c.long_column.ensures.0 c.if-long_column-sums.false)
+loop-b-preserved c = columns_more _ _ _ _ _ c.loop-b.invariant c.long_column.ensures.0 c.if-long_column-sum.false
 
 pub returns : goal.returns
-returns c = search columns_end
+returns c = columns_end _ _ _ _ c.loop-b.invariant (omega arith) (omega arith)

@@ -1,10 +1,7 @@
 -- `lag_rows::inner::long_columns` meets its contract. Assumes nothing.
-use Rattle.std.proofs.Common.{◌≡◌, ◌-◌, ◌≤◌, true}
+use Rattle.std.proofs.Common.{◌≡◌, true}
 use Rattle.rules_window.proofs.Checking.{columns_to}
 use Rattle.lag_rows.proofs.inner.long_columns.Given as goal
 
 abbrev pub invariant-loop-b : goal.invariant-loop-b
-invariant-loop-b l = (l.b ≤ l.buckets) × (columns_to l.buckets l.counts l.sums l.b ≡ true)
-
-abbrev pub decreases-loop-b : goal.decreases-loop-b
-decreases-loop-b l = l.buckets - l.b
+invariant-loop-b l = columns_to l.buckets l.counts l.sums l.b ≡ true

@@ -16,10 +16,10 @@ pub returns-in_default : goal.returns-in_default
 returns-in_default c = quantile_nowhere _ _ _ _ _ _ _ c.total_upto-total.ensures.value _ c.quantile_place-target.ensures _ c.reached.ensures c.if-total-eq0.false c.in_default.is
 
 pub overflow_add-b : goal.overflow_add-b
-overflow_add-b c = omega (arith, bucket_found _ _ _ _ _ _ _ c.total_upto-total.ensures.value _ c.quantile_place-target.ensures _ c.reached.ensures _ c.in-At.is)
+overflow_add-b c = omega (arith, bucket_found _ _ _ _ _ _ _ c.total_upto-total.ensures.value _ c.quantile_place-target.ensures _ c.reached.ensures _ c.in-Some.is)
 
 pub edge-requires : goal.edge-requires
-edge-requires c = omega (arith, bucket_found _ _ _ _ _ _ _ c.total_upto-total.ensures.value _ c.quantile_place-target.ensures _ c.reached.ensures _ c.in-At.is)
+edge-requires c = omega (arith, bucket_found _ _ _ _ _ _ _ c.total_upto-total.ensures.value _ c.quantile_place-target.ensures _ c.reached.ensures _ c.in-Some.is)
 
 pub returns : goal.returns
-returns c = quantile_end _ _ _ _ _ _ _ c.total_upto-total.ensures.value _ c.quantile_place-target.ensures _ c.reached.ensures c.if-total-eq0.false _ _ c.in-At.is c.edge.ensures
+returns c = quantile_end _ _ _ _ _ _ _ c.total_upto-total.ensures.value _ c.quantile_place-target.ensures _ c.reached.ensures c.if-total-eq0.false _ _ c.in-Some.is c.edge.ensures

@@ -3,8 +3,5 @@ use Rattle.std.proofs.Common.{◌≡◌, ◌-◌, ◌*◌, ◌<◌, ◌≤◌}
 use Rattle.rules_window.specs.Quantile.{running, reach}
 use Rattle.lag_rows.proofs.inner.reached.Given as goal
 
-abbrev pub invariant-loop-b : goal.invariant-loop-b
-invariant-loop-b l = (l.b ≤ l.m) × (l.b ≡ 64 * l.i) × (l.seen ≡ running l.limit l.width l.buckets 1 l.sums l.b) × (1 ≤ l.b → l.seen < l.target) × (reach l.target l.limit l.width l.buckets 1 l.sums l.buckets 0 ≡ reach l.target l.limit l.width l.buckets 1 l.sums (l.buckets - l.b) l.b)
-
-abbrev pub decreases-loop-b : goal.decreases-loop-b
-decreases-loop-b l = l.m - l.b
+abbrev pub invariant-loop-more : goal.invariant-loop-more
+invariant-loop-more l = (l.b ≡ 64 * l.more-index) × (l.seen ≡ running l.limit l.width l.buckets 1 l.sums l.b) × (1 ≤ l.b → l.seen < l.target) × (reach l.target l.limit l.width l.buckets 1 l.sums l.buckets 0 ≡ reach l.target l.limit l.width l.buckets 1 l.sums (l.buckets - l.b) l.b)

@@ -1,17 +1,17 @@
 -- `lag_rows::inner::take_rows` meets its contract. Assumes nothing.
-use Rattle.std.proofs.Common.{◌∙◌, arith, rules}
+use Rattle.std.proofs.Common.{◌∙◌, arith}
 use Rattle.rules_window.proofs.SumsKept.{less_none, less_more}
 use Rattle.lag_rows.proofs.Taken.{row_in_sums, less_end}
 use Rattle.lag_rows.proofs.inner.take_rows.Goals as goal
 
 pub loop-r-init : goal.loop-r-init
-loop-r-init c = (omega arith, omega arith, search less_none)
+loop-r-init c = search less_none
 
 pub take_row-requires : goal.take_row-requires
-take_row-requires c = record { r_bound = (omega arith, omega arith, omega arith); by_index = row_in_sums _ _ _ _ _ _ c.loop-r.invariant.2 c.loop-r-test.true c.requires.by_index }
+take_row-requires c = record { r_bound = (omega arith, omega arith, omega arith); by_index = row_in_sums _ _ _ _ _ _ c.loop-r.invariant c.loop-r-test.true c.requires.by_index }
 
 pub loop-r-preserved : goal.loop-r-preserved
-loop-r-preserved c = (omega arith, search rules, c.take_row.ensures ∙ less_more _ _ _ _ _ c.loop-r.invariant.2)
+loop-r-preserved c = c.take_row.ensures ∙ less_more _ _ _ _ _ c.loop-r.invariant
 
 pub returns : goal.returns
 returns c = search less_end

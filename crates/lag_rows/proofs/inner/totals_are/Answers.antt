@@ -4,13 +4,13 @@ use Rattle.lag_rows.proofs.Tallies.{totals_none, totals_more, totals_stop, total
 use Rattle.lag_rows.proofs.inner.totals_are.Goals as goal
 
 pub loop-i-init : goal.loop-i-init
-loop-i-init c = (omega arith, search totals_none)
+loop-i-init c = search totals_none
 
-pub returns-then-wide-totals : goal.returns-then-wide-totals
-returns-then-wide-totals c = search totals_stop
+pub returns-then-from-total : goal.returns-then-from-total
+returns-then-from-total c = totals_stop _ _ 11 _ _ (omega arith) c.from.ensures c.if-from-total.true
 
 pub loop-i-preserved : goal.loop-i-preserved
-loop-i-preserved c = (omega arith, search totals_more)
+loop-i-preserved c = search totals_more
 
 pub returns : goal.returns
-returns c = search totals_end
+returns c = totals_end _ _ 11 _ c.loop-i.invariant (omega arith) (omega arith)

@@ -1,12 +1,15 @@
 -- `lag_window::LagWindow::Clear` meets its contract. Assumes nothing.
+use Rattle.std.proofs.Common.{refl, rules}
+use Rattle.std.specs.Prelude.{◌≡◌, Err}
+use Rattle.refusals.proofs.Answers.{never_zero}
 use Rattle.rules_window.proofs.Numbers.{clear_asks, clear_refused, clear_made}
 use Rattle.lag_window.proofs.LagWindow.clear.Goals as goal
 
-pub returns-then-number-ne0 : goal.returns-then-number-ne0
-returns-then-number-ne0 c = clear_refused _ _ _ c.number-number.ensures c.if-number-ne0.true
+pub returns-in_err-check : goal.returns-in_err-check
+returns-in_err-check c = let e : c.from_residual.result ≡ Err c.in_err-check.field-0.0 = search rules in rw e (clear_refused _ _ _ c.in_err-check.ensures (never_zero _))
 
-pub emptied-window-requires : goal.emptied-window-requires
-emptied-window-requires c = let h = clear_asks _ _ _ c.number-number.ensures c.if-number-ne0.false in record { shaped = h.0; sums_len = h.1 }
+pub emptied-requires : goal.emptied-requires
+emptied-requires c = let h = clear_asks _ _ _ c.in_ok-check.ensures refl in record { shaped = h.0; sums_len = h.1 }
 
 pub returns : goal.returns
-returns c = clear_made _ _ _ _ _ c.number-number.ensures c.if-number-ne0.false c.emptied-window.ensures.counts_after c.emptied-window.ensures.sums_after
+returns c = clear_made _ _ _ _ _ c.in_ok-check.ensures refl c.emptied.ensures.counts_after c.emptied.ensures.sums_after

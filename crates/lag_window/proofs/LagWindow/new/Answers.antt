@@ -1,15 +1,18 @@
 -- `lag_window::LagWindow::new` meets its contract. Assumes nothing.
+use Rattle.std.proofs.Common.{refl, rules}
+use Rattle.std.specs.Prelude.{◌≡◌, Err}
+use Rattle.refusals.proofs.Answers.{never_zero}
 use Rattle.rules_window.proofs.Numbers.{new_settings, new_asks, new_refused, new_made}
 use Rattle.lag_window.proofs.LagWindow.new.Goals as goal
 
-pub returns-then-number-ne0 : goal.returns-then-number-ne0
-returns-then-number-ne0 c = new_refused _ _ _ _ _ _ _ _ c.new_number-number.ensures c.if-number-ne0.true
+pub returns-in_err-check_new : goal.returns-in_err-check_new
+returns-in_err-check_new c = let e : c.from_residual.result ≡ Err c.in_err-check_new.field-0.0 = search rules in rw e (new_refused _ _ _ _ _ _ _ _ c.in_err-check_new.ensures (never_zero _))
 
 pub buckets_of-buckets-requires : goal.buckets_of-buckets-requires
-buckets_of-buckets-requires c = new_settings _ _ _ _ _ _ _ _ c.new_number-number.ensures c.if-number-ne0.false
+buckets_of-buckets-requires c = new_settings _ _ _ _ _ _ _ _ c.in_ok-check_new.ensures refl
 
-pub emptied-window-requires : goal.emptied-window-requires
-emptied-window-requires c = let h = new_asks _ _ _ _ _ _ c.args.sums.now _ _ c.new_number-number.ensures c.if-number-ne0.false c.buckets_of-buckets.ensures in record { shaped = h.0; sums_len = h.1 }
+pub emptied-requires : goal.emptied-requires
+emptied-requires c = let h = new_asks _ _ _ _ _ _ c.args.sums.now _ _ c.in_ok-check_new.ensures refl c.buckets_of-buckets.ensures in record { shaped = h.0; sums_len = h.1 }
 
 pub returns : goal.returns
-returns c = new_made _ _ _ _ _ _ _ _ _ _ _ c.new_number-number.ensures c.if-number-ne0.false c.buckets_of-buckets.ensures c.emptied-window.ensures.counts_after c.emptied-window.ensures.sums_after
+returns c = new_made _ _ _ _ _ _ _ _ _ _ _ c.in_ok-check_new.ensures refl c.buckets_of-buckets.ensures c.emptied.ensures.counts_after c.emptied.ensures.sums_after

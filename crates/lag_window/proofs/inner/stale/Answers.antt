@@ -1,32 +1,13 @@
 -- `lag_window::inner::stale` meets its contract. Assumes nothing.
-use native.Mathlib.Omega.{arith}
-use Rattle.rules_window.proofs.Stales.{stales}
-use native.Mathlib.Nat.{zero-add, sub-zero}
+use Rattle.std.proofs.Common.{◌-◌, ◌<◌, ◌≤◌, take, rules}
+use borrow.Author.Tests.{tests}
+use Rattle.std.proofs.lemmas.Iterator.{IsFirst-from_position, YieldsList-from_slice}
+use Rattle.base.specs.Limits.{window_reach}
+use Rattle.rules_window.proofs.Stales.{stale_told}
 use Rattle.lag_window.proofs.inner.stale.Goals as goal
 
-pub loop-k-init : goal.loop-k-init
-loop-k-init c = (omega arith, rw (zero-add, sub-zero))
-
-pub offset_bounds-starts-k : goal.offset_bounds-starts-k
-offset_bounds-starts-k c = search stales
-
-pub bounds-starts-k : goal.bounds-starts-k
-bounds-starts-k c = search stales
-
-pub age-requires : goal.age-requires
-age-requires c = search stales
-
-pub returns-then-age-le-LAG_WINDOW : goal.returns-then-age-le-LAG_WINDOW
-returns-then-age-le-LAG_WINDOW c = search stales
-
-pub overflow_add-k : goal.overflow_add-k
-overflow_add-k c = search stales
-
-pub loop-k-smaller : goal.loop-k-smaller
-loop-k-smaller c = search stales
-
-pub loop-k-preserved : goal.loop-k-preserved
-loop-k-preserved c = search stales
-
 pub returns : goal.returns
-returns c = search stales
+returns c =
+    stale_told c.args.time c.args.n c.args.starts.now c.requires _
+    (IsFirst-from_position _ _ _ (λ x. c.args.time - x ≤ window_reach) (λ x. window_reach < c.args.time - x) c.position.ensures.ran (YieldsList-from_slice (take c.args.n c.args.starts.now) c.iter.ensures.rest) (λ x q k. search (rules, tests)) (λ x q k. search (rules, tests)))
+    c.unwrap_or.ensures

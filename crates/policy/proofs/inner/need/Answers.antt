@@ -23,18 +23,18 @@ total_is policy lag above share a e =
 
 pub round_half_away-share-requires : goal.round_half_away-share-requires
 round_half_away-share-requires c =
-    let l : c.less-above.result ≤ 2 ^ 32 = omega (arith, c.less-above.ensures) in
+    let l : c.saturating_sub-above.result ≤ 2 ^ 32 = omega (arith, c.saturating_sub-above.ensures) in
     let p = c.args.policy in
-    le_then_lt (mul binary64 (double c.less-above.result) p.margin_share) (share_le c.less-above.result p.margin_share l c.requires.low c.requires.high)
+    le_then_lt (mul binary64 (double c.saturating_sub-above.result) p.margin_share) (share_le c.saturating_sub-above.result p.margin_share l c.requires.low c.requires.high)
 
 pub overflow_add-sum-2 : goal.overflow_add-sum-2
 overflow_add-sum-2 c =
-    let l : c.less-above.result ≤ 2 ^ 32 = omega (arith, c.less-above.ensures) in
+    let l : c.saturating_sub-above.result ≤ 2 ^ 32 = omega (arith, c.saturating_sub-above.ensures) in
     omega (arith, called c.args.policy _ _ c.requires l c.round_half_away-share.ensures, l, c.requires.margins)
 
 -- the need by the sum that the code has
 pub returns-then-sum-most : goal.returns-then-sum-most
-returns-then-sum-most c = omega (arith, total_is c.args.policy c.args.lag _ _ c.less-above.ensures c.round_half_away-share.ensures)
+returns-then-sum-most c = omega (arith, total_is c.args.policy c.args.lag _ _ c.saturating_sub-above.ensures c.round_half_away-share.ensures)
 
 pub returns-else-sum-most : goal.returns-else-sum-most
-returns-else-sum-most c = omega (arith, total_is c.args.policy c.args.lag _ _ c.less-above.ensures c.round_half_away-share.ensures)
+returns-else-sum-most c = omega (arith, total_is c.args.policy c.args.lag _ _ c.saturating_sub-above.ensures c.round_half_away-share.ensures)

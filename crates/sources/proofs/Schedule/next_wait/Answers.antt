@@ -6,7 +6,7 @@ pub returns-in_default : goal.returns-in_default
 returns-in_default c = wait_first _ c.in_default.is
 
 pub returns-then-wait : goal.returns-then-wait
-returns-then-wait c = wait_longest _ _ _ c.in-Until.is c.if-wait.true
+returns-then-wait c = wait_longest _ _ _ c.in-Some.is c.if-wait.true
 
 pub returns : goal.returns
-returns c = wait_doubled _ _ _ c.in-Until.is c.if-wait.false
+returns c = wait_doubled _ _ _ c.in-Some.is c.if-wait.false

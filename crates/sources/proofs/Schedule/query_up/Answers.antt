@@ -9,8 +9,8 @@ returns-then-not-whole c = up_broken _ _ (told_no _ _ c.whole.ensures c.if-not-w
 pub returns-then-time-gt-TIME_LIMIT : goal.returns-then-time-gt-TIME_LIMIT
 returns-then-time-gt-TIME_LIMIT c = up_late _ _ (told_yes _ _ c.whole.ensures c.if-not-whole.false) c.if-time-gt-TIME_LIMIT.true
 
-pub returns-in-Never : goal.returns-in-Never
-returns-in-Never c = up_never _ _ (told_yes _ _ c.whole.ensures c.if-not-whole.false) c.if-time-gt-TIME_LIMIT.false c.in-Never.is
+pub returns-in-None : goal.returns-in-None
+returns-in-None c = up_never _ _ (told_yes _ _ c.whole.ensures c.if-not-whole.false) c.if-time-gt-TIME_LIMIT.false c.in-None.is
 
-pub returns-in-Until : goal.returns-in-Until
-returns-in-Until c = up_after _ _ (told_yes _ _ c.whole.ensures c.if-not-whole.false) c.if-time-gt-TIME_LIMIT.false _ _ c.in-Until.is
+pub returns-in-Some : goal.returns-in-Some
+returns-in-Some c = up_after _ _ (told_yes _ _ c.whole.ensures c.if-not-whole.false) c.if-time-gt-TIME_LIMIT.false _ _ c.in-Some.is

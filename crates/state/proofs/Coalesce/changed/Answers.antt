@@ -12,8 +12,8 @@ returns-then-not-whole c = changed_broken _ _ _ c.if-delay-gt-SPAN_LIMIT.false (
 pub returns-then-time-gt-TIME_LIMIT : goal.returns-then-time-gt-TIME_LIMIT
 returns-then-time-gt-TIME_LIMIT c = changed_late _ _ _ c.if-delay-gt-SPAN_LIMIT.false (told_yes _ _ c.whole.ensures c.if-not-whole.false) c.if-time-gt-TIME_LIMIT.true
 
-pub returns-in-Unset : goal.returns-in-Unset
-returns-in-Unset c = changed_sets _ _ _ c.if-delay-gt-SPAN_LIMIT.false (told_yes _ _ c.whole.ensures c.if-not-whole.false) c.if-time-gt-TIME_LIMIT.false c.in-Unset.is
+pub returns-in-None : goal.returns-in-None
+returns-in-None c = changed_sets _ _ _ c.if-delay-gt-SPAN_LIMIT.false (told_yes _ _ c.whole.ensures c.if-not-whole.false) c.if-time-gt-TIME_LIMIT.false c.in-None.is
 
-pub returns-in-At : goal.returns-in-At
-returns-in-At c = changed_keeps _ _ _ c.if-delay-gt-SPAN_LIMIT.false (told_yes _ _ c.whole.ensures c.if-not-whole.false) c.if-time-gt-TIME_LIMIT.false _ c.in-At.is
+pub returns-in-Some : goal.returns-in-Some
+returns-in-Some c = changed_keeps _ _ _ c.if-delay-gt-SPAN_LIMIT.false (told_yes _ _ c.whole.ensures c.if-not-whole.false) c.if-time-gt-TIME_LIMIT.false _ c.in-Some.is

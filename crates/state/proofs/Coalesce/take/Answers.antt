@@ -6,8 +6,8 @@ use Rattle.state.proofs.Coalesce.take.Goals as goal
 pub returns-then-not-whole : goal.returns-then-not-whole
 returns-then-not-whole c = take_broken _ (told_no _ _ c.whole.ensures c.if-not-whole.true)
 
-pub returns-in-Unset : goal.returns-in-Unset
-returns-in-Unset c = take_unset _ (told_yes _ _ c.whole.ensures c.if-not-whole.false) c.in-Unset.is
+pub returns-in-None : goal.returns-in-None
+returns-in-None c = take_unset _ (told_yes _ _ c.whole.ensures c.if-not-whole.false) c.in-None.is
 
-pub returns-in-At : goal.returns-in-At
-returns-in-At c = take_set _ (told_yes _ _ c.whole.ensures c.if-not-whole.false) _ c.in-At.is
+pub returns-in-Some : goal.returns-in-Some
+returns-in-Some c = take_set _ (told_yes _ _ c.whole.ensures c.if-not-whole.false) _ c.in-Some.is

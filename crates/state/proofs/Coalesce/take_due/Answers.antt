@@ -13,7 +13,7 @@ pub returns-in_default : goal.returns-in_default
 returns-in_default c = take_due_unset _ _ (told_yes _ _ c.whole.ensures c.if-not-whole.false) c.if-time-gt-TIME_LIMIT.false c.in_default.is
 
 pub returns-then-at-time : goal.returns-then-at-time
-returns-then-at-time c = take_due_yes _ _ (told_yes _ _ c.whole.ensures c.if-not-whole.false) c.if-time-gt-TIME_LIMIT.false _ c.in-At.is c.if-at-time.true
+returns-then-at-time c = take_due_yes _ _ (told_yes _ _ c.whole.ensures c.if-not-whole.false) c.if-time-gt-TIME_LIMIT.false _ c.in-Some.is c.if-at-time.true
 
 pub returns : goal.returns
-returns c = take_due_no _ _ (told_yes _ _ c.whole.ensures c.if-not-whole.false) c.if-time-gt-TIME_LIMIT.false _ c.in-At.is c.if-at-time.false
+returns c = take_due_no _ _ (told_yes _ _ c.whole.ensures c.if-not-whole.false) c.if-time-gt-TIME_LIMIT.false _ c.in-Some.is c.if-at-time.false

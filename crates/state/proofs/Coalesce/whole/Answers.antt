@@ -3,10 +3,10 @@ use mathlib.Core.Path.{sym, ap}
 use Rattle.state.specs.Coalesce.{whole_due, whole_coalesce}
 use Rattle.state.proofs.Coalesce.whole.Goals as goal
 
-pub returns-in-Unset : goal.returns-in-Unset
+pub returns-in-None : goal.returns-in-None
 unfolding whole_coalesce whole_due
-returns-in-Unset c = sym (ap whole_due c.in-Unset.is)
+returns-in-None c = sym (ap whole_due c.in-None.is)
 
-pub returns-in-At : goal.returns-in-At
+pub returns-in-Some : goal.returns-in-Some
 unfolding whole_coalesce whole_due
-returns-in-At c = sym (ap whole_due c.in-At.is)
+returns-in-Some c = sym (ap whole_due c.in-Some.is)

@@ -5,5 +5,5 @@ use Rattle.text_print.proofs.bits.is_nan.Goals as goal
 pub returns-then-bits-eq2047 : goal.returns-then-bits-eq2047
 returns-then-bits-eq2047 c = search nan_digits
 
-pub returns : goal.returns
-returns c = search nan_exponent
+pub returns-else-bits-eq2047 : goal.returns-else-bits-eq2047
+returns-else-bits-eq2047 c = search nan_exponent

@@ -6,7 +6,6 @@ use Rattle.text_requests.specs.Lists.{cells_after, cells_end}
 use Rattle.text_requests.proofs.lists.cells_end.Given as goal
 
 abbrev pub invariant-loop-i : goal.invariant-loop-i
-invariant-loop-i l = cells_after l.s l.buckets (length l.s - l.i) l.next ≡ cells_end l.s l.at l.buckets
-
-abbrev pub decreases-loop-i : goal.decreases-loop-i
-decreases-loop-i l = length l.s - l.i
+invariant-loop-i l =
+    (l.r.s.now ≡ l.fn.r.s.now)
+    × (cells_end l.fn.r.s.now l.fn.r.at l.buckets ≡ cells_after l.fn.r.s.now l.buckets (length l.fn.r.s.now - l._i) l.r.at)

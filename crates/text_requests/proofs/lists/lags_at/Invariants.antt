@@ -6,7 +6,6 @@ use Rattle.text_requests.specs.Lists.{lags_after, lags_at}
 use Rattle.text_requests.proofs.lists.lags_at.Given as goal
 
 abbrev pub invariant-loop-i : goal.invariant-loop-i
-invariant-loop-i l = (length l.heard ≡ l.n) × (lags_after l.s (l.n - l.i) l.next (take l.i l.heard) ≡ lags_at l.s l.at l.n)
-
-abbrev pub decreases-loop-i : goal.decreases-loop-i
-decreases-loop-i l = l.n - l.i
+invariant-loop-i l =
+    (l.r.s.now ≡ l.fn.r.s.now)
+    × (lags_at l.fn.r.s.now l.fn.r.at (length l.fn.heard) ≡ lags_after l.fn.r.s.now (length l.fn.heard - l.i) l.r.at (take l.i l.heard))

@@ -6,7 +6,6 @@ use Rattle.text_requests.specs.Lists.{rows_after, rows_at}
 use Rattle.text_requests.proofs.lists.rows_at.Given as goal
 
 abbrev pub invariant-loop-count : goal.invariant-loop-count
-invariant-loop-count l = rows_after l.s l.buckets (length l.s - l.count) l.next l.count ≡ rows_at l.s l.at l.buckets
-
-abbrev pub decreases-loop-count : goal.decreases-loop-count
-decreases-loop-count l = length l.s - l.count
+invariant-loop-count l =
+    (l.r.s.now ≡ l.fn.r.s.now)
+    × (rows_at l.fn.r.s.now l.fn.r.at l.buckets ≡ rows_after l.fn.r.s.now l.buckets (length l.fn.r.s.now - l.count) l.r.at l.count)

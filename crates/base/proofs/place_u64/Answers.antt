@@ -1,7 +1,0 @@
--- `base::place_u64` meets its contract. Assumes nothing.
-use mathlib.Core.Path.{sym}
-use Rattle.base.proofs.Points.{past_end}
-use Rattle.base.proofs.place_u64.Goals as goal
-
-pub returns-else-i-s : goal.returns-else-i-s
-returns-else-i-s c = sym (search past_end)

@@ -1,0 +1,2 @@
+-- The definitions that the contracts of the calls cite.
+pub mod Numbers

@@ -1,9 +1,0 @@
--- `text_lines::unfinished` meets its contract. Assumes nothing.
-use Rattle.text_lines.proofs.Looking.{unfinished_long, unfinished_short}
-use Rattle.text_lines.proofs.unfinished.Goals as goal
-
-pub returns-then-less_usize-gt-LONGEST : goal.returns-then-less_usize-gt-LONGEST
-returns-then-less_usize-gt-LONGEST c = search unfinished_long
-
-pub returns : goal.returns
-returns c = search unfinished_short

@@ -1,7 +1,0 @@
--- `text_read_alone::q_up` meets its contract. Assumes nothing.
-use Rattle.text_read_alone.specs.Alone.{q_up_line}
-use Rattle.text_read_alone.proofs.q_up.Goals as goal
-
-pub returns : goal.returns
-unfolding q_up_line
-returns c = rw (c.u64_word-time.ensures, c.word_end-name.ensures)

@@ -1,6 +1,0 @@
--- `text_shown::record::show_commands` ends: nothing has to hold from turn to turn. Assumes nothing.
-use Rattle.std.proofs.Common.{◌-◌}
-use Rattle.text_shown.proofs.record.show_commands.Given as goal
-
-abbrev pub decreases-loop-i : goal.decreases-loop-i
-decreases-loop-i g l = l.n - l.i

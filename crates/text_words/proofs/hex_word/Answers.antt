@@ -1,7 +1,0 @@
--- `text_words::hex_word` meets its contract. Assumes nothing.
-use Rattle.text_words.specs.Words.{word_of}
-use Rattle.text_words.proofs.Wording.{carried}
-use Rattle.text_words.proofs.hex_word.Goals as goal
-
-pub returns : goal.returns
-returns c = search (carried word_of)
