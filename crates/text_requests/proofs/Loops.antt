@@ -12,7 +12,7 @@ use Rattle.text_scan.specs.declared.Word.{Word}
 use Rattle.text_scan.specs.Scan.{word, has_byte, ends_at}
 use Rattle.text_words.specs.Words.{u32_at}
 use Rattle.text_requests.specs.Forms.{space, comma}
-use Rattle.text_requests.specs.Lists.{times, listed, Lags, lags_after, cell_at, cells_after, cells_end, row_at, rows_after}
+use Rattle.text_requests.specs.Lists.{times, listed, lags_after, cell_at, cells_after, cells_end, row_at, rows_after}
 
 left_suc : (n i : ℕ) → i < n → n - i ≡ suc (n - (i + 1))
 left_suc n i h = omega arith

@@ -220,13 +220,7 @@ fn put_half(flows: &mut [u8], i: usize, value: u64)
     requires { i * 8 + 8 ≤ length flows.old }
     ensures { HalfPut (i * 8) value flows.old flows.new }
 {
-    let mut rest = value;
-    let mut j: usize = 8;
-    while 0 < j {
-        j -= 1;
-        flows[i * 8 + j] = (rest % 256) as u8;
-        rest = rest / 256;
-    }
+    flows[i * 8..i * 8 + 8].copy_from_slice(&value.to_be_bytes());
 }
 
 // n loaded delays, at most 16,384, into lists that have room for so many.
