@@ -15,4 +15,4 @@ pub returns : goal.returns
 returns c =
     c.unwrap_or.ensures
     ∙ found_flow c.args.inputs c.well_formed.0.1.1.1.1.1.1.1.1.0.1.0.1 c.places-n.ensures c.args.flow
-      (position_from_yields_List (λ entry. (flow.eq-value).it entry.flow c.args.flow) _ _ _ c.position.ensures.ran (YieldsList-from_slice (take c.places-n.result c.args.inputs.flows) c.iter.ensures.rest) (λ x b q k. search (rules, tests)))
+    (position_from_yields_List (λ entry. (flow.eq-value).it entry.flow c.args.flow) _ _ _ c.position.ensures.ran (YieldsList-from_slice (take c.places-n.result c.args.inputs.flows) c.iter.ensures.rest) (λ x b q k. search (rules, tests)))
