@@ -1,6 +1,13 @@
 -- Sums of all rows and columns at once in 32 bits, as the loops go, and where they are the sums themselves. Assumes nothing.
 use Rattle.std.proofs.Common.{◌≡◌, ℕ, ◌+◌, ◌*◌, ◌%◌, ◌<◌, ◌≤◌, Bool, true, false, ◌&&◌, eqb, leb, List, [], length, get_or, set, replicate, sym, refl, ap, ◌∙◌, ⊎_elim, le_antisymm, eq-or-lt_of_le, add-one, arith, get_or-set_other, get_or-set_same, w64, Fits, eq-eqb, ne_eqb, le-leb}
 use borrow.Author.Tests.{lt-leb}
+use lib.ListN.{length-drop, get_or-append}
+use lib.Seq.{get_or-take, get_or-drop, drop-append_seam}
+use Rattle.std.proofs.Common.{Option, Some, None, Bor, ◌++◌, min, take, drop, zero-add}
+use Rattle.std.proofs.lemmas.List.{drop-drop}
+use Rattle.std.specs.Option.{MatchOption}
+use Rattle.std.specs.Slice.Iter.{chunks_rest, chunks_size}
+use Rattle.std.specs.declared.slice.Chunks.{Chunks}
 use lib.Bits.{bit_or, bit_xor}
 use Rattle.base.specs.Choice.{pick, both}
 use Rattle.base.specs.Limits.{buckets_limit}
@@ -152,6 +159,34 @@ module _ (from : ℕ) (xs us : List ℕ) where
 
   pub alike_end : (k i wrong bits : ℕ) → eqb bits 0 ≡ both (eqb wrong 0) (alike from i xs us) → i ≤ k → k ≤ i → eqb bits 0 ≡ both (eqb wrong 0) (alike from k xs us)
   alike_end k i wrong bits e l m = rw (← le_antisymm l m) e
+
+-- ---- the sums chunk by chunk: those from b on are this chunk and the ones after it
+abbrev pub Chunked : (s t : Chunks ℕ) (r : Option (Bor (List ℕ))) → Type 0
+Chunked s t r = (chunks_size t ≡ chunks_size s) × MatchOption r ((length (chunks_rest s) ≡ 0) × (t ≡ s)) (λ x. (chunks_rest s ≡ x.now ++ chunks_rest t) × (length x.now ≡ min (chunks_size s) (length (chunks_rest s))) × (0 < length (chunks_rest s)))
+
+module _ (s t : Chunks ℕ) {r : Option (Bor (List ℕ))} {b B : ℕ} (us : List ℕ) (from : chunks_rest s ≡ drop b us) (long : length us ≡ B) where
+  pub all_passed : r ≡ None → Chunked s t r → B ≤ b
+  all_passed is step = let none : length (chunks_rest s) ≡ 0 = (rw is at step.1).0 in omega (arith, ap length from, length-drop b us)
+
+  module _ {part : Bor (List ℕ)} (is : r ≡ Some part) (step : Chunked s t r) (low : b ≤ B) where
+    turn : (chunks_rest s ≡ part.now ++ chunks_rest t) × (length part.now ≡ min (chunks_size s) (length (chunks_rest s))) × (0 < length (chunks_rest s))
+    turn = rw is at step.1
+
+    pub chunk_in : b + length part.now ≤ B
+    chunk_in = omega (arith, turn.1, ap length from, length-drop b us)
+
+    pub chunk_few : length part.now ≤ chunks_size s
+    chunk_few = omega (arith, turn.1)
+
+    pub chunk_left : chunks_rest t ≡ drop (b + length part.now) us
+    chunk_left = sym (drop-append_seam part.now (chunks_rest t)) ∙ (ap (drop (length part.now)) (sym turn.0 ∙ from) ∙ drop-drop (length part.now) b us)
+
+    chunk_at : (i : ℕ) → i < length part.now → get_or part.now i 0 ≡ get_or us (b + i) 0
+    chunk_at i l = sym (get_or-append part.now (chunks_rest t) 0 i l) ∙ (ap (λ (y : List ℕ). get_or y i 0) (sym turn.0 ∙ from) ∙ get_or-drop b us i 0)
+
+    pub chunk_alike : (xs : List ℕ) → alike 0 (length part.now) (take (length part.now) xs) part.now ≡ alike b (length part.now) xs us
+    unfolding alike
+    chunk_alike xs = all_cong _ _ (length part.now) (λ i l. rw (zero-add i, chunk_at i l, get_or-take (length part.now) xs i 0 l))
 
 -- ---- blocks of columns
 module _ (B : ℕ) (cs : List ℕ) where

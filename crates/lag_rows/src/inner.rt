@@ -156,14 +156,14 @@ fn add_columns(
     joined
 }
 
-// The bits in which k columns differ from the sums, joined to those of the columns before.
-fn differing(columns: &[u32], from: usize, k: usize, wrong: u64, sums: &[u64]) -> u64
-    requires { (k ≤ length columns.now) × (from + k ≤ length sums.now) }
-    ensures { (result == 0) ≡ both (wrong == 0) (alike from k columns.now sums.now) }
+// The bits in which columns differ from their sums, joined to those of the columns before.
+fn differing(columns: &[u32], wrong: u64, sums: &[u64]) -> u64
+    requires { length columns.now ≡ length sums.now }
+    ensures { (result == 0) ≡ both (wrong == 0) (alike 0 (length sums.now) columns.now sums.now) }
 {
     let mut joined = wrong;
-    for (i, column) in columns[..k].iter().enumerate() {
-        joined |= sums[from + i] ^ u64::from(*column);
+    for (i, column) in columns.iter().enumerate() {
+        joined |= sums[i] ^ u64::from(*column);
     }
     joined
 }
@@ -199,11 +199,19 @@ fn sums_right(
     let mut bits: u32 = 0;
     let mut wrong: u64 = 0;
     let mut b = 0;
-    while b < buckets {
-        let k = BLOCK.min(buckets - b);
-        bits = add_columns(&mut rows, &mut columns, bits, places, buckets, b, k, counts);
-        wrong = differing(&columns, b, k, wrong, sums);
-        b += k;
+    for part in sums.chunks(BLOCK) {
+        bits = add_columns(
+            &mut rows,
+            &mut columns,
+            bits,
+            places,
+            buckets,
+            b,
+            part.len(),
+            counts,
+        );
+        wrong = differing(&columns[..part.len()], wrong, part);
+        b += part.len();
     }
     if bits < 1_048_576 {
         return wrong == 0 && totals_are(&rows, totals);

@@ -16,7 +16,12 @@ fn entry(i: usize, flows: &[u8], delays: &[u32]) -> Word {
         return Word::End;
     }
     let flow = flow_from(flows, at);
-    Word::Flow(flow.high, flow.low, b'=', delays.get(i).copied().unwrap_or(0) as u64)
+    Word::Flow(
+        flow.high,
+        flow.low,
+        b'=',
+        delays.get(i).copied().unwrap_or(0) as u64,
+    )
 }
 
 // The first n flows, each with its delay.

@@ -12,7 +12,12 @@ fn peak(i: usize, from: usize, times: &Times, lags: &Peaks) -> Word {
         return Word::Two(b' ', 0, b':', 0);
     }
     let at = from.saturating_add(i);
-    Word::Two(b' ', times.get(at).copied().unwrap_or(0), b':', lags.get(at).copied().unwrap_or(0) as u64)
+    Word::Two(
+        b' ',
+        times.get(at).copied().unwrap_or(0),
+        b':',
+        lags.get(at).copied().unwrap_or(0) as u64,
+    )
 }
 
 fn show_peaks<W: Write>(

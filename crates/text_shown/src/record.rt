@@ -4,7 +4,7 @@ use crate::{Part, holds, tables, windows, words};
 use delay_hold::DelayHold;
 use inputs_flows::flow_at;
 use lag_window::LagWindow;
-use rules_record::{Inputs, Slot, Route};
+use rules_record::{Inputs, Route, Slot};
 use std::io::Write;
 use text_lending::{Counts, Peaks, Seconds, Times, Words};
 use text_print::Out;

@@ -11,7 +11,12 @@ fn second(i: usize, from: usize, starts: &Seconds, totals: &Seconds) -> Word {
         return Word::Two(b' ', 0, b':', 0);
     }
     let at = from.saturating_add(i);
-    Word::Two(b' ', starts.get(at).copied().unwrap_or(0), b':', totals.get(at).copied().unwrap_or(0))
+    Word::Two(
+        b' ',
+        starts.get(at).copied().unwrap_or(0),
+        b':',
+        totals.get(at).copied().unwrap_or(0),
+    )
 }
 
 // Row i: past the rows that a window has there is nothing.
@@ -30,7 +35,10 @@ fn show_row<W: Write>(
     let mut next = place;
     let mut bucket: usize = 0;
     while bucket < buckets {
-        let count = counts.get(first.saturating_add(bucket)).copied().unwrap_or(0);
+        let count = counts
+            .get(first.saturating_add(bucket))
+            .copied()
+            .unwrap_or(0);
         if count != 0 {
             next = put_word(
                 writer,

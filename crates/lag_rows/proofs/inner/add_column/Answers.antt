@@ -1,13 +1,10 @@
 -- `lag_rows::inner::add_column` meets its contract. Assumes nothing.
-use Rattle.std.proofs.Common.{get_or, refl, ap, arith}
+use Rattle.std.proofs.Common.{get_or, refl, ap}
 use Rattle.lag_rows.proofs.Tallies.{sum_none, sum_next, sum_end, row_next, rows_end, passed_none, passed_next, passed_end}
 use Rattle.lag_rows.proofs.inner.add_column.Goals as goal
 
 pub loop-r-init : goal.loop-r-init
 loop-r-init c = (c.requires.rows_value, search sum_none, search passed_none)
-
-pub place-requires : goal.place-requires
-place-requires c = record { r_bound = (omega arith, omega arith, omega arith, omega arith); places_value = c.requires.places_len.1 }
 
 pub loop-r-preserved : goal.loop-r-preserved
 loop-r-preserved c =

@@ -5,4 +5,4 @@ use Rattle.lag_rows.specs.Tallies.{alike}
 use Rattle.lag_rows.proofs.inner.differing.Given as goal
 
 abbrev pub invariant-loop-i : goal.invariant-loop-i
-invariant-loop-i l = eqb l.joined 0 ≡ both (eqb l.wrong 0) (alike l.from l.i l.columns l.sums)
+invariant-loop-i l = eqb l.joined 0 ≡ both (eqb l.wrong 0) (alike 0 l.i l.columns l.sums)

@@ -1,18 +1,11 @@
 -- `lag_rows::inner::long_rows` meets its contract. Assumes nothing.
 use Rattle.std.proofs.Common.{arith}
-use Rattle.base.proofs.Flat.{row_fits, row_within}
-use Rattle.rules_window.proofs.Checking.{summed_none, summed_more, summed_stop_total, summed_stop_row, summed_end}
+use Rattle.rules_window.proofs.Checking.{summed_none, summed_more, summed_stop_total, summed_stop_row}
 use Rattle.lag_rows.proofs.inner.long_rows.Goals as goal
 use Rattle.lag_rows.proofs.inner.long_rows.Goals.{then-total-gt-MOST-via-then-total-gt-MOST, then-total-gt-MOST-via-else-total-gt-MOST+then-long_sum-total}
 
 pub loop-i-init : goal.loop-i-init
 loop-i-init c = search summed_none
-
-pub overflow_mul-i : goal.overflow_mul-i
-overflow_mul-i c = row_fits _ 11 _ _ (omega arith) (omega arith) c.requires.2 (omega arith)
-
-pub long_sum-requires : goal.long_sum-requires
-long_sum-requires c = (row_within _ 11 _ _ (omega arith) (omega arith) c.requires.2, omega arith)
 
 pub returns-then-total-gt-MOST : goal.returns-then-total-gt-MOST
 returns-then-total-gt-MOST c =
@@ -23,6 +16,3 @@ returns-then-total-gt-MOST c =
 
 pub loop-i-preserved : goal.loop-i-preserved
 loop-i-preserved c = summed_more _ _ _ _ _ c.loop-i.invariant c.if-total-gt-MOST.false c.long_sum.ensures.0 c.if-long_sum-total.false
-
-pub returns : goal.returns
-returns c = summed_end _ _ _ 11 _ c.loop-i.invariant (omega arith) (omega arith)

@@ -3,14 +3,8 @@ use Rattle.std.proofs.Common.{arith}
 use Rattle.rules_window.proofs.Reaching.{quantile_none, quantile_nowhere, quantile_end, bucket_found}
 use Rattle.lag_rows.proofs.inner.quantile_upto.Goals as goal
 
-pub total_upto-total-requires : goal.total_upto-total-requires
-total_upto-total-requires c = record { le_width = omega arith; buckets_bound = c.requires.placeable.few }
-
 pub returns-then-total-eq0 : goal.returns-then-total-eq0
 returns-then-total-eq0 c = quantile_none _ _ _ _ _ _ _ c.total_upto-total.ensures.value c.if-total-eq0.true
-
-pub reached-requires : goal.reached-requires
-reached-requires c = record { le_width = omega arith; buckets_bound = c.requires.placeable.few; blocks = c.total_upto-total.ensures.blocks }
 
 pub returns-in_default : goal.returns-in_default
 returns-in_default c = quantile_nowhere _ _ _ _ _ _ _ c.total_upto-total.ensures.value _ c.quantile_place-target.ensures _ c.reached.ensures c.if-total-eq0.false c.in_default.is

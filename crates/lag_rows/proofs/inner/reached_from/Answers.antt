@@ -3,9 +3,6 @@ use Rattle.std.proofs.Common.{refl, arith}
 use Rattle.rules_window.proofs.Reaching.{running_more, next_few, reach_more, reach_stop, reach_past}
 use Rattle.lag_rows.proofs.inner.reached_from.Goals as goal
 
-pub loop-b-init : goal.loop-b-init
-loop-b-init c = (c.requires.before_value, c.requires.from_bound.1, refl)
-
 pub overflow_add-seen : goal.overflow_add-seen
 overflow_add-seen c = omega (arith, next_few _ _ _ _ c.requires.le_width.0 _ c.shown-b-end.ensures _ c.requires.buckets_bound _ _ _ c.loop-b.invariant.0 refl c.loop-b-test.true)
 

