@@ -1,7 +1,6 @@
 -- Four quarters of a list, read side by side, and what is left: a test holds all over the list exactly where it holds in each part. Assumes nothing.
 use Rattle.std.proofs.Common.{◌≡◌, ℕ, ◌+◌, ◌-◌, ◌*◌, ◌<◌, ◌≤◌, min, Bool, true, false, ◌&&◌, List, length, take, drop, get_or, refl, sym, ap, ◌∙◌, arith}
 use Rattle.std.specs.List.{list_all}
-use Rattle.std.proofs.Math.Bool.{and_assoc}
 use native.Mathlib.Nat.{le_antisymm}
 use Rattle.std.proofs.lemmas.List.{take-append-drop, drop-drop}
 use Rattle.std.proofs.lemmas.List.Folds.{list_all-append, list_all_more}
@@ -58,9 +57,6 @@ module _ {A : Type 0} (test : A → Bool) (q : ℕ) (xs : List A) where
       alone : (b : Bool) → b ≡ (b && true)
       alone true = refl
       alone false = refl
-
-  pub left_more : (i : ℕ) (ys : List A) → i < length ys → {b c : Bool} {x : A} → x ≡ get_or ys i x → b ≡ (zero_to q && list_all test (take i ys)) → c ≡ (b && test x) → c ≡ (zero_to q && list_all test (take (i + 1) ys))
-  left_more i ys l {x = x} ex e f = rw (f, e, list_all_more test ys i x l, ← ex) (and_assoc (zero_to q) (list_all test (take i ys)) (test x))
 
   cut : (a b : ℕ) → b ≡ a + q → list_all test (drop a xs) ≡ (list_all test (take q (drop a xs)) && list_all test (drop b xs))
   cut a b e = ap (list_all test) (sym (take-append-drop q (drop a xs))) ∙ list_all-append test (take q (drop a xs)) (drop q (drop a xs)) ∙ ap (λ ys. list_all test (take q (drop a xs)) && list_all test ys) (drop-drop q a xs ∙ ap (λ n. drop n xs) (sym e))

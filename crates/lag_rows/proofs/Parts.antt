@@ -4,22 +4,13 @@ use Rattle.std.proofs.lemmas.List.Sums.{sum_by_more}
 use lib.ListN.{length-take, length-drop}
 use lib.Seq.{get_or-take, get_or-drop}
 use Rattle.base.specs.Lists.{sum_from}
-use Rattle.base.proofs.All.{from_none, from_more, from_end}
+use Rattle.base.proofs.All.{from_none, from_more}
 
 module _ (a n : ℕ) (xs : List ℕ) where
-  pub part_few : {i : ℕ} → i ≤ length (take (a + n - a) (drop a xs)) → i ≤ n
-  part_few l = omega (arith, length-take (a + n - a) (drop a xs))
-
-  part_length : a + n ≤ length xs → length (take (a + n - a) (drop a xs)) ≡ n
-  part_length h = simp (length-take, length-drop) (omega arith)
-
   pub part_more : (i s v : ℕ) → s ≡ sum_from a i xs → i < length (take (a + n - a) (drop a xs)) → v ≡ get_or (take (a + n - a) (drop a xs)) i 0 → s + v ≡ sum_from a (i + 1) xs
   part_more i s v e l h =
       let m : i < a + n - a = omega (arith, length-take (a + n - a) (drop a xs)) in
       from_more a xs i s v e (h ∙ (get_or-take (a + n - a) (drop a xs) i 0 m ∙ get_or-drop a xs i 0))
-
-  pub part_end : (i s : ℕ) → a + n ≤ length xs → s ≡ sum_from a i xs → length (take (a + n - a) (drop a xs)) ≤ i → i ≤ length (take (a + n - a) (drop a xs)) → s ≡ sum_from a n xs
-  part_end i s h e l m = from_end a xs n i s e (omega (arith, part_length h)) (omega (arith, part_length h))
 
 -- .. by the list's own sum
 pub part_sum : (a n k : ℕ) (xs : List ℕ) → k ≡ n → a + n ≤ length xs → sum (take k (drop a xs)) ≡ sum_from a n xs

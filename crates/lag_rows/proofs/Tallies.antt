@@ -1,5 +1,5 @@
 -- Sums of all rows and columns at once in 32 bits, as the loops go, and where they are the sums themselves. Assumes nothing.
-use Rattle.std.proofs.Common.{◌≡◌, ℕ, ◌+◌, ◌*◌, ◌%◌, ◌<◌, ◌≤◌, Bool, true, false, ◌&&◌, eqb, leb, List, [], length, get_or, set, replicate, sym, refl, ap, ◌∙◌, ⊎_elim, le_antisymm, eq-or-lt_of_le, add-one, arith, get_or-set_other, get_or-set_same, w64, Fits, eq-eqb, ne_eqb, le-leb}
+use Rattle.std.proofs.Common.{◌≡◌, ℕ, ◌+◌, ◌*◌, ◌%◌, ◌<◌, ◌≤◌, Bool, true, false, ◌&&◌, eqb, leb, List, [], length, get_or, set, replicate, sym, refl, ap, ◌∙◌, ⊎_elim, le_antisymm, eq-or-lt_of_le, add-one, arith, w64, Fits, eq-eqb, ne_eqb, le-leb}
 use borrow.Author.Tests.{lt-leb}
 use lib.ListN.{length-drop, get_or-append}
 use lib.Seq.{get_or-take, get_or-drop, drop-append_seam}
@@ -12,7 +12,7 @@ use lib.Bits.{bit_or, bit_xor}
 use Rattle.base.specs.Choice.{pick, both}
 use Rattle.base.specs.Limits.{buckets_limit}
 use Rattle.base.specs.Lists.{all, sum_from, row_sum, sum}
-use Rattle.base.proofs.All.{all_none, all_more, all_stop, all_end, from_none, from_more, or_zero, le_or, le_or_second, both_no, both_yes}
+use Rattle.base.proofs.All.{all_none, all_more, all_stop, from_none, from_more, or_zero, le_or, le_or_second, both_no, both_yes}
 use Rattle.base.proofs.Choices.{by_le}
 use Rattle.base.proofs.Differ.{xor_same}
 use Rattle.base.proofs.Flat.{flat_lt}
@@ -120,20 +120,8 @@ module _ (B from : ℕ) (cs : List ℕ) where
   pub rows_done : (k i : ℕ) (rows : List ℕ) → rows ≡ rows_to B (from + i) cs → i ≤ k → k ≤ i → rows ≡ rows_to B (from + k) cs
   rows_done k i rows e l m = rw (← le_antisymm l m) e
 
-  pub covered_done : (k i bits : ℕ) → Covered B (from + i) bits cs → i ≤ k → k ≤ i → Covered B (from + k) bits cs
-  covered_done k i bits h l m = rw (← le_antisymm l m) h
-
   pub columns_none : (xs : List ℕ) → Columns B from 0 cs xs
   columns_none xs = record { at = λ i l. absurd (omega arith) }
-
-  pub columns_next : (i v : ℕ) (xs : List ℕ) → Columns B from i cs xs → i < length xs → v ≡ column B (from + i) 11 cs % 4294967296 → Columns B from (i + 1) cs (set xs i v)
-  columns_next i v xs h l e =
-      record {
-        at = λ j k. ⊎_elim
-            (λ (z : j ≡ i). ap (λ (y : ℕ). get_or (set xs i v) y 0) z ∙ (get_or-set_same xs i v 0 l ∙ (e ∙ ap (λ (y : ℕ). column B (from + y) 11 cs % 4294967296) (sym z))))
-            (λ g. get_or-set_other xs i j v 0 (λ z. omega arith) ∙ h.at j g)
-            (eq-or-lt_of_le (omega arith));
-      }
 
   pub columns_end : (k i : ℕ) (xs : List ℕ) → Columns B from i cs xs → i ≤ k → k ≤ i → Columns B from k cs xs
   columns_end k i xs h l m = rw (← le_antisymm l m) h
@@ -157,9 +145,6 @@ module _ (from : ℕ) (xs us : List ℕ) where
       nested true false = refl
       nested false rest = refl
 
-  pub alike_end : (k i wrong bits : ℕ) → eqb bits 0 ≡ both (eqb wrong 0) (alike from i xs us) → i ≤ k → k ≤ i → eqb bits 0 ≡ both (eqb wrong 0) (alike from k xs us)
-  alike_end k i wrong bits e l m = rw (← le_antisymm l m) e
-
 -- ---- the sums chunk by chunk: those from b on are this chunk and the ones after it
 abbrev pub Chunked : (s t : Chunks ℕ) (r : Option (Bor (List ℕ))) → Type 0
 Chunked s t r = (chunks_size t ≡ chunks_size s) × MatchOption r ((length (chunks_rest s) ≡ 0) × (t ≡ s)) (λ x. (chunks_rest s ≡ x.now ++ chunks_rest t) × (length x.now ≡ min (chunks_size s) (length (chunks_rest s))) × (0 < length (chunks_rest s)))
@@ -174,9 +159,6 @@ module _ (s t : Chunks ℕ) {r : Option (Bor (List ℕ))} {b B : ℕ} (us : List
 
     pub chunk_in : b + length part.now ≤ B
     chunk_in = omega (arith, turn.1, ap length from, length-drop b us)
-
-    pub chunk_few : length part.now ≤ chunks_size s
-    chunk_few = omega (arith, turn.1)
 
     pub chunk_left : chunks_rest t ≡ drop (b + length part.now) us
     chunk_left = sym (drop-append_seam part.now (chunks_rest t)) ∙ (ap (drop (length part.now)) (sym turn.0 ∙ from) ∙ drop-drop (length part.now) b us)
@@ -222,10 +204,6 @@ module _ (rows ts : List ℕ) where
   pub totals_stop : (m i v : ℕ) → i < m → v ≡ get_or rows i 0 → (v ≡ get_or ts i 0 → ⊥) → false ≡ totals_are m rows ts
   unfolding totals_are
   totals_stop m i v l e q = all_stop _ m i l (ne_eqb _ _ (λ z. q (e ∙ z)))
-
-  pub totals_end : (m i : ℕ) → totals_are i rows ts ≡ true → i ≤ m → m ≤ i → true ≡ totals_are m rows ts
-  unfolding totals_are
-  totals_end m i h l k = all_end _ m i h l k
 
 -- ---- counts below 2^20: nothing wrapped
 module _ (B : ℕ) (ts cs us rows : List ℕ) (b bits : ℕ) (few : B ≤ buckets_limit) (l : b ≤ B) (m : B ≤ b) (small : bits < 1048576) (covered : Covered B b bits cs) (er : rows ≡ rows_to B b cs) where

@@ -3,11 +3,11 @@ use Rattle.std.specs.Prelude.{◌≡◌, ℕ, ◌+◌, ◌-◌, ◌*◌, ◌^◌
 use mathlib.Core.Path.{sym, ap, ◌∙◌}
 use native.Mathlib.Omega.{arith}
 use native.Mathlib.Nat.{sub-zero, zero-mul}
-use mir.Syntax.{w32, w64}
+use mir.Syntax.{w64}
 use mir.Val.{Fits}
 use Rattle.base.specs.Lists.{shifted, bumped}
 use Rattle.base.specs.Limits.{buckets_limit}
-use Rattle.base.proofs.Flat.{row_le, flat_lt}
+use Rattle.base.proofs.Flat.{row_le}
 use Rattle.base.proofs.Toward.{shifted_zero}
 use Rattle.lag_window.specs.declared.LagWindow.{LagWindow}
 use Rattle.rules_window.specs.Window.{stale, opens, bucket_of, counted}
@@ -17,7 +17,7 @@ use Rattle.rules_window.specs.ColumnSums.{column_sums}
 use Rattle.rules_window.specs.InPlace.{less_rows, dropped_in_place, opened_in_place}
 use Rattle.rules_window.specs.Checks.{newest_of}
 use Rattle.rules_window.proofs.ColumnSums.{sums_length}
-use Rattle.rules_window.proofs.Stales.{stale_le, opens_used}
+use Rattle.rules_window.proofs.Stales.{stale_le}
 use Rattle.rules_window.proofs.SumsKept.{dropped_sums, rows_in_sums}
 
 -- ---- old seconds go: k of them
@@ -66,18 +66,6 @@ opened_no w time s r e h t c = rw (← e, h)
 pub place_fits : (r B : ℕ) → r < 11 → B ≤ buckets_limit → Fits w64 (r * B)
 place_fits r B h k = omega (arith, row_le r 11 B (omega arith))
 
-pub place_add_fits : (r B b : ℕ) → r < 11 → B ≤ buckets_limit → b < B → Fits w64 (r * B + b)
-place_add_fits r B b h k l = omega (arith, flat_lt r 11 B b h l)
-
-pub place_lt : (r B b : ℕ) → r < 11 → b < B → r * B + b < 11 * B
-place_lt r B b h l = flat_lt r 11 B b h l
-
-pub count_fits : (xs : List ℕ) (r B b q p : ℕ) → p ≡ r * B + b → b ≡ q → get_or xs (r * B + q) 0 < 4294967295 → Fits w32 (get_or xs p 0 + 1)
-count_fits xs r B b q p e f h = let l : get_or xs p 0 < 4294967295 = rw (e, f) h in omega arith
-
-pub sum_fits : (xs : List ℕ) (b q : ℕ) → b ≡ q → get_or xs q 0 ≤ 47244640245 → Fits w64 (get_or xs b 0 + 1)
-sum_fits xs b q e h = let l : get_or xs b 0 ≤ 47244640245 = rw e h in omega arith
-
 pub counted_by : (w : LagWindow) (lag b p : ℕ) (t c : List ℕ) → b ≡ bucket_of lag w.width w.buckets → p ≡ (w.seconds - 1) * w.buckets + b → (s : List ℕ) → lent w s (set t (w.seconds - 1) (get_or t (w.seconds - 1) 0 + 1)) (set c p (get_or c p 0 + 1)) ≡ counted lag (lent w s t c)
 unfolding counted
 counted_by w lag b p t c f e s = rw (e, f)
@@ -86,12 +74,6 @@ pub summed_by : (b q : ℕ) (us : List ℕ) → b ≡ q → set us b (get_or us 
 summed_by b q us e = rw e
 
 -- ---- the newest total
-
-pub newest_used : (t n : ℕ) (xs : List ℕ) (r : Bool) → r ≡ opens t n xs → r ≡ false → 1 ≤ n
-newest_used t n xs r e h = opens_used t n xs (sym e ∙ h)
-
-pub newest_in : (t n : ℕ) (xs ts : List ℕ) (r : Bool) → r ≡ opens t n xs → r ≡ false → n ≤ length ts → n - 1 < length ts
-newest_in t n xs ts r e h l = omega (arith, opens_used t n xs (sym e ∙ h))
 
 pub newest_opens : (t n : ℕ) (xs ts : List ℕ) (r : Bool) → r ≡ opens t n xs → r ≡ true → 0 ≡ newest_of t n xs ts
 unfolding newest_of

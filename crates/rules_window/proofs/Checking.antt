@@ -37,10 +37,6 @@ module _ (B : ℕ) (ts cs : List ℕ) where
   unfolding summed both
   summed_stop_row m i s k l e q = all_stop _ m i k (simp (le-leb _ _ l, ne_eqb _ _ (λ (z : row_sum B cs i ≡ get_or ts i 0). q (e ∙ z))))
 
-  pub summed_end : (m i : ℕ) → summed i B ts cs ≡ true → i ≤ m → m ≤ i → true ≡ summed m B ts cs
-  unfolding summed
-  summed_end m i h k l = all_end _ m i h k l
-
 -- ---- a column's sum v, and its place in the row of sums
 module _ (B : ℕ) (cs us : List ℕ) where
   -- the first b columns have their sums

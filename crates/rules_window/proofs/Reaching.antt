@@ -13,7 +13,7 @@ use lib.ListN.{get_or}
 use Rattle.base.specs.Choice.{pick}
 use Rattle.base.specs.Lists.{sum, sum_from}
 use Rattle.base.proofs.Choices.{by_le, no_pick, yes_pick}
-use Rattle.base.proofs.All.{sum_none, sum_more, sum_end}
+use Rattle.base.proofs.All.{sum_none, sum_more}
 use Rattle.base.proofs.Points.{sum_cong}
 use Rattle.doubles.specs.Quantile as places
 use Rattle.rules_window.specs.declared.Quantile.TheVariants.{End, None as no_quantile}
@@ -30,10 +30,6 @@ module _ (B b : ℕ) (cs : List ℕ) where
   pub column_more : (i s v : ℕ) → s ≡ column B b i cs → v ≡ get_or cs (i * B + b) 0 → s + v ≡ column B b (i + 1) cs
   unfolding column
   column_more i s v e h = sum_more _ i s v e h
-
-  pub column_end : (n i s : ℕ) → s ≡ column B b i cs → i ≤ n → n ≤ i → s ≡ column B b n cs
-  unfolding column
-  column_end n i s e h l = sum_end _ n i s e h l
 
 pub running_none : (limit W B n : ℕ) (cs : List ℕ) → 0 ≡ running limit W B n cs 0
 unfolding running
