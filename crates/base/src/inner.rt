@@ -1,8 +1,8 @@
-// The first n times of a lent list. These functions ask that there are so many.
+// The first n times of a lent list. These functions ask that there are so many. A list and n, and not its part: check 6 of a window and of a hold speaks so of the lent list.
 ghost use Rattle.std.specs.Prelude.{◌≡◌, ◌-◌, ◌≤◌, length};
 ghost use Rattle.base.specs.Rows.{apart, span_of};
 
-// Each of the n times is at least gap after the one before.
+// Each of the n times is at least gap after the one before. A loop: a closure would have to be told that a pair holds two times.
 pub fn spaced(gap: u64, n: usize, times: &[u64]) -> bool
     requires { n ≤ length times.now }
     ensures { result ≡ apart gap (n - 1) times.now }
@@ -20,9 +20,8 @@ pub fn span(n: usize, times: &[u64]) -> u64
     requires { n ≤ length times.now }
     ensures { result ≡ span_of n times.now }
 {
-    let used = &times[..n];
-    let (Some(oldest), Some(newest)) = (used.first(), used.last()) else {
-        return 0;
-    };
-    newest.saturating_sub(*oldest)
+    match &times[..n] {
+        [oldest, .., newest] => newest.saturating_sub(*oldest),
+        _ => 0,
+    }
 }

@@ -1,4 +1,5 @@
 // The numbers that bytes from a place on make. They ask that so many bytes are there.
+// Std converts arrays: each use would cut its array out of the list first, and say again which number of the rules that makes.
 ghost use Rattle.std.specs.Prelude.{◌≡◌, ◌+◌, ◌≤◌, length};
 ghost use Rattle.byte_order.specs.Bytes.{bytes_at, little_at};
 

@@ -7,7 +7,7 @@ use sources::{Down, Schedule};
 use state::{Coalesce, Taken};
 use std::{fmt, io};
 
-// `-` where there is none.
+// `-` where there is none. It stands in clock_examples and in hold_examples: they share no crate that shows anything, and one for this alone is no plainer.
 #[derive(Clone, Copy)]
 struct OrNone<T>(Option<T>);
 

@@ -20,12 +20,9 @@ use Rattle.delay_hold.proofs.Bounds.{capped_second}
 use Rattle.delay_hold.proofs.Survivors.{newest_survives, newest_some}
 use Rattle.delay_hold.proofs.Outcomes.{Outcome, raises, quits, waits, lowers, decided_rule, late_rule}
 
-met_highest : (on : Bool) (since highest need time : ℕ) → need ≤ (timer_met (record { on = on; since = since; highest = highest }) need time).highest
-met_highest true since highest need time = omega arith
-met_highest false since highest need time = omega arith
-
-pub highest_met : (timer : LowerTimer) (need time : ℕ) → need ≤ (timer_met timer need time).highest
-highest_met timer need time = met_highest timer.on timer.since timer.highest need time
+pub highest_met : (timer : Option LowerTimer) (need time : ℕ) → need ≤ (timer_met timer need time).highest
+highest_met None need time = omega arith
+highest_met (Some timer) need time = omega arith
 
 -- ---- each of the four outcomes covers a lag that the need covers, or the delay before where nothing pressed
 module _ (offset lag : ℕ) (millisecond : ℕ) (may_lower : Bool) (h : DelayHold) (need : ℕ) (urgent : Bool) (current hold time : ℕ) (reach : lag ≤ offset + need) (calm : urgent ≡ false → lag ≤ offset + current) where

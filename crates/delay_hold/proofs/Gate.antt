@@ -11,7 +11,7 @@ use Rattle.buckets.proofs.Told.{reaches_yes, ranges_told}
 use Rattle.policy.specs.declared.DelayPolicy.{DelayPolicy}
 use Rattle.policy.specs.Settings.{Sound}
 use Rattle.policy.proofs.Checks.{allowed_sound, allowed_times}
-use Rattle.delay_hold.specs.Checks.{Kept, Changed, Refused}
+use Rattle.delay_hold.specs.Checks.{Refused}
 use Rattle.delay_hold.specs.declared.DelayHold.{DelayHold}
 use Rattle.delay_hold.specs.declared.Next.{Next}
 use Rattle.delay_hold.specs.Step4Peaks.{most_peaks}

@@ -1,12 +1,11 @@
 -- `next` leaves a whole hold whole, and its answer is at most the maximum. Assumes nothing.
 -- a change, if it is one, is to at most the maximum
-use Rattle.std.specs.Prelude.{◌≡◌, ℕ, zero, suc, ◌+◌, ◌-◌, ◌<◌, ◌≤◌, max, Bool, true, false, List, length, get_or, None, Option, Some}
+use Rattle.std.specs.Prelude.{◌≡◌, ℕ, zero, suc, ◌+◌, ◌-◌, ◌<◌, ◌≤◌, Bool, true, List, length, get_or, None, Option, Some}
 use mathlib.Core.Path.{refl, sym, subst, ◌∙◌}
 use native.Mathlib.Omega.{arith}
 use borrow.Author.Tests.{leb-true, le-leb}
 use lib.Seq.{get_or-take}
 use Rattle.base.specs.Limits.{nanos, span_limit, time_limit}
-use Rattle.base.specs.Choice.{both}
 use Rattle.base.specs.Lists.{padded, blank_from}
 use Rattle.base.proofs.Choices.{le_rule}
 use Rattle.base.proofs.Points.{blank_intro, past_end}
@@ -23,7 +22,7 @@ use Rattle.delay_hold.specs.Step4InPlace.{Placed}
 use Rattle.delay_hold.specs.Steps5To8.{timer_met, need_for, decide}
 use Rattle.delay_hold.specs.Next.{Held, held, times_in, lags_in, window_now, times_now, lags_now, hold_before, decision, next_of, delay_after, one_millisecond, always_lower}
 use Rattle.base.specs.Rows.{span_of}
-use Rattle.delay_hold.specs.Whole.{peak_most, moment_timely, seed_fits, seed_timely, timer_fits, whole_hold}
+use Rattle.delay_hold.specs.Whole.{peak_most, moment_timely, seed_fits, seed_timely, timer_fits, timer_timely, whole_hold}
 use Rattle.delay_hold.specs.Checks.{lag_up_to, AskedFor, next_number, next_reply}
 use Rattle.delay_hold.proofs.Order.{after_in, after_same}
 use Rattle.delay_hold.proofs.Bounds.{larger_up, within_up, up_more, capped_le, capped_second}
@@ -41,30 +40,13 @@ delay_fits maximum current None h f = h
 delay_fits maximum current (Some d) h f = f
 
 -- ---- the timer
-met_fits_at : (on : Bool) (since highest need time maximum : ℕ) → need ≤ maximum → timer_fits (record { on = on; since = since; highest = highest }) maximum ≡ true
-    → timer_fits (timer_met (record { on = on; since = since; highest = highest }) need time) maximum ≡ true
-unfolding timer_fits
-met_fits_at true since highest need time maximum h f = le-leb (max highest need) maximum (omega (arith, leb-true highest maximum f))
-met_fits_at false since highest need time maximum h f = le-leb _ _ h
+met_fits : (timer : Option LowerTimer) (need time maximum : ℕ) → need ≤ maximum → timer_fits timer maximum ≡ true → (timer_met timer need time).highest ≤ maximum
+met_fits None need time maximum h f = h
+met_fits (Some timer) need time maximum h f = omega (arith, leb-true timer.highest maximum f)
 
-met_fits : (timer : LowerTimer) (need time maximum : ℕ) → need ≤ maximum → timer_fits timer maximum ≡ true → timer_fits (timer_met timer need time) maximum ≡ true
-met_fits timer need time maximum h f = met_fits_at timer.on timer.since timer.highest need time maximum h f
-
-highest_fits_at : (on : Bool) (since highest need time maximum : ℕ) → need ≤ maximum → timer_fits (record { on = on; since = since; highest = highest }) maximum ≡ true
-    → (timer_met (record { on = on; since = since; highest = highest }) need time).highest ≤ maximum
-unfolding timer_fits
-highest_fits_at true since highest need time maximum h f = omega (arith, leb-true highest maximum f)
-highest_fits_at false since highest need time maximum h f = h
-
-highest_fits : (timer : LowerTimer) (need time maximum : ℕ) → need ≤ maximum → timer_fits timer maximum ≡ true → (timer_met timer need time).highest ≤ maximum
-highest_fits timer need time maximum h f = highest_fits_at timer.on timer.since timer.highest need time maximum h f
-
-met_since : (on : Bool) (since highest need time bound : ℕ) → since ≤ bound → time ≤ bound → (timer_met (record { on = on; since = since; highest = highest }) need time).since ≤ bound
-met_since true since highest need time bound h f = h
-met_since false since highest need time bound h f = f
-
-pub since_met : (timer : LowerTimer) (need time bound : ℕ) → timer.since ≤ bound → time ≤ bound → (timer_met timer need time).since ≤ bound
-since_met timer need time bound h f = met_since timer.on timer.since timer.highest need time bound h f
+met_timely : (timer : Option LowerTimer) (need time : ℕ) → time ≤ time_limit → timer_timely timer ≡ true → timer_timely (Some (timer_met timer need time)) ≡ true
+met_timely None need time h f = le-leb _ _ h
+met_timely (Some timer) need time h f = f
 
 -- ---- the seed and the start
 left_fits : (seed : Option Seed) (hold time maximum : ℕ) → seed_fits seed maximum ≡ true → seed_fits (seed_left seed hold time) maximum ≡ true
@@ -100,29 +82,28 @@ module _ (policy : DelayPolicy) (time : ℕ) (soon : time ≤ time_limit) where
     pub change_fits : ChangeFits policy.delay_max r.change
 
   module _ (millisecond : ℕ) (may_lower : Bool) (h : DelayHold) (w : WholeTimes policy h) (current hold : ℕ) where
-    off_whole : (r : Next) → moment_timely r.hold.last_change ≡ true → r.hold.lower.since ≡ 0 → timer_fits r.hold.lower policy.delay_max ≡ true → r.hold.seeded ≡ h.seeded → r.hold.started ≡ h.started → WholeTimes policy r.hold
-    off_whole r last since timer seed start =
+    off_whole : (r : Next) → moment_timely r.hold.last_change ≡ true → r.hold.lower ≡ None → r.hold.seeded ≡ h.seeded → r.hold.started ≡ h.started → WholeTimes policy r.hold
+    off_whole r last timer seed start =
         record {
           seed = rw seed w.seed;
-          timer = timer;
+          timer = rw timer;
           last = last;
-          since = omega arith;
+          since = rw timer;
           start = rw start w.start;
           seed_time = rw seed w.seed_time;
         }
 
     outcome_fine : (need : ℕ) (urgent : Bool) → need ≤ policy.delay_max → (r : Next) → Outcome millisecond may_lower h need urgent current hold time r → Fine h r
-    unfolding timer_fits both
-    outcome_fine need urgent n r (raises l u) = record { whole = off_whole r (le-leb _ _ soon) refl refl refl refl; peaks_same = refl; change_fits = n }
-    outcome_fine need urgent n r (quits l c) = record { whole = off_whole r w.last refl refl refl refl; peaks_same = refl; change_fits = tt }
+    outcome_fine need urgent n r (raises l u) = record { whole = off_whole r (le-leb _ _ soon) refl refl refl; peaks_same = refl; change_fits = n }
+    outcome_fine need urgent n r (quits l c) = record { whole = off_whole r w.last refl refl refl; peaks_same = refl; change_fits = tt }
     outcome_fine need urgent n r (waits l c d) =
         record {
           whole =
               record {
                 seed = w.seed;
-                timer = met_fits h.lower need time policy.delay_max n w.timer;
+                timer = le-leb _ _ (met_fits h.lower need time policy.delay_max n w.timer);
                 last = w.last;
-                since = since_met h.lower need time time_limit w.since soon;
+                since = met_timely h.lower need time soon w.since;
                 start = w.start;
                 seed_time = w.seed_time;
               };
@@ -130,7 +111,7 @@ module _ (policy : DelayPolicy) (time : ℕ) (soon : time ≤ time_limit) where
           change_fits = tt;
         }
     outcome_fine need urgent n r (lowers l c a b) =
-        record { whole = off_whole r (le-leb _ _ soon) refl refl refl refl; peaks_same = refl; change_fits = highest_fits h.lower need time policy.delay_max n w.timer }
+        record { whole = off_whole r (le-leb _ _ soon) refl refl refl; peaks_same = refl; change_fits = met_fits h.lower need time policy.delay_max n w.timer }
 
     need_fits : (worst : ℕ) → need_for policy h.seeded worst ≤ policy.delay_max
     need_fits worst = omega (arith, need_at_most policy worst, seed_floor h.seeded policy.delay_max w.seed)
@@ -166,9 +147,6 @@ module _ {policy : DelayPolicy} {width : ℕ} {s : Held} (w : WholePeaks policy 
   few : length T ≤ most_peaks
   few = after_in s.hold.peaks s.times s.lags window time placed joined
 
-  spaced : (i : ℕ) → i + 1 < length (times_in s) → get_or (times_in s) i 0 + nanos ≤ get_or (times_in s) (i + 1) 0
-  spaced = spaced_in_use w times_long lags_long
-
   span : span_of (length (times_in s)) (times_in s) < policy.window
   span = by_count s.hold.peaks times_in_use w.span
     where
@@ -202,7 +180,7 @@ module _ {policy : DelayPolicy} {width : ℕ} {s : Held} (w : WholePeaks policy 
   peaks_whole h e =
       record {
         count = omega (arith, few);
-        spaced = λ i l. rw (get_or_padded most_peaks T i, get_or_padded most_peaks T (i + 1)) (omega (arith, after_spaced (times_in s) spaced joined window time i (omega arith)));
+        spaced = λ i l. rw (get_or_padded most_peaks T i, get_or_padded most_peaks T (i + 1)) (omega (arith, after_spaced (times_in s) (spaced_in_use w times_long lags_long) joined window time i (omega arith)));
         span = by_count (length T) e;
         times_blank = blank T h.peaks (sym e);
         lags_blank = blank L h.peaks (same ∙ sym e);
@@ -215,7 +193,7 @@ module _ {policy : DelayPolicy} {width : ℕ} {s : Held} (w : WholePeaks policy 
       by_count (suc n) q =
           rw q
           (rw (get_or_padded most_peaks T n, get_or_padded most_peaks T 0)
-          (after_span (times_in s) spaced joined window time policy.window window-in span n (omega arith)))
+          (after_span (times_in s) (spaced_in_use w times_long lags_long) joined window time policy.window window-in span n (omega arith)))
 
 -- ---- the whole of next
 module _ (millisecond : ℕ) (may_lower : Bool) (width : ℕ) (policy : DelayPolicy) (s : Held) (p999 largest : Option ℕ) (current time : ℕ) (a : AskedFor width policy s p999 current) (soon : time ≤ time_limit) where

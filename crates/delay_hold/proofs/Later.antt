@@ -10,11 +10,12 @@ use Rattle.base.proofs.Choices.{le_rule}
 use Rattle.base.proofs.Pads.{get_or_padded}
 use Rattle.policy.specs.declared.DelayPolicy.{DelayPolicy}
 use Rattle.delay_hold.specs.declared.Seed.{Seed}
+use Rattle.delay_hold.specs.declared.LowerTimer.{LowerTimer}
 use Rattle.delay_hold.specs.declared.DelayHold.{DelayHold}
 use Rattle.delay_hold.specs.declared.Next.{Next}
 use Rattle.delay_hold.specs.Steps1To3.{in_startup, seed_left, lag_of, late_of, noted}
 use Rattle.delay_hold.specs.Step4Peaks.{larger_lag, worst_of, most_peaks}
-use Rattle.delay_hold.specs.Steps5To8.{floor_of, need_for, urgent_at}
+use Rattle.delay_hold.specs.Steps5To8.{timer_met, floor_of, need_for, urgent_at}
 use Rattle.delay_hold.specs.Next.{Held, times_in, lags_in, hold_now, window_now, times_now, lags_now, hold_before, next_of}
 use Rattle.delay_hold.specs.Checks.{lag_up_to}
 use Rattle.delay_hold.proofs.Order.{after_same}
@@ -22,11 +23,14 @@ use Rattle.delay_hold.proofs.Bounds.{greatest_up, worst_up, capped_le}
 use Rattle.delay_hold.proofs.Survivors.{after_rule, after_young}
 use Rattle.delay_hold.proofs.Outcomes.{Till, AtMost, Outcome, raises, quits, waits, lowers, decided_rule, low_rule}
 use Rattle.delay_hold.proofs.Wholes.{WholePeaks, in_use, spaced_in_use}
-use Rattle.delay_hold.proofs.Keeps.{since_met}
 
 abbrev pub SeedTill : ℕ → Option Seed → Type 0
 SeedTill t None = Unit {0}
 SeedTill t (Some seed) = seed.since ≤ t
+
+abbrev pub TimerTill : ℕ → Option LowerTimer → Type 0
+TimerTill t None = Unit {0}
+TimerTill t (Some timer) = timer.since ≤ t
 
 -- a property of the peaks in use: their times and lags
 abbrev pub Each : (ℕ → ℕ → Type 0) → Held → Type 0
@@ -35,12 +39,21 @@ Each P s = (i : ℕ) → i < s.hold.peaks → P (get_or s.times i 0) (get_or s.l
 pub record HoldTill (t : ℕ) (s : Held) : Type 0 where
   pub peaks : Each (λ at _. at ≤ t) s
   pub last : Till t s.hold.last_change
-  pub since : s.hold.lower.since ≤ t
+  pub since : TimerTill t s.hold.lower
   pub seed : SeedTill t s.hold.seeded
 
 pub till_later : (t u : ℕ) (m : Option ℕ) → t ≤ u → Till t m → Till u m
 till_later t u None h k = tt
 till_later t u (Some s) h k = omega arith
+
+timer_later : (t u : ℕ) (timer : Option LowerTimer) → t ≤ u → TimerTill t timer → TimerTill u timer
+timer_later t u None h k = tt
+timer_later t u (Some timer) h k = omega arith
+
+-- the timer that meets a need starts by now
+pub met_till : (t : ℕ) (timer : Option LowerTimer) (need time : ℕ) → time ≤ t → TimerTill t timer → (timer_met timer need time).since ≤ t
+met_till t None need time h k = h
+met_till t (Some timer) need time h k = k
 
 seed_later : (t u : ℕ) (seed : Option Seed) → t ≤ u → SeedTill t seed → SeedTill u seed
 seed_later t u None h k = tt
@@ -51,7 +64,7 @@ hold_later t u s h k =
     record {
       peaks = λ i l. omega (arith, k.peaks i l);
       last = till_later t u s.hold.last_change h k.last;
-      since = omega (arith, k.since);
+      since = timer_later t u s.hold.lower h k.since;
       seed = seed_later t u s.hold.seeded h k.seed;
     }
 
@@ -141,7 +154,7 @@ module _ (millisecond : ℕ) (may_lower : Bool) (policy : DelayPolicy) (s : Held
     unfolding noted
     next_till t h k =
         let u = hold_later t time s h k in
-        let g = next_rule (λ x c. Till time x.last_change × (x.lower.since ≤ time)) (u.last, u.since) (λ worst e r o. by_outcome u.last u.since worst r o) in
+        let g = next_rule (λ x c. Till time x.last_change × TimerTill time x.lower) (u.last, u.since) (λ worst e r o. by_outcome u.last u.since worst r o) in
         record {
           peaks = next_each (λ at _. at ≤ time) u.peaks (λ v e. omega arith) (λ v at l e y p. p);
           last = g.0;
@@ -150,12 +163,12 @@ module _ (millisecond : ℕ) (may_lower : Bool) (policy : DelayPolicy) (s : Held
         }
       where
         by_outcome :
-            Till time s.hold.last_change → s.hold.lower.since ≤ time →
-            (worst : ℕ) (r : Next) → Outcome millisecond may_lower before (need_for policy (seed_left s.hold.seeded policy.hold time) worst) (urgent_at policy (late_of policy largest current) worst current) current (hold_now policy s.hold time) time r → Till time r.hold.last_change × (r.hold.lower.since ≤ time)
-        by_outcome a b worst r (raises l u) = (omega arith, omega arith)
-        by_outcome a b worst r (quits l c) = (a, omega arith)
-        by_outcome a b worst r (waits l c d) = (a, since_met s.hold.lower (need_for policy (seed_left s.hold.seeded policy.hold time) worst) time time b (omega arith))
-        by_outcome a b worst r (lowers l c x y) = (omega arith, omega arith)
+            Till time s.hold.last_change → TimerTill time s.hold.lower →
+            (worst : ℕ) (r : Next) → Outcome millisecond may_lower before (need_for policy (seed_left s.hold.seeded policy.hold time) worst) (urgent_at policy (late_of policy largest current) worst current) current (hold_now policy s.hold time) time r → Till time r.hold.last_change × TimerTill time r.hold.lower
+        by_outcome a b worst r (raises l u) = (omega arith, tt)
+        by_outcome a b worst r (quits l c) = (a, tt)
+        by_outcome a b worst r (waits l c d) = (a, met_till time s.hold.lower (need_for policy (seed_left s.hold.seeded policy.hold time) worst) time (omega arith) b)
+        by_outcome a b worst r (lowers l c x y) = (omega arith, tt)
 
     -- a peak begun after b is at most e: kept, if from b on no lag above e comes
     pub next_peaked :

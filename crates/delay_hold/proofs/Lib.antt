@@ -6,6 +6,7 @@ pub mod Outcomes
 pub mod Wholes
 pub mod Composition
 pub mod Gate
+pub mod Seen
 pub mod Keeps
 pub mod Covers
 pub mod Later

@@ -5,14 +5,13 @@ use mathlib.Core.Path.{refl}
 use native.Mathlib.Omega.{arith}
 use borrow.Author.Tests.{le-leb}
 use Rattle.base.specs.Limits.{time_limit}
-use Rattle.base.specs.Choice.{both}
 use Rattle.base.proofs.Points.{blank_intro, zeros_at}
 use Rattle.policy.specs.declared.DelayPolicy.{DelayPolicy}
 use Rattle.delay_hold.specs.declared.DelayHold.{DelayHold}
 use Rattle.delay_hold.specs.Step4Peaks.{most_peaks}
 use Rattle.delay_hold.specs.Steps5To8.{timer_off, with_lower}
 use Rattle.delay_hold.specs.Next.{Held, held, fresh_hold, seeded_hold}
-use Rattle.delay_hold.specs.Whole.{timer_fits, whole_hold}
+use Rattle.delay_hold.specs.Whole.{whole_hold}
 use Rattle.delay_hold.proofs.Later.{HoldTill, hold_later}
 use Rattle.delay_hold.proofs.Wholes.{WholePeaks, whole_of, of_whole}
 
@@ -30,7 +29,6 @@ peaks_under h e w =
 
 module _ (policy : DelayPolicy) (width : ℕ) where
   pub fresh_whole : 1 ≤ policy.window → whole_hold policy width (held fresh_hold (replicate most_peaks 0) (replicate most_peaks 0)) ≡ true
-  unfolding timer_fits both
   fresh_whole w =
       of_whole policy width (held fresh_hold (replicate most_peaks 0) (replicate most_peaks 0))
       (record {
@@ -42,7 +40,7 @@ module _ (policy : DelayPolicy) (width : ℕ) where
         lags_in_law = λ i l. absurd (omega arith);
         times_in_law = λ i l. absurd (omega arith);
       })
-      (record { seed = refl; timer = refl; last = refl; since = omega arith; start = refl; seed_time = refl })
+      (record { seed = refl; timer = refl; last = refl; since = refl; start = refl; seed_time = refl })
 
   module _ (s : Held) (whole : whole_hold policy width s ≡ true) where
     pub seeded_whole : (delay time : ℕ) → delay ≤ policy.delay_max → time ≤ time_limit → whole_hold policy width (held (seeded_hold s.hold delay time) s.times s.lags) ≡ true
@@ -59,7 +57,6 @@ module _ (policy : DelayPolicy) (width : ℕ) where
         })
 
     pub interrupted_whole : whole_hold policy width (held (with_lower s.hold timer_off) s.times s.lags) ≡ true
-    unfolding timer_fits both
     interrupted_whole =
         let w = whole_of policy width s whole in
         of_whole policy width _ (peaks_under (with_lower s.hold timer_off) refl w.0)
@@ -67,14 +64,14 @@ module _ (policy : DelayPolicy) (width : ℕ) where
           seed = w.1.seed;
           timer = refl;
           last = w.1.last;
-          since = omega arith;
+          since = refl;
           start = w.1.start;
           seed_time = w.1.seed_time;
         })
 
 -- ---- times
 pub fresh_till : (t : ℕ) (times lags : List ℕ) → HoldTill t (held fresh_hold times lags)
-fresh_till t times lags = record { peaks = λ i l. absurd (omega arith); last = tt; since = omega arith; seed = tt }
+fresh_till t times lags = record { peaks = λ i l. absurd (omega arith); last = tt; since = tt; seed = tt }
 
 module _ (t time : ℕ) (s : Held) (k : HoldTill t s) where
   pub seeded_till : (delay : ℕ) → t ≤ time → HoldTill time (held (seeded_hold s.hold delay time) s.times s.lags)
@@ -83,4 +80,4 @@ module _ (t time : ℕ) (s : Held) (k : HoldTill t s) where
       record { peaks = u.peaks; last = u.last; since = u.since; seed = omega arith }
 
   pub interrupted_till : HoldTill t (held (with_lower s.hold timer_off) s.times s.lags)
-  interrupted_till = record { peaks = k.peaks; last = k.last; since = omega arith; seed = k.seed }
+  interrupted_till = record { peaks = k.peaks; last = k.last; since = tt; seed = k.seed }

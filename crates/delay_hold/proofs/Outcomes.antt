@@ -51,7 +51,7 @@ pub data Outcome (millisecond : ℕ) (may_lower : Bool) (h : DelayHold) (need : 
       need + millisecond ≤ current →
       (urgent ≡ true → need ≤ current) →
       (may_lower ≡ true → (t : ℕ) → (timer_met h.lower need time).since ≤ t → Till t h.last_change → time < t + hold) →
-      Outcome millisecond may_lower h need urgent current hold time (keeps (with_lower h (timer_met h.lower need time)))
+      Outcome millisecond may_lower h need urgent current hold time (keeps (with_lower h (Some (timer_met h.lower need time))))
   lowers :
       need + millisecond ≤ current →
       (urgent ≡ true → need ≤ current) →

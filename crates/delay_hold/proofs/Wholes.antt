@@ -17,7 +17,7 @@ use Rattle.delay_hold.specs.Step4InPlace.{Placed}
 use Rattle.delay_hold.specs.Steps5To8.{floor_of}
 use Rattle.delay_hold.specs.Next.{Held, times_in, lags_in}
 use Rattle.base.specs.Rows.{span_of}
-use Rattle.delay_hold.specs.Whole.{peak_most, moment_timely, seed_fits, seed_timely, timer_fits, whole_peaks, whole_times, whole_hold}
+use Rattle.delay_hold.specs.Whole.{peak_most, moment_timely, seed_fits, seed_timely, timer_fits, timer_timely, whole_peaks, whole_times, whole_hold}
 use Rattle.base.proofs.Rows.{apart_at, apart_intro, up_to_at, up_to_intro, blank_padded}
 use Rattle.delay_hold.proofs.Bounds.{greatest_up}
 
@@ -35,7 +35,7 @@ pub record WholeTimes (policy : DelayPolicy) (h : DelayHold) : Type 0 where
   pub seed : seed_fits h.seeded policy.delay_max ≡ true
   pub timer : timer_fits h.lower policy.delay_max ≡ true
   pub last : moment_timely h.last_change ≡ true
-  pub since : h.lower.since ≤ time_limit
+  pub since : timer_timely h.lower ≡ true
   pub start : moment_timely h.started ≡ true
   pub seed_time : seed_timely h.seeded ≡ true
 
@@ -78,7 +78,7 @@ module _ (policy : DelayPolicy) (h : DelayHold) where
       let c = both_true _ _ b.1 in
       let d = both_true _ _ c.1 in
       let e = both_true _ _ d.1 in
-      record { seed = a.0; timer = b.0; last = c.0; since = leb-true _ _ d.0; start = e.0; seed_time = e.1 }
+      record { seed = a.0; timer = b.0; last = c.0; since = d.0; start = e.0; seed_time = e.1 }
 
   of_times : WholeTimes policy h → whole_times policy h ≡ true
   unfolding whole_times
@@ -86,7 +86,7 @@ module _ (policy : DelayPolicy) (h : DelayHold) where
       sym
       (both_yes _ _ _ w.seed
       (both_yes _ _ _ w.timer
-      (both_yes _ _ _ w.last (both_yes _ _ _ (le-leb _ _ w.since) (both_yes _ _ _ w.start (sym w.seed_time))))))
+      (both_yes _ _ _ w.last (both_yes _ _ _ w.since (both_yes _ _ _ w.start (sym w.seed_time))))))
 
 module _ (policy : DelayPolicy) (width : ℕ) (s : Held) where
   pub whole_of : whole_hold policy width s ≡ true → WholePeaks policy width s × WholeTimes policy s.hold

@@ -5,5 +5,6 @@ pub mod Step4Peaks
 pub mod Step4InPlace
 pub mod Steps5To8
 pub mod Next
+pub mod Lending
 pub mod Whole
 pub mod Checks

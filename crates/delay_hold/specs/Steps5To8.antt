@@ -11,11 +11,11 @@ use Rattle.delay_hold.specs.declared.Next.{Next}
 use Rattle.delay_hold.specs.Step4Peaks.{larger_lag}
 
 -- the timer that is off
-abbrev pub timer_off : LowerTimer
-timer_off = record { on = false; since = 0; highest = 0 }
+abbrev pub timer_off : Option LowerTimer
+timer_off = None
 
 -- the hold with another timer
-abbrev pub with_lower : (h : DelayHold) (timer : LowerTimer) → DelayHold
+abbrev pub with_lower : (h : DelayHold) (timer : Option LowerTimer) → DelayHold
 with_lower h timer =
     record {
       peaks = h.peaks;
@@ -63,12 +63,14 @@ half_for policy worst = (need_of policy worst + policy.read_offset - worst) / 2
 abbrev pub urgent_at : (policy : DelayPolicy) (late : Bool) (worst current : ℕ) → Bool
 urgent_at policy late worst current = late || nat_lt (policy.read_offset + current) (worst + half_for policy worst)
 
+-- 8. a timer that is on ".. keeps the highest need met"
+abbrev pub highest_kept : (timer : LowerTimer) (need : ℕ) → LowerTimer
+highest_kept timer need = record { since = timer.since; highest = max timer.highest need }
+
 -- 8. "The timer starts, or keeps the highest need met."
-abbrev pub timer_met : (timer : LowerTimer) (need time : ℕ) → LowerTimer
-timer_met timer need time =
-    pick timer.on
-    (record { on = true; since = timer.since; highest = max timer.highest need })
-    (record { on = true; since = time; highest = need })
+abbrev pub timer_met : Option LowerTimer → (need time : ℕ) → LowerTimer
+timer_met None need time = record { since = time; highest = need }
+timer_met (Some timer) need time = highest_kept timer need
 
 -- 8. the last change (if any) is at least hold old
 abbrev pub held_since : Option ℕ → (hold time : ℕ) → Bool
@@ -81,7 +83,7 @@ lowering may_lower h need hold time =
     let timer : LowerTimer = timer_met h.lower need time in
     pick (may_lower && nat_le hold (time - timer.since) && held_since h.last_change hold time)
     (changes h timer.highest time)
-    (keeps (with_lower h timer))
+    (keeps (with_lower h (Some timer)))
 
 -- 6. "If need > current and (..): timer off, raise to need." 7. "If need + 48 > current: timer off, no change." 8.
 unfoldable pub weighed : (millisecond : ℕ) (may_lower : Bool) (h : DelayHold) (need : ℕ) (urgent : Bool) (current hold time : ℕ) → Next

@@ -1,6 +1,6 @@
 -- Document 01, check 6, of one hold: "`next` alone sees one hold". Assumes nothing.
-use Rattle.std.specs.Prelude.{ℕ, ◌+◌, ◌-◌, Bool, true, ◌==◌, nat_le, nat_lt, None, Option, Some}
-use Rattle.base.specs.Choice.{pick, both}
+use Rattle.std.specs.Prelude.{ℕ, ◌+◌, ◌-◌, Bool, true, nat_le, nat_lt, None, Option, Some}
+use Rattle.base.specs.Choice.{both}
 use Rattle.base.specs.Limits.{nanos, time_limit, timely, samples_limit, width_limit}
 use Rattle.base.specs.Lists.{blank_from}
 use Rattle.policy.specs.declared.DelayPolicy.{DelayPolicy}
@@ -25,12 +25,14 @@ abbrev pub seed_timely : Option Seed → Bool
 seed_timely None = true
 seed_timely (Some seed) = timely seed.since
 
--- "timer needs at most maximum"; a timer that is off is an unused place
-unfoldable pub timer_fits : (timer : LowerTimer) (maximum : ℕ) → Bool
-timer_fits timer maximum =
-    pick timer.on
-    (nat_le timer.highest maximum)
-    (both (timer.since == 0) (timer.highest == 0))
+-- "timer needs at most maximum", and its time; a timer that is off is None, of which nothing is left to be zero
+abbrev pub timer_fits : Option LowerTimer → (maximum : ℕ) → Bool
+timer_fits None maximum = true
+timer_fits (Some timer) maximum = nat_le timer.highest maximum
+
+abbrev pub timer_timely : Option LowerTimer → Bool
+timer_timely None = true
+timer_timely (Some timer) = timely timer.since
 
 -- the largest lag that a peak may hold, and p999: "offset + maximum + W"
 abbrev pub peak_most : (policy : DelayPolicy) (width : ℕ) → ℕ
@@ -57,7 +59,7 @@ whole_times policy h =
     both (seed_fits h.seeded policy.delay_max)
     (both (timer_fits h.lower policy.delay_max)
     (both (moment_timely h.last_change)
-    (both (timely h.lower.since)
+    (both (timer_timely h.lower)
     (both (moment_timely h.started)
     (seed_timely h.seeded)))))
 

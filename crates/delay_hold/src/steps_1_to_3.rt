@@ -1,12 +1,10 @@
 // Steps 1 to 3 of `next`: startup, the seed, and what the largest lag tells.
-ghost use Rattle.std.specs.Prelude.{◌≡◌, ◌≤◌};
-ghost use Rattle.base.specs.Limits.{samples_limit};
-ghost use Rattle.policy.specs.Settings.{Sound};
+ghost use Rattle.std.specs.Prelude.{◌≡◌};
 ghost use Rattle.delay_hold.specs.Steps1To3.{started_at, startup_at, capped, seed_left, lag_within, late_at, lates_next, lates_seeded, noted};
 ghost use Rattle.delay_hold.specs.Step4Peaks.{larger_lag};
 
+use super::terms::Terms;
 use super::{DelayHold, Seed};
-use policy::DelayPolicy;
 use policy::inner::need;
 
 // How long the startup phase lasts, and the longest hold and window in it.
@@ -27,11 +25,7 @@ pub(crate) fn started_at(begun: Option<u64>, time: u64) -> u64
 pub(crate) fn in_startup(started: u64, lates: u8, time: u64) -> bool
     ensures { result ≡ startup_at started lates time }
 {
-    if time.saturating_sub(started) < STARTUP {
-        lates < STARTUP_LATES
-    } else {
-        false
-    }
+    time.saturating_sub(started) < STARTUP && lates < STARTUP_LATES
 }
 
 pub(crate) fn cap(startup: bool, x: u64) -> u64
@@ -63,42 +57,22 @@ pub(crate) fn late_at(lag: Option<u32>, limit: u32) -> bool
 pub(crate) fn larger_lag(lag: Option<u32>, other: Option<u32>) -> Option<u32>
     ensures { result ≡ larger_lag lag other }
 {
-    match (lag, other) {
-        (Some(x), Some(y)) => Some(x.max(y)),
-        (None, y) => y,
-        (x, None) => x,
-    }
+    lag.max(other)
 }
 
 // A late block after the first change is a startup event.
 fn lates_next(late: bool, before: bool, startup: bool, last: Option<u64>, n: u8) -> u8
     ensures { result ≡ lates_next late before startup last n }
 {
-    if !late {
-        return n;
+    if late && !before && startup && last.is_some() {
+        return n.saturating_add(1);
     }
-    if before {
-        return n;
-    }
-    if !startup {
-        return n;
-    }
-    if last.is_none() {
-        return n;
-    }
-    n.saturating_add(1)
+    n
 }
 
 // So is a lag that needs about the last run's delay: it was no stale value.
-fn lates_seeded(
-    policy: DelayPolicy,
-    lag: Option<u32>,
-    seed: Option<Seed>,
-    n: u8,
-    millisecond: u32,
-) -> u8
-    requires { Sound policy × (millisecond ≤ samples_limit) }
-    ensures { result ≡ lates_seeded millisecond policy lag seed n }
+fn lates_seeded(terms: Terms, lag: Option<u32>, seed: Option<Seed>, n: u8) -> u8
+    ensures { result ≡ lates_seeded terms.millisecond terms.policy lag seed n }
 {
     let Some(l) = lag else {
         return n;
@@ -106,27 +80,17 @@ fn lates_seeded(
     let Some(last) = seed else {
         return n;
     };
-    if last.delay <= need(policy, l) + millisecond {
+    if last.delay <= need(terms.policy, l) + terms.millisecond {
         return STARTUP_LATES;
     }
     n
 }
 
 impl DelayHold {
-    pub(crate) fn noted(
-        self,
-        policy: DelayPolicy,
-        lag: Option<u32>,
-        startup: bool,
-        late: bool,
-        time: u64,
-        millisecond: u32,
-    ) -> Self
-        requires { Sound policy × (millisecond ≤ samples_limit) }
-        ensures { result ≡ noted millisecond policy self lag startup late time }
+    pub(crate) fn noted(self, terms: Terms, lag: Option<u32>, startup: bool, late: bool) -> Self
+        ensures { result ≡ noted terms.millisecond terms.policy self lag startup late terms.time }
     {
-        let started = Some(started_at(self.started, time));
-        let seeded = seed_left(self.seeded, policy.hold, time);
+        let seeded = seed_left(self.seeded, terms.policy.hold, terms.time);
         let n = lates_next(
             late,
             self.late_before,
@@ -134,11 +98,10 @@ impl DelayHold {
             self.last_change,
             self.startup_late,
         );
-        let startup_late = lates_seeded(policy, lag, seeded, n, millisecond);
         DelayHold {
-            started,
+            started: Some(started_at(self.started, terms.time)),
             seeded,
-            startup_late,
+            startup_late: lates_seeded(terms, lag, seeded, n),
             late_before: late,
             ..self
         }

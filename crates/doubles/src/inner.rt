@@ -34,5 +34,5 @@ pub fn quantile_place(total: u64, q: f64) -> u64
     let x = total as f64 * q;
     let t = std::num::truncating_f64_to_u64(x);
     let up = if (t as f64) < x { t + 1 } else { t };
-    if up < 1 { 1 } else { up }
+    up.max(1)
 }

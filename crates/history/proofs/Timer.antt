@@ -1,26 +1,23 @@
 -- The timer of step 8 that has met a need: it runs on with the higher of the needs, or starts. Assumes nothing.
-use Prim.Native.Nat.{ℕ, ◌≤◌, max}
-use mathlib.Core.Path.{◌≡◌, refl}
-use mathlib.Core.Bool.{true, false}
+use Rattle.std.specs.Prelude.{None, Option, Some}
+use Prim.Native.Nat.{ℕ, ◌≤◌}
+use mathlib.Core.Path.{◌≡◌, ap}
 use native.Mathlib.Omega.{arith}
-use Rattle.base.proofs.Choices.{pick_rule, by_bool}
-use Rattle.base.proofs.Tests.{not_both}
 use Rattle.delay_hold.specs.declared.LowerTimer.{LowerTimer}
-use Rattle.delay_hold.specs.Steps5To8.{timer_met}
+use Rattle.delay_hold.specs.Steps5To8.{highest_kept, timer_met}
 
-pub record Met (timer : LowerTimer) (need time : ℕ) (met : LowerTimer) : Type 0 where
-  pub on : met.on ≡ true
-  pub kept : timer.on ≡ true → (met.since ≡ timer.since) × (met.highest ≡ max timer.highest need)
-  pub started : timer.on ≡ false → (met.since ≡ time) × (met.highest ≡ need)
+-- the highest need of a timer that is on is at most n
+abbrev pub HighestWithin : (n : ℕ) → Option LowerTimer → Type 0
+HighestWithin n None = Unit {0}
+HighestWithin n (Some timer) = timer.highest ≤ n
 
-pub timer_met_law : (timer : LowerTimer) (need time : ℕ) → Met timer need time (timer_met timer need time)
-timer_met_law timer need time =
-    pick_rule (Met timer need time) timer.on _ _
-    (λ e. record { on = refl; kept = λ q. (refl, refl); started = λ q. absurd (not_both e q) })
-    (λ e. record { on = refl; kept = λ q. absurd (not_both q e); started = λ q. (refl, refl) })
+pub runs_on : {timer : Option LowerTimer} {running : LowerTimer} (need time : ℕ) → timer ≡ Some running → timer_met timer need time ≡ highest_kept running need
+runs_on need time on = ap (λ (x : Option LowerTimer). timer_met x need time) on
 
--- its highest need is at most n where the need and the highest before are
-pub met_most : (timer : LowerTimer) (need time n : ℕ) → need ≤ n → timer.highest ≤ n → (timer_met timer need time).highest ≤ n
-met_most timer need time n h k =
-    let m = timer_met_law timer need time in
-    by_bool timer.on (λ e. omega (arith, (m.kept e).1)) (λ e. omega (arith, (m.started e).1))
+pub starts : {timer : Option LowerTimer} (need time : ℕ) → timer ≡ None → timer_met timer need time ≡ record { since = time; highest = need }
+starts need time off = ap (λ (x : Option LowerTimer). timer_met x need time) off
+
+-- it stays at most n where the need is
+pub met_most : (timer : Option LowerTimer) (need time n : ℕ) → need ≤ n → HighestWithin n timer → (timer_met timer need time).highest ≤ n
+met_most None need time n h k = h
+met_most (Some timer) need time n h k = omega arith

@@ -12,7 +12,7 @@ use Rattle.delay_hold.specs.Steps1To3.{noted}
 use Rattle.delay_hold.specs.Step4Peaks.{join_times, join_lags, old_count, times_after, lags_after}
 use Rattle.delay_hold.specs.Steps5To8.{lowering, weighed, decide_at, decide}
 use Rattle.delay_hold.specs.Next.{next_of}
-use Rattle.delay_hold.specs.Whole.{timer_fits, whole_peaks, whole_times, whole_hold}
+use Rattle.delay_hold.specs.Whole.{whole_peaks, whole_times, whole_hold}
 use Rattle.delay_hold.specs.Checks.{lists_fit, new_number, new_reply, settings_number, held_number, next_number, next_reply}
 use Rattle.hold_claims.specs.Claims.{StartupUnder60Seconds, StartupUnderTwoLates, LateCountedInStartup, SeedEndsStartup, PeakJoinedUnder1Second, NothingToGoBy, TimerStartsOrKeeps, ChangeStored, StartupOf5Seconds, SeedByThePolicysHold, FarLagDropped, LateCountedOnce, HalfRoundedDown, TimerOffNearTheNeed, LoweredToTheHighest, LoweringLooksAtTheLastChange, ReachesWidthBucketsChecked, CurrentAndP999Checked, PeaksSpanLessThanWindow, RefusalLeavesTheLists, NewZeroesBothLists, NewOf599Refused}
 
@@ -49,19 +49,19 @@ unfolding next_of noted join_times join_lags old_count times_after lags_after de
 lowering_looks_at_the_last_change = refl
 
 pub reaches_width_buckets_checked : ReachesWidthBucketsChecked
-unfolding next_number settings_number held_number lists_fit whole_hold whole_peaks whole_times timer_fits apart up_to all each_from ask both reaches_allowed width_allowed buckets_of buckets_few ranges_number times_allowed margins_allowed le
+unfolding next_number settings_number held_number lists_fit whole_hold whole_peaks whole_times apart up_to all each_from ask both reaches_allowed width_allowed buckets_of buckets_few ranges_number times_allowed margins_allowed le
 reaches_width_buckets_checked = refl
 
 pub current_and_p999_checked : CurrentAndP999Checked
-unfolding next_number settings_number held_number lists_fit whole_hold whole_peaks whole_times timer_fits apart up_to all each_from ask both reaches_allowed width_allowed buckets_of buckets_few ranges_number times_allowed margins_allowed le
+unfolding next_number settings_number held_number lists_fit whole_hold whole_peaks whole_times apart up_to all each_from ask both reaches_allowed width_allowed buckets_of buckets_few ranges_number times_allowed margins_allowed le
 current_and_p999_checked = refl
 
 pub peaks_span_less_than_window : PeaksSpanLessThanWindow
-unfolding next_number settings_number held_number lists_fit whole_hold whole_peaks whole_times timer_fits apart up_to all each_from ask both reaches_allowed width_allowed buckets_of buckets_few ranges_number times_allowed margins_allowed le
+unfolding next_number settings_number held_number lists_fit whole_hold whole_peaks whole_times apart up_to all each_from ask both reaches_allowed width_allowed buckets_of buckets_few ranges_number times_allowed margins_allowed le
 peaks_span_less_than_window = refl
 
 pub refusal_leaves_the_lists : RefusalLeavesTheLists
-unfolding next_reply next_number settings_number held_number lists_fit whole_hold whole_peaks whole_times timer_fits apart up_to all each_from ask both reaches_allowed width_allowed buckets_of buckets_few ranges_number times_allowed margins_allowed le
+unfolding next_reply next_number settings_number held_number lists_fit whole_hold whole_peaks whole_times apart up_to all each_from ask both reaches_allowed width_allowed buckets_of buckets_few ranges_number times_allowed margins_allowed le
 refusal_leaves_the_lists = refl
 
 pub new_zeroes_both_lists : NewZeroesBothLists

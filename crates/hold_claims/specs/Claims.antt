@@ -15,16 +15,16 @@ abbrev pub settings : DelayPolicy
 settings = record { read_offset = 480; delay_max = 4800; hold = 30_000_000_000; window = 10_000_000_000; margin = 96; margin_share = fin false 1 (negsuc 0) }
 
 -- a hold that was started at 0, with so many startup lates, this last change, timer, late before and seed, and so many peaks
-abbrev pub holding_after : (lates peaks : ℕ) (change : Option ℕ) (timer : LowerTimer) (lateBefore : Bool) (seed : Option Seed) → DelayHold
+abbrev pub holding_after : (lates peaks : ℕ) (change : Option ℕ) (timer : Option LowerTimer) (lateBefore : Bool) (seed : Option Seed) → DelayHold
 holding_after lates peaks change timer lateBefore seed =
     record { peaks = peaks; last_change = change; lower = timer; started = Some 0; startup_late = lates; late_before = lateBefore; seeded = seed }
 
-abbrev pub holding : (peaks : ℕ) (change : Option ℕ) (timer : LowerTimer) (lateBefore : Bool) (seed : Option Seed) → DelayHold
+abbrev pub holding : (peaks : ℕ) (change : Option ℕ) (timer : Option LowerTimer) (lateBefore : Bool) (seed : Option Seed) → DelayHold
 holding peaks change timer lateBefore seed = holding_after 0 peaks change timer lateBefore seed
 
 -- a timer that is on since then, with the highest need met
-abbrev pub timing : (since highest : ℕ) → LowerTimer
-timing since highest = record { on = true; since = since; highest = highest }
+abbrev pub timing : (since highest : ℕ) → Option LowerTimer
+timing since highest = Some (record { since = since; highest = highest })
 
 -- steps 1 to 8 on a hold without peaks, or with these
 abbrev pub next_with : (h : DelayHold) (times lags : List ℕ) (p999 largest : Option ℕ) (current time : ℕ) → Decided

@@ -2,11 +2,11 @@
 // Rust reads and writes them. crates/hold_examples/stdout holds what the Rust answers, and after it the refusals, which it has not.
 #![tactic(auto)]
 
-use delay_hold::DelayHold;
+use delay_hold::{DelayHold, HoldLists, HoldView};
 use policy::DelayPolicy;
 use std::{fmt, io};
 
-// `-` where there is none.
+// `-` where there is none. It stands in clock_examples and in hold_examples: they share no crate that shows anything, and one for this alone is no plainer.
 #[derive(Clone, Copy)]
 struct OrNone<T>(Option<T>);
 
@@ -31,17 +31,12 @@ impl fmt::Display for Pair {
 }
 
 // The hold as it stands: its peaks, last change, timer, start, startup lates, late before and seed.
-fn hold_after(rt: &impl Print, hold: DelayHold, times: &[u64], lags: &[u32]) -> io::Result<()> {
+fn hold_after(rt: &impl Print, hold: DelayHold, lists: HoldView<'_>) -> io::Result<()> {
     print!(rt; " H {}", hold.peaks)?;
-    for (time, lag) in times.iter().zip(lags.iter()).take(hold.peaks) {
+    for (time, lag) in lists.times.iter().zip(lists.lags.iter()).take(hold.peaks) {
         print!(rt; " {}", Pair(*time, *lag))?;
     }
-    let timer = hold.lower;
-    let lower = if timer.on {
-        Some(Pair(timer.since, timer.highest))
-    } else {
-        None
-    };
+    let lower = hold.lower.map(|timer| Pair(timer.since, timer.highest));
     let seeded = hold.seeded.map(|seed| Pair(seed.since, seed.delay));
     print!(rt; " {} {}", OrNone(hold.last_change), OrNone(lower))?;
     print!(rt; " {} {}", OrNone(hold.started), hold.startup_late)?;
@@ -52,8 +47,7 @@ fn hold_after(rt: &impl Print, hold: DelayHold, times: &[u64], lags: &[u32]) -> 
 fn next(
     rt: &impl Print,
     hold: DelayHold,
-    times: &mut [u64],
-    lags: &mut [u32],
+    lists: &mut HoldLists<'_>,
     p999: Option<u32>,
     max_lag: Option<u32>,
     current: u32,
@@ -65,10 +59,10 @@ fn next(
     print!(rt; " {} {} {}", policy.hold, policy.window, policy.margin)?;
     print!(rt; " 4049000000000000 {} {}", OrNone(p999), OrNone(max_lag))?;
     println!(rt; " {current} {time}")?;
-    match hold.decide_next(times, lags, p999, max_lag, current, policy, width, time) {
+    match hold.decide_next(lists, p999, max_lag, current, policy, width, time) {
         Ok(next) => {
             print!(rt; "ok {}", OrNone(next.change))?;
-            hold_after(rt, next.hold, times, lags)?;
+            hold_after(rt, next.hold, lists.view())?;
             Ok(next.hold)
         }
         Err(refusal) => {
@@ -79,9 +73,9 @@ fn next(
 }
 
 // A fresh hold.
-fn fresh(rt: &impl Print, times: &mut [u64], lags: &mut [u32]) -> io::Result<DelayHold> {
+fn fresh(rt: &impl Print, lists: &mut HoldLists<'_>) -> io::Result<DelayHold> {
     println!(rt; "hnew")?;
-    match DelayHold::new(times, lags) {
+    match DelayHold::new(lists) {
         Ok(hold) => {
             println!(rt; "ok")?;
             Ok(hold)
@@ -105,255 +99,110 @@ fn policy() -> DelayPolicy {
     }
 }
 
-// The first call of a fresh hold.
-fn first(rt: &impl Print, p999: Option<u32>, max_lag: Option<u32>, current: u32) -> io::Result<()> {
-    let mut times = [0u64; 600];
-    let mut lags = [0u32; 600];
-    let hold = fresh(rt, &mut times, &mut lags)?;
-    next(
-        rt,
-        hold,
-        &mut times,
-        &mut lags,
-        p999,
-        max_lag,
-        current,
-        policy(),
-        48,
-        1000,
-    )?;
-    Ok(())
-}
-
-// 200 lowers to 96 at 5 s, not 1 ns before.
-fn lowers(rt: &impl Print) -> io::Result<()> {
-    let mut times = [0u64; 600];
-    let mut lags = [0u32; 600];
-    let p = policy();
-    let q = Some(480);
-    let h0 = fresh(rt, &mut times, &mut lags)?;
-    let h1 = next(rt, h0, &mut times, &mut lags, q, None, 200, p, 48, 1000)?;
-    let h2 = next(
-        rt,
-        h1,
-        &mut times,
-        &mut lags,
-        q,
-        None,
-        200,
-        p,
-        48,
-        5_000_000_999,
-    )?;
-    next(
-        rt,
-        h2,
-        &mut times,
-        &mut lags,
-        q,
-        None,
-        200,
-        p,
-        48,
-        5_000_001_000,
-    )?;
-    Ok(())
-}
-
-// A raise, lates that end startup, a peak that is joined and one that goes, a clock that goes back, a lowering to the highest need met.
-fn session(rt: &impl Print) -> io::Result<()> {
-    let mut times = [0u64; 600];
-    let mut lags = [0u32; 600];
-    let p = policy();
-    let none = None;
-    let h0 = fresh(rt, &mut times, &mut lags)?;
-    let h1 = next(
-        rt,
-        h0,
-        &mut times,
-        &mut lags,
-        none,
-        Some(700),
-        0,
-        p,
-        48,
-        1_000_000_000,
-    )?;
-    let h2 = next(
-        rt,
-        h1,
-        &mut times,
-        &mut lags,
-        Some(720),
-        Some(600),
-        426,
-        p,
-        48,
-        1_500_000_000,
-    )?;
-    let h3 = next(
-        rt,
-        h2,
-        &mut times,
-        &mut lags,
-        Some(720),
-        Some(1000),
-        456,
-        p,
-        48,
-        2_500_000_000,
-    )?;
-    let h4 = next(
-        rt,
-        h3,
-        &mut times,
-        &mut lags,
-        Some(720),
-        Some(500),
-        876,
-        p,
-        48,
-        3_500_000_000,
-    )?;
-    let h5 = next(
-        rt,
-        h4,
-        &mut times,
-        &mut lags,
-        Some(720),
-        Some(2000),
-        876,
-        p,
-        48,
-        4_500_000_000,
-    )?;
-    let h6 = next(
-        rt,
-        h5,
-        &mut times,
-        &mut lags,
-        Some(720),
-        Some(600),
-        2376,
-        p,
-        48,
-        15_000_000_000,
-    )?;
-    let h7 = next(
-        rt,
-        h6,
-        &mut times,
-        &mut lags,
-        Some(720),
-        Some(900),
-        2376,
-        p,
-        48,
-        14_000_000_000,
-    )?;
-    let h8 = next(
-        rt,
-        h7,
-        &mut times,
-        &mut lags,
-        Some(720),
-        Some(600),
-        2376,
-        p,
-        48,
-        44_999_999_999,
-    )?;
-    next(
-        rt,
-        h8,
-        &mut times,
-        &mut lags,
-        Some(720),
-        Some(5300),
-        2376,
-        p,
-        48,
-        45_000_000_000,
-    )?;
+// One after the other, calls of `next` on a fresh hold: p999, the largest lag, the delay and the time.
+fn run(rt: &impl Print, calls: &[(Option<u32>, Option<u32>, u32, u64)]) -> io::Result<()> {
+    let mut lists = HoldLists {
+        times: &mut [0u64; 600],
+        lags: &mut [0u32; 600],
+    };
+    let mut hold = fresh(rt, &mut lists)?;
+    for (p999, max_lag, current, time) in calls {
+        hold = next(
+            rt,
+            hold,
+            &mut lists,
+            *p999,
+            *max_lag,
+            *current,
+            policy(),
+            48,
+            *time,
+        )?;
+    }
     Ok(())
 }
 
 // Each number that refuses a call of `next`.
 fn refusals(rt: &impl Print) -> io::Result<()> {
-    let mut times = [0u64; 600];
-    let mut lags = [0u32; 600];
+    let mut lists = HoldLists {
+        times: &mut [0u64; 600],
+        lags: &mut [0u32; 600],
+    };
     let p = policy();
     let q = Some(480);
-    let hold = fresh(rt, &mut times, &mut lags)?;
+    let hold = fresh(rt, &mut lists)?;
     let far = DelayPolicy {
         delay_max: 96001,
         ..p
     };
-    next(rt, hold, &mut times, &mut lags, q, q, 0, far, 48, 1000)?;
-    next(rt, hold, &mut times, &mut lags, q, q, 0, p, 0, 1000)?;
-    next(rt, hold, &mut times, &mut lags, q, q, 0, p, 4801, 1000)?;
-    next(rt, hold, &mut times, &mut lags, q, q, 0, p, 2, 1000)?;
     let short = DelayPolicy {
         window: 999_999_999,
         ..p
     };
-    next(rt, hold, &mut times, &mut lags, q, q, 0, short, 48, 1000)?;
     let wide = DelayPolicy { margin: 96001, ..p };
-    next(rt, hold, &mut times, &mut lags, q, q, 0, wide, 48, 1000)?;
-    let mut few = [0u64; 599];
+    for (policy, width) in [
+        (far, 48),
+        (p, 0),
+        (p, 4801),
+        (p, 2),
+        (short, 48),
+        (wide, 48),
+    ] {
+        next(rt, hold, &mut lists, q, q, 0, policy, width, 1000)?;
+    }
+    let mut few = HoldLists {
+        times: &mut [0u64; 599],
+        lags: &mut [0u32; 600],
+    };
     print!(rt; "!5 ")?;
-    next(rt, hold, &mut few, &mut lags, q, q, 0, p, 48, 1000)?;
-    let mut marked = [1u32; 600];
-    next(rt, hold, &mut times, &mut marked, q, q, 0, p, 48, 1000)?;
-    next(
-        rt,
-        hold,
-        &mut times,
-        &mut lags,
-        q,
-        q,
-        0,
-        p,
-        48,
-        4_000_000_000_000_000_001,
-    )?;
-    next(rt, hold, &mut times, &mut lags, q, q, 4801, p, 48, 1000)?;
-    next(
-        rt,
-        hold,
-        &mut times,
-        &mut lags,
-        Some(5329),
-        q,
-        0,
-        p,
-        48,
-        1000,
-    )?;
-    next(
-        rt,
-        hold,
-        &mut times,
-        &mut lags,
-        Some(5328),
-        q,
-        4800,
-        p,
-        48,
-        4_000_000_000_000_000_000,
-    )?;
+    next(rt, hold, &mut few, q, q, 0, p, 48, 1000)?;
+    let mut marked = HoldLists {
+        times: &mut [0u64; 600],
+        lags: &mut [1u32; 600],
+    };
+    next(rt, hold, &mut marked, q, q, 0, p, 48, 1000)?;
+    for (p999, current, time) in [
+        (480, 0, 4_000_000_000_000_000_001),
+        (480, 4801, 1000),
+        (5329, 0, 1000),
+        (5328, 4800, 4_000_000_000_000_000_000),
+    ] {
+        next(rt, hold, &mut lists, Some(p999), q, current, p, 48, time)?;
+    }
     Ok(())
 }
 
 fn main(rt: HostRuntime) -> io::Result<()> {
-    first(&rt, None, Some(485), 0)?;
-    first(&rt, None, Some(480), 0)?;
-    first(&rt, None, Some(5281), 0)?;
-    first(&rt, Some(480), None, 47)?;
-    first(&rt, Some(480), None, 48)?;
-    first(&rt, Some(480), None, 143)?;
-    first(&rt, Some(480), None, 144)?;
-    lowers(&rt)?;
-    session(&rt)?;
+    run(&rt, &[(None, Some(485), 0, 1000)])?;
+    run(&rt, &[(None, Some(480), 0, 1000)])?;
+    run(&rt, &[(None, Some(5281), 0, 1000)])?;
+    run(&rt, &[(Some(480), None, 47, 1000)])?;
+    run(&rt, &[(Some(480), None, 48, 1000)])?;
+    run(&rt, &[(Some(480), None, 143, 1000)])?;
+    run(&rt, &[(Some(480), None, 144, 1000)])?;
+    // 200 lowers to 96 at 5 s, not 1 ns before
+    run(
+        &rt,
+        &[
+            (Some(480), None, 200, 1000),
+            (Some(480), None, 200, 5_000_000_999),
+            (Some(480), None, 200, 5_000_001_000),
+        ],
+    )?;
+    // a raise, lates that end startup, a peak that is joined and one that goes, a clock that goes back, a lowering to the highest need met
+    run(
+        &rt,
+        &[
+            (None, Some(700), 0, 1_000_000_000),
+            (Some(720), Some(600), 426, 1_500_000_000),
+            (Some(720), Some(1000), 456, 2_500_000_000),
+            (Some(720), Some(500), 876, 3_500_000_000),
+            (Some(720), Some(2000), 876, 4_500_000_000),
+            (Some(720), Some(600), 2376, 15_000_000_000),
+            (Some(720), Some(900), 2376, 14_000_000_000),
+            (Some(720), Some(600), 2376, 44_999_999_999),
+            (Some(720), Some(5300), 2376, 45_000_000_000),
+        ],
+    )?;
     refusals(&rt)
 }

@@ -5,7 +5,6 @@ use lib.Ieee.{Float}
 use Rattle.base.specs.Limits.{time_limit, width_limit, buckets_limit}
 use Rattle.base.specs.Lists.{part}
 use Rattle.lag_window.specs.declared.LagWindow.{LagWindow}
-use Rattle.lag_window.specs.Lent.{lent}
 use Rattle.rules_window.specs.WholeWindow.{whole_window, Sound}
 use Rattle.rules_window.specs.Parts as parts
 use Rattle.rules_window.specs.Checks.{room_for}
@@ -19,21 +18,21 @@ use Rattle.rules_window.proofs.Thousandths.{thousandths_in}
 use Rattle.rules_record.specs.declared.Slot.{Slot}
 use Rattle.rules_record.specs.declared.Inputs.{Inputs}
 use Rattle.rules_record.specs.Inputs.{slot_at}
-use Rattle.rules_record.specs.Lent.{lists, buckets_in, window_for}
-use Rattle.inputs_window.specs.Windows.{window_in}
+use Rattle.rules_record.specs.Lent.{Lists, lists, buckets_in, window_for}
+use Rattle.inputs_window.specs.Windows.{window_in, all_windows}
 use Rattle.rules_tick.proofs.Ready.{ready_sound}
 use Rattle.rules_tick.specs.InputReady.{ArriveAsked, P999Asked}
 use native.Mathlib.Omega.{arith}
 
-module _ (s : Inputs) (i time : ℕ) (lags a b c d : List ℕ) (asked : ArriveAsked s (lists a b c d [] []) i time (length lags)) {slot : Slot} {before : LagWindow} (is-slot : slot ≡ slot_at s i) (is-before : before ≡ window_in s.policy s.width slot) where
+module _ (s : Inputs) (l : Lists) (i time : ℕ) (lags : List ℕ) (asked : ArriveAsked s l i time (length lags)) {slot : Slot} {before : LagWindow} (is-slot : slot ≡ slot_at s i) (is-before : before ≡ window_in s.policy s.width slot) where
   -- what `push_all` asks
   abbrev Pushable : LagWindow → Type 0
   Pushable w =
-      parts.PartsIn i (lent w a b c)
-      × ((i * w.buckets + w.buckets ≤ length d)
-      × ((whole_window (parts.part_of i (lent w a b c)) ≡ true)
-      × ((part (i * w.buckets) w.buckets d ≡ column_sums (parts.part_of i (lent w a b c)))
-      × ((time ≤ time_limit) × (room_for time (length lags) (parts.part_of i (lent w a b c)) ≡ true)))))
+      parts.PartsIn i (all_windows w l)
+      × ((i * w.buckets + w.buckets ≤ length l.sums)
+      × ((whole_window (parts.part_of i (all_windows w l)) ≡ true)
+      × ((part (i * w.buckets) w.buckets l.sums ≡ column_sums (parts.part_of i (all_windows w l)))
+      × ((time ≤ time_limit) × (room_for time (length lags) (parts.part_of i (all_windows w l)) ≡ true)))))
 
   pub push_asks : Pushable before
   unfolding buckets_in

@@ -1,21 +1,25 @@
 // The parts of the steps in `inner`: one input's window and lags, its late events, its quantile, and the answer of its hold.
-ghost use Rattle.std.specs.Prelude.{◌≡◌, ℕ, ◌+◌, ◌<◌, ◌≤◌, List, length};
+ghost use Rattle.std.specs.Prelude.{◌≡◌, ℕ, ◌<◌, ◌≤◌, List};
 ghost use Rattle.base.specs.Limits.{samples_limit, counter_limit};
 ghost use Rattle.policy.specs.Settings.{Sound};
 ghost use Rattle.rules_record.specs.Slots.{with_hold};
 ghost use Rattle.rules_record.specs.Inputs.{slot_at, put_slot};
-ghost use Rattle.rules_record.specs.Commands.{Did};
+ghost use Rattle.inputs_commands.specs.Sending.{Room, Does};
+ghost use Rattle.delay_hold.specs.Checks.{Asked};
+ghost use Rattle.delay_hold.specs.Next.{held, decided, next_of, one_millisecond, always_lower};
 ghost use Rattle.delay_hold.specs.Steps5To8.{timer_off, with_lower};
 ghost use Rattle.rules_record.specs.Lent.{lists, window_for};
 ghost use Rattle.rules_record.specs.Facts.{OwnSums};
+ghost use Rattle.rules_record.specs.Lending.{lists_lent, SameLists};
 ghost use Rattle.rules_tick.specs.Lags.{last_lag_of};
 ghost use Rattle.rules_tick.specs.LateEvents.{late_now, late_events_of};
 ghost use Rattle.rules_tick.specs.AutoDelay.{p999_of, current_of, next_for, Answered, answered};
 ghost use Rattle.rules_tick.specs.InputReady.{P999Asked, AutoAsked};
 
-use delay_hold::{DelayHold, Next};
+use delay_hold::{DelayHold, HoldLists, Next};
+use inputs_commands::Commands;
 use policy::DelayPolicy;
-use rules_record::{Inputs, Sent, Slot};
+use rules_record::{AllLists, Inputs, Slot, State};
 
 // How long the seconds of lags must span before the first automatic setting.
 const MIN_LAG_SECONDS: u64 = 1;
@@ -23,23 +27,20 @@ const MIN_LAG_SECONDS: u64 = 1;
 const MIN_SPAN: u64 = MIN_LAG_SECONDS * base::NANOS;
 
 // The last of the lags, or the one before where there are none.
+#[tactic(auto, unfolding(rules_tick::specs::Lags::last_lag_of))]
 pub(crate) fn last_lag(lags: &[u32], before: u32) -> u32
     ensures { result ≡ last_lag_of lags.now before }
 {
-    let n = lags.len();
-    if n == 0 {
-        return before;
-    }
-    lags[n - 1]
+    lags.last().copied().unwrap_or(before)
 }
 
 // Whether a block of a running input was late: above what the applied delay covers, and within what the largest delay would.
+// It is the late test of a hold's `next` with the applied delay in the place of the current one; there it stands within the steps of `next`.
 pub(crate) fn late_now(policy: DelayPolicy, slot: Slot, applied: u32, max_lag: Option<u32>) -> bool
     requires { Sound policy × (applied ≤ samples_limit) }
     ensures { result ≡ late_now policy slot applied max_lag }
 {
-    let state = slot.state;
-    if inputs_slots::code(state) != inputs_slots::RUNNING {
+    if slot.state != State::Running {
         return false;
     }
     let Some(lag) = max_lag else {
@@ -70,7 +71,10 @@ pub(crate) fn interrupted(inputs: Inputs, i: usize, slot: Slot) -> Inputs
     ensures { result ≡ put_slot inputs i (with_hold slot (with_lower slot.hold timer_off)) }
 {
     let hold = slot.hold;
-    let changed = inputs_slots::with_hold(slot, delay_hold::inner::interrupt(hold));
+    let changed = Slot {
+        hold: delay_hold::inner::interrupt(hold),
+        ..slot
+    };
     inputs_slots::put_slot(inputs, i, changed)
 }
 
@@ -85,6 +89,7 @@ fn p999(inputs: Inputs, slot: Slot, i: usize, starts: &[u64], sums: &[u64]) -> O
         return None;
     }
     let limit = policy.read_offset + policy.delay_max;
+    // The form that document 01 names.
     let quantile = inputs_window::inner::quantile_upto(window, i, 0.999, limit, sums);
     let Some(end) = quantile else {
         return None;
@@ -96,11 +101,35 @@ fn p999(inputs: Inputs, slot: Slot, i: usize, starts: &[u64], sums: &[u64]) -> O
 fn current(slot: Slot) -> u32
     ensures { result ≡ current_of slot }
 {
-    let proposed = slot.proposed;
-    let Some(delay) = proposed else {
-        return slot.delay;
-    };
-    delay
+    slot.proposed.unwrap_or(slot.delay)
+}
+
+// What a hold decides, on its own lists. They come one by one: a part that goes into a struct straight away is not followed back to its list.
+fn next_own(
+    hold: DelayHold,
+    times: &mut [u64],
+    lags: &mut [u32],
+    p999: Option<u32>,
+    max_lag: Option<u32>,
+    current: u32,
+    policy: DelayPolicy,
+    time: u64,
+) -> Next
+    requires { Asked policy (held hold times.old lags.old) p999 current }
+    ensures { decided result times.new lags.new ≡ next_of one_millisecond always_lower policy (held hold times.old lags.old) p999 max_lag current time }
+{
+    let mut own = HoldLists { times, lags };
+    delay_hold::inner::next(
+        hold,
+        &mut own,
+        p999,
+        max_lag,
+        current,
+        policy,
+        time,
+        delay_hold::inner::DELAY_LOWER_SAMPLES,
+        delay_hold::inner::ALWAYS_LOWER,
+    )
 }
 
 // What the hold of input i, whose slot this is, decides.
@@ -110,30 +139,27 @@ pub(crate) fn next_for(
     i: usize,
     max_lag: Option<u32>,
     time: u64,
-    starts: &[u64],
-    sums: &[u64],
-    times: &mut [u64],
-    peaks: &mut [u32],
+    lists: &mut AllLists<'_>,
 ) -> Next
-    requires { (slot ≡ slot_at inputs i) × AutoAsked inputs i starts.now sums.now times.old peaks.old }
-    ensures { (totals counts : List ℕ) → OwnSums inputs (lists starts.now totals counts sums.now times.old peaks.old) i (slot_at inputs i) → Answered i (next_for i max_lag time inputs (lists starts.now totals counts sums.now times.old peaks.old)) result (lists starts.now totals counts sums.now times.old peaks.old) (lists starts.now totals counts sums.now times.new peaks.new) }
+    requires { (slot ≡ slot_at inputs i) × AutoAsked inputs (lists_lent lists.old) i }
+    ensures answered { Answered i (next_for i max_lag time inputs (lists_lent lists.old)) result (lists_lent lists.old) (lists_lent lists.new) }
+    ensures same { SameLists lists.old lists.new }
 {
     let policy = inputs.policy;
     let hold = slot.hold;
-    let p999 = p999(inputs, slot, i, starts, sums);
+    let seen = lists.view();
+    let p999 = p999(inputs, slot, i, seen.starts, seen.sums);
     let from = i * DelayHold::PLACES;
     let to = from + DelayHold::PLACES;
-    delay_hold::inner::next(
+    next_own(
         hold,
-        &mut times[from..to],
-        &mut peaks[from..to],
+        &mut lists.times[from..to],
+        &mut lists.peaks[from..to],
         p999,
         max_lag,
         current(slot),
         policy,
         time,
-        delay_hold::inner::DELAY_LOWER_SAMPLES,
-        delay_hold::inner::ALWAYS_LOWER,
     )
 }
 
@@ -144,26 +170,25 @@ pub(crate) fn answer(
     slot: Slot,
     change: Option<u32>,
     time: u64,
-    commands: &mut [u32],
-    used: usize,
-) -> Sent
-    requires { (used + 3 ≤ length commands.old) × (i < 16) × (slot.delay_changes < counter_limit) }
-    ensures { Did 3 (answered change i time slot inputs) result commands.old commands.new used }
+    commands: &mut Commands<'_>,
+) -> Inputs
+    requires { Room 3 commands.old × (i < 16) × (slot.delay_changes < counter_limit) }
+    ensures { Does 3 (answered change i time slot inputs) result commands.old commands.new }
 {
     let Some(delay) = change else {
-        return Sent {
-            inputs: inputs_slots::put_slot(inputs, i, slot),
-            used,
-        };
+        return inputs_slots::put_slot(inputs, i, slot);
     };
     if inputs.confirm {
-        let changed = inputs_slots::with_proposed(slot, Some(delay));
-        return Sent {
-            inputs: inputs_slots::put_slot(inputs, i, changed),
-            used,
+        let changed = Slot {
+            proposed: Some(delay),
+            ..slot
         };
+        return inputs_slots::put_slot(inputs, i, changed);
     }
-    let changed = inputs_slots::with_delay_changes(slot, slot.delay_changes + 1);
+    let changed = Slot {
+        delay_changes: slot.delay_changes + 1,
+        ..slot
+    };
     let all = inputs_slots::put_slot(inputs, i, changed);
-    inputs_set_delay::inner::set_delay(all, i, delay, time, commands, used)
+    inputs_set_delay::inner::set_delay(all, i, delay, time, commands)
 }

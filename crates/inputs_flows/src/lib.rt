@@ -1,33 +1,20 @@
 // The flow table: 64 places, each flow at one place for good, with the automatic delay that it had last.
 #![tactic(auto)]
 
-ghost use Rattle.std.specs.Prelude.{◌≡◌, ◌≤◌, slice_index_or};
-ghost use Rattle.base.specs.First.{first};
-ghost use Rattle.rules_record.specs.Flows.{same_flow, empty_entry, known, flow_place, distinct_flows, admits, flow_at, enrolled, recalled, kept, differs, remembered, remembered_for};
+ghost use Rattle.std.specs.Prelude.{◌≡◌};
+ghost use Rattle.rules_record.specs.Flows.{known, flow_place, distinct_flows, admits, flow_at, enrolled, recalled, kept, remembered, remembered_for};
 
 use rules_record::{Flow, FlowEntry, Inputs, Slot};
 
 // Functions that ask something of their caller; the crates above use them where the bytes are there.
 pub mod inner;
 
-// Are these the same 16 bytes?
-pub fn same(a: Flow, b: Flow) -> bool
-    ensures { result ≡ same_flow a b }
-{
-    if a.high != b.high {
-        return false;
-    }
-    a.low == b.low
-}
-
 // How many places of the table are in use; there are 64.
+#[tactic(auto, unfolding(rules_record::specs::Flows::known))]
 fn places(inputs: Inputs) -> usize
     ensures { result ≡ known inputs }
 {
-    if inputs.flow_count < 64 {
-        return inputs.flow_count;
-    }
-    64
+    inputs.flow_count.min(64)
 }
 
 // The flow at a place.
@@ -35,66 +22,45 @@ pub fn flow_at(inputs: Inputs, place: usize) -> Flow
     ensures { result ≡ flow_at inputs place }
 {
     if place < 64 {
-        let entry = inputs.flows[place];
-        let flow = entry.flow;
-        return flow;
+        return inputs.flows[place].flow;
     }
     Flow { high: 0, low: 0 }
 }
 
-// The first of n places that holds the flow, or n. It takes the table alone: a loop that hands on the record copies it at each turn.
-fn find_below(table: [FlowEntry; 64], flow: Flow, n: usize) -> usize
-    requires { n ≤ 64 }
-    ensures { result ≡ first (λ place. same_flow (slice_index_or table place empty_entry).flow flow) n }
-{
-    let mut i: usize = 0;
-    while i < n {
-        let entry = table[i];
-        let at = entry.flow;
-        if same(at, flow) {
-            return i;
-        }
-        i += 1;
-    }
-    n
-}
-
 // The flow's place, or the number of places in use where it has none.
+// A place either way: where the flow stands, or where `enrol` puts it; the rules know one number (flow_place).
 pub fn find(inputs: Inputs, flow: Flow) -> usize
     ensures { result ≡ flow_place inputs flow }
 {
     let n = places(inputs);
-    let table = inputs.flows;
-    find_below(table, flow, n)
+    let table = &inputs.flows[..n];
+    table
+        .iter()
+        .position(|entry| entry.flow == flow)
+        .unwrap_or(n)
 }
 
-// Does the table hold no flow twice?
+// Does the table hold no flow twice? As inputs_instances asks of its keys: one function over a key owes a closure's contract for four lines.
 pub fn distinct(inputs: Inputs) -> bool
     ensures { result ≡ distinct_flows inputs }
 {
     let n = places(inputs);
-    let table = inputs.flows;
-    let mut i: usize = 0;
-    while i < n {
-        let entry = inputs.flows[i];
-        let flow = entry.flow;
-        if find_below(table, flow, i) != i {
+    let table = &inputs.flows[..n];
+    for (i, entry) in table.iter().enumerate() {
+        if table[..i].iter().any(|earlier| earlier.flow == entry.flow) {
             return false;
         }
-        i += 1;
     }
     true
 }
 
 // Is the flow known, or is there room for it?
+#[tactic(auto, unfolding(rules_record::specs::Flows::admits))]
 pub fn has_room(inputs: Inputs, flow: Flow) -> bool
     ensures { result ≡ admits inputs flow }
 {
     let place = find(inputs, flow);
-    if place < inputs.flow_count {
-        return true;
-    }
-    inputs.flow_count < 64
+    place < inputs.flow_count || inputs.flow_count < 64
 }
 
 // The table with this flow, where it is new and there is room.
@@ -109,9 +75,10 @@ pub fn enrol(inputs: Inputs, flow: Flow) -> Inputs
         return inputs;
     }
     let mut all = inputs;
-    let remembered = None;
-    let entry = FlowEntry { flow, remembered };
-    all.flows[place] = entry;
+    all.flows[place] = FlowEntry {
+        flow,
+        remembered: None,
+    };
     all.flow_count = place + 1;
     all
 }
@@ -121,9 +88,7 @@ pub fn recall(inputs: Inputs, place: usize) -> Option<u32>
     ensures { result ≡ recalled inputs place }
 {
     if place < 64 {
-        let entry = inputs.flows[place];
-        let remembered = entry.remembered;
-        return remembered;
+        return inputs.flows[place].remembered;
     }
     None
 }
@@ -133,23 +98,11 @@ pub fn keep(inputs: Inputs, place: usize, delay: u32) -> Inputs
     ensures { result ≡ kept inputs place delay }
 {
     if place < 64 {
-        let flow = flow_at(inputs, place);
-        let remembered = Some(delay);
-        let entry = FlowEntry { flow, remembered };
         let mut all = inputs;
-        all.flows[place] = entry;
+        all.flows[place].remembered = Some(delay);
         return all;
     }
     inputs
-}
-
-fn other(last: Option<u32>, delay: u32) -> bool
-    ensures { result ≡ differs last delay }
-{
-    match last {
-        None => true,
-        Some(old) => old != delay,
-    }
 }
 
 // The delay is remembered for the flow; the table is unsaved where that differs from what it held.
@@ -158,7 +111,7 @@ pub fn remember(inputs: Inputs, place: usize, delay: u32) -> Inputs
 {
     let last = recall(inputs, place);
     let mut all = keep(inputs, place, delay);
-    if other(last, delay) {
+    if last != Some(delay) {
         all.unsaved = true;
         return all;
     }

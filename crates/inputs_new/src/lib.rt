@@ -3,17 +3,18 @@
 
 ghost use Rattle.std.specs.Prelude.{◌≡◌, ◌*◌, ◌==◌};
 ghost use Rattle.refusals.specs.Numbers.{number_in};
-ghost use Rattle.rules_record.specs.Lent.{lists};
+ghost use Rattle.rules_record.specs.Lending.{lists_lent, lists_seen, SameLists};
 ghost use Rattle.rules_record.specs.Reply.{left_inputs};
 ghost use Rattle.rules_calls.specs.NewRecord.{policy_of, blank, blank_for, no_inputs};
 ghost use Rattle.rules_calls.specs.NewStart.{zeroed_lists};
 ghost use Rattle.rules_calls.specs.NewChecks.{margin_fits, settings_number};
 ghost use Rattle.rules_calls.specs.NewReply.{new_reply};
 
+use inputs_commands::Commands;
 use policy::DelayPolicy;
 use refusals::Refusal;
 use rules_calls::Settings;
-use rules_record::{ExtraDelay, Flow, FlowEntry, Inputs, Instance, Output};
+use rules_record::{AllLists, AllView, ExtraDelay, Flow, FlowEntry, Inputs, Instance, Output};
 
 mod loading;
 mod start;
@@ -33,7 +34,7 @@ fn policy_of(settings: Settings) -> DelayPolicy
 }
 
 // Every place of the three tables is unused.
-fn blank(count: usize, policy: DelayPolicy, width: u32, stall: u64, confirm: bool) -> Inputs
+pub fn blank(count: usize, policy: DelayPolicy, width: u32, stall: u64, confirm: bool) -> Inputs
     ensures { result ≡ blank count policy width stall confirm }
 {
     let slot = inputs_slots::empty_slot();
@@ -74,26 +75,19 @@ fn blank_for(settings: Settings) -> Inputs
 
 // ---- the checks
 // Is margin at most 96,000, percent 0 to 1,000 and no NaN (check 4)?
+#[tactic(auto, unfolding(rules_calls::specs::NewChecks::margin_fits, policy::specs::Settings::percent_allowed, base::specs::Choice::both))]
 fn margin_fits(settings: Settings) -> bool
     ensures { result ≡ margin_fits settings }
 {
-    if base::SAMPLES_LIMIT < settings.margin {
-        return false;
-    }
-    if settings.percent >= 0.0 {
-        return settings.percent <= 1000.0;
-    }
-    false
+    settings.margin <= base::SAMPLES_LIMIT
+        && (settings.percent >= 0.0 && settings.percent <= 1000.0)
 }
 
 // Are there 16 flow bytes to each loaded delay (check 5)?
 fn bytes_fit(bytes: usize, delays: usize) -> bool
     ensures { result ≡ (bytes == delays * 16) }
 {
-    if bytes % 16 != 0 {
-        return false;
-    }
-    bytes / 16 == delays
+    bytes % 16 == 0 && bytes / 16 == delays
 }
 
 // Checks 1 to 5.
@@ -101,15 +95,10 @@ fn check_settings(
     settings: Settings,
     bytes: usize,
     delays: usize,
-    starts: &[u64],
-    totals: &[u64],
-    counts: &[u32],
-    sums: &[u64],
-    times: &[u64],
-    peaks: &[u32],
+    lists: AllView<'_>,
     words: usize,
 ) -> Result<(), Refusal>
-    ensures { number_in result ≡ settings_number settings bytes delays (lists starts.now totals.now counts.now sums.now times.now peaks.now) words 0 }
+    ensures { number_in result ≡ settings_number settings bytes delays (lists_seen lists.entry) words 0 }
 {
     if !inputs_checks::inputs_allowed(settings.count) {
         return Err(Refusal::InputCount);
@@ -127,16 +116,7 @@ fn check_settings(
         settings.delay_max,
         settings.width,
     );
-    if !inputs_checks::inner::lists_fit(
-        settings.count,
-        buckets,
-        starts,
-        totals,
-        counts,
-        sums,
-        times,
-        peaks,
-    ) {
+    if !inputs_checks::inner::lists_fit(settings.count, buckets, lists) {
         return Err(Refusal::ListLength);
     }
     if !inputs_checks::inner::output_fits(settings.count, Output::Words(words)) {
@@ -149,22 +129,16 @@ fn check_settings(
 }
 
 // ---- the call
-fn zero_lists(
-    starts: &mut [u64],
-    totals: &mut [u64],
-    counts: &mut [u32],
-    sums: &mut [u64],
-    times: &mut [u64],
-    peaks: &mut [u32],
-)
-    ensures { lists starts.new totals.new counts.new sums.new times.new peaks.new ≡ zeroed_lists (lists starts.old totals.old counts.old sums.old times.old peaks.old) }
+fn zero_lists(lists: &mut AllLists<'_>)
+    ensures zeroed { lists_lent lists.new ≡ zeroed_lists (lists_lent lists.old) }
+    ensures same { SameLists lists.old lists.new }
 {
-    starts.fill(0);
-    totals.fill(0);
-    counts.fill(0);
-    sums.fill(0);
-    times.fill(0);
-    peaks.fill(0);
+    lists.starts.fill(0);
+    lists.totals.fill(0);
+    lists.counts.fill(0);
+    lists.sums.fill(0);
+    lists.times.fill(0);
+    lists.peaks.fill(0);
 }
 
 // A supervisor with these settings, a delay kind for each input, and the remembered delays that the host loaded: 16 flow bytes to each.
@@ -174,26 +148,17 @@ pub fn new(
     flows: &[u8],
     delays: &[u32],
     time: u64,
-    starts: &mut [u64],
-    totals: &mut [u64],
-    counts: &mut [u32],
-    sums: &mut [u64],
-    times: &mut [u64],
-    peaks: &mut [u32],
+    lists: &mut AllLists<'_>,
     commands: &mut [u32],
 ) -> Result<Inputs, Refusal>
-    ensures { left_inputs no_inputs result (lists starts.new totals.new counts.new sums.new times.new peaks.new) commands.new ≡ new_reply settings kinds flows.now delays.now time (lists starts.old totals.old counts.old sums.old times.old peaks.old) commands.old }
+    ensures left { left_inputs no_inputs result (lists_lent lists.new) commands.new ≡ new_reply settings kinds flows.now delays.now time (lists_lent lists.old) commands.old }
+    ensures same { SameLists lists.old lists.new }
 {
     check_settings(
         settings,
         flows.len(),
         delays.len(),
-        starts,
-        totals,
-        counts,
-        sums,
-        times,
-        peaks,
+        lists.view(),
         commands.len(),
     )?;
     if base::TIME_LIMIT < time {
@@ -202,8 +167,11 @@ pub fn new(
     let Some(all) = loading::load(blank_for(settings), flows, delays) else {
         return Err(Refusal::FlowTable);
     };
-    zero_lists(starts, totals, counts, sums, times, peaks);
+    zero_lists(lists);
     commands.fill(0);
-    let sent = start::started(all, settings.count, kinds, time, commands);
-    Ok(sent.inputs)
+    let mut sent = Commands {
+        words: commands,
+        used: 0,
+    };
+    Ok(start::started(all, settings.count, kinds, time, &mut sent))
 }

@@ -30,14 +30,12 @@ pub(crate) fn load(inputs: Inputs, bytes: &[u8], delays: &[u32]) -> Option<Input
     ensures inputs_value { (all : Inputs) → result ≡ Some all → all ≡ loaded_below (length delays.now) bytes.now delays.now inputs }
 {
     let mut all = inputs;
-    let mut k: usize = 0;
-    while k < delays.len() {
+    for (k, delay) in delays.iter().enumerate() {
         let flow = flow_of(bytes, k);
         if !inputs_flows::has_room(all, flow) {
             return None;
         }
-        all = load_one(all, flow, delays[k]);
-        k += 1;
+        all = load_one(all, flow, *delay);
     }
     Some(all)
 }

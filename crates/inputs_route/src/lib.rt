@@ -3,14 +3,15 @@
 
 ghost use Rattle.std.specs.Prelude.{◌≡◌};
 ghost use Rattle.refusals.specs.Numbers.{number_in};
-ghost use Rattle.rules_record.specs.Lent.{lists};
+ghost use Rattle.rules_record.specs.Lending.{lists_lent, lists_seen, SameLists};
 ghost use Rattle.rules_record.specs.Reply.{left_inputs};
 ghost use Rattle.rules_calls.specs.RouteChecks.{wanted_fits, route_number};
 ghost use Rattle.rules_calls.specs.RouteReply.{route_reply};
 
+use inputs_commands::Commands;
 use refusals::Refusal;
 use rules_calls::Source;
-use rules_record::Inputs;
+use rules_record::{AllLists, AllView, Inputs};
 use rules_routing::World;
 
 mod steps;
@@ -20,11 +21,7 @@ mod steps;
 fn wanted_fits(inputs: Inputs, wanted: Option<Source>) -> bool
     ensures { result ≡ wanted_fits inputs wanted }
 {
-    let Some(source) = wanted else {
-        return true;
-    };
-    let flow = source.flow;
-    inputs_flows::has_room(inputs, flow)
+    wanted.is_none_or(|source| inputs_flows::has_room(inputs, source.flow))
 }
 
 fn check_route(
@@ -33,19 +30,12 @@ fn check_route(
     wanted: Option<Source>,
     time: u64,
     world: World,
-    starts: &[u64],
-    totals: &[u64],
-    counts: &[u32],
-    sums: &[u64],
-    times: &[u64],
-    peaks: &[u32],
+    lists: AllView<'_>,
     words: usize,
 ) -> Result<(), Refusal>
-    ensures { number_in result ≡ route_number inputs (lists starts.now totals.now counts.now sums.now times.now peaks.now) words input wanted time world }
+    ensures { number_in result ≡ route_number inputs (lists_seen lists.entry) words input wanted time world }
 {
-    inputs_checks::check_input(
-        inputs, input, time, starts, totals, counts, sums, times, peaks, words,
-    )?;
+    inputs_checks::check_input(inputs, input, time, lists, words)?;
     if !wanted_fits(inputs, wanted) {
         return Err(Refusal::FlowTable);
     }
@@ -64,15 +54,11 @@ pub fn route(
     wanted: Option<Source>,
     time: u64,
     world: World,
-    starts: &mut [u64],
-    totals: &mut [u64],
-    counts: &mut [u32],
-    sums: &mut [u64],
-    times: &mut [u64],
-    peaks: &mut [u32],
+    lists: &mut AllLists<'_>,
     commands: &mut [u32],
 ) -> Result<Inputs, Refusal>
-    ensures { left_inputs inputs result (lists starts.new totals.new counts.new sums.new times.new peaks.new) commands.new ≡ route_reply inputs (lists starts.old totals.old counts.old sums.old times.old peaks.old) commands.old input wanted time world }
+    ensures left { left_inputs inputs result (lists_lent lists.new) commands.new ≡ route_reply inputs (lists_lent lists.old) commands.old input wanted time world }
+    ensures same { SameLists lists.old lists.new }
 {
     check_route(
         inputs,
@@ -80,12 +66,7 @@ pub fn route(
         wanted,
         time,
         world,
-        starts,
-        totals,
-        counts,
-        sums,
-        times,
-        peaks,
+        lists.view(),
         commands.len(),
     )?;
     let known = steps::enrolled_for(inputs, wanted);
@@ -96,11 +77,12 @@ pub fn route(
     if steps::equal_route(new, old) {
         return Ok(known);
     }
-    let used = steps::announce(input, new, slot, commands);
+    let mut sent = Commands {
+        words: commands,
+        used: 0,
+    };
+    steps::announce(input, new, slot, &mut sent);
     let changed = steps::routed_slot(new, time, slot);
-    let all = inputs_clear::inner::clear(
-        known, input, changed, starts, totals, counts, sums, times, peaks,
-    );
-    let sent = steps::open_for(new, input, time, world, all, commands, used);
-    Ok(sent.inputs)
+    let all = inputs_clear::inner::clear(known, input, changed, lists);
+    Ok(steps::open_for(new, input, time, world, all, &mut sent))
 }

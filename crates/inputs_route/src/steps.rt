@@ -1,13 +1,11 @@
 // The parts of the call: the route that is wanted beside the one that was, what changes in the slot, and what is sent.
-ghost use Rattle.std.specs.Prelude.{◌≡◌, ◌+◌, ◌<◌, ◌≤◌, ◌++◌, length};
-ghost use Rattle.std.proofs.lemmas.List.Edits.{sets};
-ghost use Rattle.base.specs.Limits.{counter_limit};
-ghost use Rattle.rules_record.specs.Inputs.{slot_at};
-ghost use Rattle.rules_record.specs.Commands.{Did};
+ghost use Rattle.std.specs.Prelude.{◌≡◌, ◌<◌, ◌++◌};
+ghost use Rattle.inputs_commands.specs.Sending.{Room, CanSend, CanOpen, Appends, Does};
 ghost use Rattle.rules_calls.specs.Route.{enrolled_for, route_for, equal_route, other_flow, starts_over, forgetting, zeroing, started_over, state_for, routed_slot, opened_for};
 
+use inputs_commands::{Command, Commands};
 use rules_calls::Source;
-use rules_record::{Inputs, Route, Sent, Slot, State};
+use rules_record::{Inputs, Route, Slot, State};
 use rules_routing::World;
 
 // ---- the route that is wanted
@@ -15,25 +13,16 @@ use rules_routing::World;
 pub(crate) fn enrolled_for(inputs: Inputs, wanted: Option<Source>) -> Inputs
     ensures { result ≡ enrolled_for inputs wanted }
 {
-    let Some(source) = wanted else {
-        return inputs;
-    };
-    let flow = source.flow;
-    inputs_flows::enrol(inputs, flow)
+    wanted.map_or(inputs, |source| inputs_flows::enrol(inputs, source.flow))
 }
 
 pub(crate) fn route_for(inputs: Inputs, wanted: Option<Source>) -> Option<Route>
     ensures { result ≡ route_for inputs wanted }
 {
-    let Some(source) = wanted else {
-        return None;
-    };
-    let flow = source.flow;
-    let route = Route {
+    wanted.map(|source| Route {
         domain: source.domain,
-        flow: inputs_flows::find(inputs, flow),
-    };
-    Some(route)
+        flow: inputs_flows::find(inputs, source.flow),
+    })
 }
 
 // ---- beside the route that was
@@ -41,53 +30,27 @@ pub(crate) fn route_for(inputs: Inputs, wanted: Option<Source>) -> Option<Route>
 pub(crate) fn equal_route(new: Option<Route>, old: Option<Route>) -> bool
     ensures { result ≡ equal_route new old }
 {
-    let Some(to) = new else {
-        return false;
-    };
-    let Some(from) = old else {
-        return false;
-    };
-    if to.domain != from.domain {
-        return false;
-    }
-    to.flow == from.flow
-}
-
-// Does a route to nothing take a flow away?
-fn flow_leaves(old: Option<Route>) -> bool
-    ensures { result ≡ other_flow None old }
-{
-    match old {
-        None => false,
-        Some(_) => true,
-    }
+    new.is_some() && new == old
 }
 
 // Is it another flow? The same one in another domain is not.
+#[tactic(auto, unfolding(rules_calls::specs::Route::other_flow))]
 fn other_flow(new: Option<Route>, old: Option<Route>) -> bool
     ensures { result ≡ other_flow new old }
 {
-    let Some(to) = new else {
-        return flow_leaves(old);
-    };
-    let Some(from) = old else {
-        return true;
-    };
-    to.flow != from.flow
+    match (new, old) {
+        (Some(to), Some(from)) => to.flow != from.flow,
+        (None, None) => false,
+        _ => true,
+    }
 }
 
 // Does an automatic delay start over at 0?
+#[tactic(auto, unfolding(rules_calls::specs::Route::starts_over, base::specs::Choice::both))]
 fn starts_over(new: Option<Route>, slot: Slot) -> bool
     ensures { result ≡ starts_over new slot }
 {
-    let old = slot.route;
-    if !other_flow(new, old) {
-        return false;
-    }
-    if !inputs_slots::automatic(slot) {
-        return false;
-    }
-    slot.delay != 0
+    other_flow(new, slot.route) && inputs_slots::automatic(slot) && slot.delay != 0
 }
 
 // ---- the slot
@@ -95,8 +58,12 @@ fn started_over(new: Option<Route>, time: u64, slot: Slot) -> Slot
     ensures { result ≡ started_over new time slot }
 {
     if starts_over(new, slot) {
-        let zero = inputs_slots::with_delay(slot, 0, time);
-        return inputs_slots::with_proposed(zero, None);
+        return Slot {
+            delay: 0,
+            last_set: Some(time),
+            proposed: None,
+            ..slot
+        };
     }
     slot
 }
@@ -115,40 +82,41 @@ pub(crate) fn routed_slot(new: Option<Route>, time: u64, slot: Slot) -> Slot
     ensures { result ≡ routed_slot new time slot }
 {
     let over = started_over(new, time, slot);
-    let there = inputs_slots::with_route(over, new);
-    let placed = inputs_slots::with_inode(there, None);
-    inputs_slots::with_state(placed, state_for(new))
+    Slot {
+        state: state_for(new),
+        route: new,
+        inode: None,
+        ..over
+    }
 }
 
 // ---- the commands
 // What an old route read is forgotten.
-fn forget(i: usize, old: Option<Route>, commands: &mut [u32]) -> usize
-    requires { (3 ≤ length commands.old) × (i < 16) }
-    ensures { (result ≡ length (forgetting i old)) × (commands.new ≡ sets commands.old 0 (forgetting i old)) × (length (forgetting i old) ≤ 3) }
+fn forget(i: usize, old: Option<Route>, commands: &mut Commands<'_>)
+    requires { CanSend i commands.old }
+    ensures { Appends 3 (forgetting i old) commands.old commands.new }
 {
-    let Some(_) = old else {
-        return 0;
-    };
-    inputs_commands::inner::send(commands, 0, inputs_commands::inner::CLEAR_INPUT, i, 1)
+    if old.is_some() {
+        commands.send(Command::ClearInput {
+            input: i,
+            forget: true,
+        });
+    }
 }
 
-// What is sent before the new flow opens; answers how many words.
-pub(crate) fn announce(i: usize, new: Option<Route>, slot: Slot, commands: &mut [u32]) -> usize
-    requires { (6 ≤ length commands.old) × (i < 16) }
-    ensures { (result ≡ length (forgetting i slot.route ++ zeroing i new slot)) × (commands.new ≡ sets commands.old 0 (forgetting i slot.route ++ zeroing i new slot)) × (length (forgetting i slot.route ++ zeroing i new slot) ≤ 6) }
+// What is sent before the new flow opens.
+pub(crate) fn announce(i: usize, new: Option<Route>, slot: Slot, commands: &mut Commands<'_>)
+    requires { Room 6 commands.old × (i < 16) }
+    ensures { Appends 6 (forgetting i slot.route ++ zeroing i new slot) commands.old commands.new }
 {
     let old = slot.route;
-    let used = forget(i, old, commands);
+    forget(i, old, commands);
     if starts_over(new, slot) {
-        return inputs_commands::inner::send(
-            commands,
-            used,
-            inputs_commands::inner::SET_DELAY,
-            i,
-            0,
-        );
+        commands.send(Command::SetDelay {
+            input: i,
+            samples: 0,
+        });
     }
-    used
 }
 
 // The new flow opens, where there is one.
@@ -158,14 +126,13 @@ pub(crate) fn open_for(
     time: u64,
     world: World,
     inputs: Inputs,
-    commands: &mut [u32],
-    used: usize,
-) -> Sent
-    requires { (used + 6 ≤ length commands.old) × (i < 16) × ((slot_at inputs i).reopens < counter_limit) }
-    ensures { Did 6 (opened_for new i time world inputs) result commands.old commands.new used }
+    commands: &mut Commands<'_>,
+) -> Inputs
+    requires { CanOpen inputs i commands.old }
+    ensures { Does 6 (opened_for new i time world inputs) result commands.old commands.new }
 {
-    let Some(_) = new else {
-        return Sent { inputs, used };
-    };
-    inputs_try_open::inner::try_open(inputs, i, time, world, commands, used)
+    if new.is_some() {
+        return inputs_try_open::inner::try_open(inputs, i, time, world, commands);
+    }
+    inputs
 }

@@ -21,43 +21,30 @@ const NO_LIMIT: u32 = 4_294_967_295;
 fn source_of(inputs: Inputs, to: Option<Route>) -> Option<Source>
     ensures { result ≡ source_of inputs to }
 {
-    let Some(route) = to else {
-        return None;
-    };
-    let flow = inputs_flows::flow_at(inputs, route.flow);
-    let source = Source {
-        flow,
+    let route = to?;
+    Some(Source {
+        flow: inputs_flows::flow_at(inputs, route.flow),
         domain: route.domain,
-    };
-    Some(source)
+    })
 }
 
 // 0 where the input is Unrouted.
+#[tactic(auto, using(rules_record::proofs::Derived::state_eq), unfolding(rules_calls::specs::Status::channels_shown))]
 fn channels_shown(state: State, channels: u32) -> u32
     ensures { result ≡ channels_shown state channels }
 {
-    if inputs_slots::code(state) == inputs_slots::UNROUTED {
+    if state == State::Unrouted {
         return 0;
     }
     channels
 }
 
-fn proposed_ms(proposed: Option<u32>) -> Option<f64>
-    ensures { result ≡ proposed_ms proposed }
+// A proposal, or a lag, where there is one.
+fn in_ms(samples: Option<u32>) -> Option<f64>
+    ensures lag { result ≡ lag_in_ms samples }
+    ensures proposed { result ≡ proposed_ms samples }
 {
-    let Some(delay) = proposed else {
-        return None;
-    };
-    Some(ms(delay))
-}
-
-fn lag_ms(lag: Option<u32>) -> Option<f64>
-    ensures { result ≡ lag_in_ms lag }
-{
-    let Some(samples) = lag else {
-        return None;
-    };
-    Some(ms(samples))
+    samples.map(ms)
 }
 
 // The greatest of an automatic input's peaks, which stand first in its lags.
@@ -69,7 +56,7 @@ fn worst_ms(slot: Slot, peaks: &[u32]) -> Option<f64>
         return None;
     }
     let hold = slot.hold;
-    lag_ms(delay_hold::inner::worst(peaks, hold.peaks))
+    in_ms(delay_hold::inner::worst(&peaks[..hold.peaks]))
 }
 
 // The quantiles, where all three are there.
@@ -111,7 +98,6 @@ pub(crate) fn status(
     let config = slot.config;
     let state = slot.state;
     let to = slot.route;
-    let proposed = slot.proposed;
     let extra_delay = config.extra_delay;
     let source = source_of(inputs, to);
     let window = inputs_window::inner::window_in(policy, inputs.width, slot);
@@ -119,7 +105,6 @@ pub(crate) fn status(
     let from = i * DelayHold::PLACES;
     let end = from + DelayHold::PLACES;
     let worst_lag_ms = worst_ms(slot, &peaks[from..end]);
-    let proposed_delay_ms = proposed_ms(proposed);
     InputStatus {
         state,
         source,
@@ -127,7 +112,7 @@ pub(crate) fn status(
         extra_delay,
         extra_delay_ms: ms(applied),
         effective_delay_ms: ms(policy.read_offset + applied),
-        proposed_delay_ms,
+        proposed_delay_ms: in_ms(slot.proposed),
         lag_ms: ms(slot.last_lag),
         arrival_lag_ms,
         worst_lag_ms,

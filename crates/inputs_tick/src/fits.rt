@@ -11,15 +11,11 @@ use rules_record::Inputs;
 use rules_tick::Look;
 
 // Is the applied delay at most the maximum, and has the reader at most 64 channels (check 10)?
+#[tactic(auto, unfolding(rules_tick::specs::TickChecks::look_fits, base::specs::Choice::both))]
 fn look_fits(look: Look, maximum: u32) -> bool
     ensures { result ≡ look_fits maximum look }
 {
-    if maximum < look.applied {
-        return false;
-    }
-    let world = look.world;
-    let reader = world.reader;
-    inputs_try_open::reader_fits(reader)
+    look.applied <= maximum && inputs_try_open::reader_fits(look.world.reader)
 }
 
 pub(crate) fn looks_fit(inputs: Inputs, looks: [Look; 16]) -> bool
@@ -27,13 +23,10 @@ pub(crate) fn looks_fit(inputs: Inputs, looks: [Look; 16]) -> bool
     ensures { result ≡ looks_fit inputs looks }
 {
     let policy = inputs.policy;
-    let mut i: usize = 0;
-    while i < inputs.count {
-        let look = looks[i];
-        if !look_fits(look, policy.delay_max) {
+    for look in &looks[..inputs.count] {
+        if !look_fits(*look, policy.delay_max) {
             return false;
         }
-        i += 1;
     }
     true
 }
@@ -44,14 +37,11 @@ pub(crate) fn lags_fit(inputs: Inputs, looks: [Look; 16], lags: &[u32]) -> bool
     ensures { result ≡ lags_fit inputs looks lags.now }
 {
     let mut left = lags.len();
-    let mut i: usize = 0;
-    while i < inputs.count {
-        let look = looks[i];
+    for look in &looks[..inputs.count] {
         if left < look.lags {
             return false;
         }
         left -= look.lags;
-        i += 1;
     }
     left == 0
 }
@@ -87,13 +77,10 @@ pub(crate) fn rooms_fit(
     requires { RoomsAsked inputs (length starts.now) (length totals.now) }
     ensures { (counts sums times peaks : List ℕ) → result ≡ rooms_fit inputs (lists starts.now totals.now counts sums times peaks) looks time }
 {
-    let mut i: usize = 0;
-    while i < inputs.count {
-        let look = looks[i];
+    for (i, look) in looks[..inputs.count].iter().enumerate() {
         if !room_fits(inputs, i, time, look.lags, starts, totals) {
             return false;
         }
-        i += 1;
     }
     true
 }

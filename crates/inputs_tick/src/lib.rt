@@ -4,13 +4,14 @@
 ghost use Rattle.std.specs.Prelude.{◌≡◌};
 ghost use Rattle.refusals.specs.Numbers.{number_in};
 ghost use Rattle.rules_record.specs.Sized.{Sized};
-ghost use Rattle.rules_record.specs.Lent.{lists};
+ghost use Rattle.rules_record.specs.Lending.{lists_lent, lists_seen, SameLists};
 ghost use Rattle.rules_tick.specs.TickChecks.{tick_number};
 ghost use Rattle.rules_tick.specs.TickAnswer.{told};
 ghost use Rattle.rules_tick.specs.TickLeaves.{tick_leaves};
 
+use inputs_commands::Commands;
 use refusals::Refusal;
-use rules_record::{Inputs, Output};
+use rules_record::{AllLists, AllView, Inputs, Output};
 pub use rules_tick::{Look, Ticked};
 
 mod each;
@@ -22,27 +23,13 @@ fn check_tick(
     looks: [Look; 16],
     lags: &[u32],
     time: u64,
-    starts: &[u64],
-    totals: &[u64],
-    counts: &[u32],
-    sums: &[u64],
-    times: &[u64],
-    peaks: &[u32],
+    lists: AllView<'_>,
     words: usize,
 ) -> Result<(), Refusal>
-    ensures value { number_in result ≡ tick_number inputs (lists starts.now totals.now counts.now sums.now times.now peaks.now) words looks lags.now time }
+    ensures value { number_in result ≡ tick_number inputs (lists_seen lists.entry) words looks lags.now time }
     ensures sized { Sized inputs }
 {
-    inputs_checks::check_record(
-        inputs,
-        starts,
-        totals,
-        counts,
-        sums,
-        times,
-        peaks,
-        Output::Words(words),
-    )?;
+    inputs_checks::check_record(inputs, lists, Output::Words(words))?;
     if base::TIME_LIMIT < time {
         return Err(Refusal::Time);
     }
@@ -52,7 +39,7 @@ fn check_tick(
     if !fits::lags_fit(inputs, looks, lags) {
         return Err(Refusal::Shown);
     }
-    if !fits::rooms_fit(inputs, looks, time, starts, totals) {
+    if !fits::rooms_fit(inputs, looks, time, lists.starts, lists.totals) {
         return Err(Refusal::SecondFull);
     }
     Ok(())
@@ -64,34 +51,19 @@ pub fn tick(
     looks: [Look; 16],
     lags: &[u32],
     time: u64,
-    starts: &mut [u64],
-    totals: &mut [u64],
-    counts: &mut [u32],
-    sums: &mut [u64],
-    times: &mut [u64],
-    peaks: &mut [u32],
+    lists: &mut AllLists<'_>,
     commands: &mut [u32],
 ) -> Result<Ticked, Refusal>
-    ensures { told inputs result (lists starts.new totals.new counts.new sums.new times.new peaks.new) commands.new ≡ tick_leaves inputs (lists starts.old totals.old counts.old sums.old times.old peaks.old) commands.old looks lags.now time }
+    ensures told { told inputs result (lists_lent lists.new) commands.new ≡ tick_leaves inputs (lists_lent lists.old) commands.old looks lags.now time }
+    ensures same { SameLists lists.old lists.new }
 {
-    check_tick(
-        inputs,
-        looks,
-        lags,
-        time,
-        starts,
-        totals,
-        counts,
-        sums,
-        times,
-        peaks,
-        commands.len(),
-    )?;
+    check_tick(inputs, looks, lags, time, lists.view(), commands.len())?;
     commands.fill(0);
-    let sent = each::tick_inputs(
-        inputs, looks, lags, time, starts, totals, counts, sums, times, peaks, commands,
-    );
-    let all = sent.inputs;
+    let mut sent = Commands {
+        words: commands,
+        used: 0,
+    };
+    let all = each::tick_inputs(inputs, looks, lags, time, lists, &mut sent);
     let kept = inputs_instances::prune_instances(all, None);
     let done = each::saved(kept);
     Ok(Ticked {

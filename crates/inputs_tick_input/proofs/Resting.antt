@@ -100,15 +100,15 @@ stays_by look slot none before rests = (
 
 -- ---- the loop over the inputs
 -- an input that stays is one turn
-pub turn_passed : (looks : List Look) (lags : List ℕ) (time : ℕ) (s₀ : Inputs) (l₀ : Lists) (c₀ : List ℕ) → InputsAsked s₀ l₀ looks lags time
-    → (i : ℕ) {s : Inputs} {l : Lists} {c : List ℕ} {used from : ℕ} → Turn looks lags time s₀ l₀ c₀ i s l c used from → i < s₀.count
+pub turn_passed : (looks : List Look) (lags : List ℕ) (time : ℕ) (s₀ : Inputs) (l₀ : Lists) (c₀ : List ℕ) (u₀ : ℕ) → InputsAsked s₀ l₀ looks lags time
+    → (i : ℕ) {s : Inputs} {l : Lists} {c : List ℕ} {used from : ℕ} → Turn looks lags time s₀ l₀ c₀ u₀ i s l c used from → i < s₀.count
     → {look : Look} → look ≡ look_at looks i → {slot : Slot} → slot ≡ get_or s.slots i empty_slot
     → (look.lags ≡ 0) × ((s : Inputs) (l : Lists) (i time : ℕ) → slot_at s i ≡ slot → OwnSums s l i slot → ticked_input i look [] time s l ≡ silent s l)
-    → Turn looks lags time s₀ l₀ c₀ (i + 1) s l c used from
-turn_passed looks lags time s₀ l₀ c₀ asked i {s} {l} {c} {used} {from} turn h {look} is-look {slot} is-slot stays =
+    → Turn looks lags time s₀ l₀ c₀ u₀ (i + 1) s l c used from
+turn_passed looks lags time s₀ l₀ c₀ u₀ asked i {s} {l} {c} {used} {from} turn h {look} is-look {slot} is-slot stays =
     let q : from + look.lags ≡ from = omega (arith, stays.0) in
-    subst (Turn looks lags time s₀ l₀ c₀ (i + 1) s l c used) q
-    (turn_again looks lags time s₀ l₀ c₀ asked i turn h is-look (sym stays.0) (effected_by (stays.1 s l i time here own) (effected_silent refl refl)) refl refl refl refl refl refl refl)
+    subst (Turn looks lags time s₀ l₀ c₀ u₀ (i + 1) s l c used) q
+    (turn_again looks lags time s₀ l₀ c₀ u₀ asked i turn h is-look (sym stays.0) (effected_by (stays.1 s l i time here own) (effected_silent refl refl)) refl)
   where
     here : slot_at s i ≡ slot
     here = sym (is-slot ∙ slot_in s i (omega (arith, asked.most)))

@@ -1,45 +1,39 @@
 // Over the whole record and the lists of all inputs, for the crate above, which has checked what is asked here.
-ghost use Rattle.std.specs.Prelude.{◌≡◌, ℕ, ◌+◌, ◌<◌, ◌≤◌, true, [], length};
-ghost use Rattle.base.specs.Limits.{time_limit, counter_limit};
+ghost use Rattle.std.specs.Prelude.{◌≡◌, ℕ, ◌<◌, ◌≤◌, true, [], length};
+ghost use Rattle.base.specs.Limits.{time_limit};
 ghost use Rattle.rules_record.specs.declared.Inputs.{Inputs};
 ghost use Rattle.rules_record.specs.States.{state_number};
 ghost use Rattle.rules_record.specs.Inputs.{slot_at, put_slot};
 ghost use Rattle.rules_record.specs.Sized.{Sized};
-ghost use Rattle.rules_record.specs.Commands.{Did, quiet};
+ghost use Rattle.rules_record.specs.Commands.{quiet};
 ghost use Rattle.rules_routing.specs.Watch.{moved_slot};
-ghost use Rattle.rules_record.specs.Lent.{Lists, lists};
+ghost use Rattle.rules_record.specs.Lent.{Lists};
+ghost use Rattle.rules_record.specs.Lending.{lists_lent, SameLists};
 ghost use Rattle.rules_record.specs.Facts.{OwnSums};
-ghost use Rattle.rules_record.specs.Effects.{silent, Effected};
+ghost use Rattle.rules_record.specs.Effects.{silent};
+ghost use Rattle.inputs_commands.specs.Sending.{Room, CanOpen, Does, Affects};
 ghost use Rattle.rules_tick.specs.Tick.{looked, ticked_input};
 ghost use Rattle.rules_tick.specs.TickAsked.{InputAsked};
 
+use inputs_commands::Commands;
 use inputs_watch::Found;
-use rules_record::{Inputs, Sent, Slot, State};
+use rules_record::{AllLists, Inputs, Slot, State};
 use rules_tick::Look;
 
 // A waiting input opens, a running or stalled one watches.
-fn look_at(
-    inputs: Inputs,
-    i: usize,
-    look: Look,
-    time: u64,
-    commands: &mut [u32],
-    used: usize,
-) -> Sent
-    requires { (used + 6 ≤ length commands.old) × (i < 16) × ((slot_at inputs i).reopens < counter_limit) }
-    ensures { Did 6 (looked i look time inputs) result commands.old commands.new used }
+fn look_at(inputs: Inputs, i: usize, look: Look, time: u64, commands: &mut Commands<'_>) -> Inputs
+    requires { CanOpen inputs i commands.old }
+    ensures { Does 6 (looked i look time inputs) result commands.old commands.new }
 {
     let slot = inputs_slots::slot_at(inputs, i);
     let state = slot.state;
     let world = look.world;
     match state {
-        State::Unrouted => Sent { inputs, used },
-        State::Waiting => {
-            inputs_try_open::inner::try_open(inputs, i, time, world, commands, used)
-        }
+        State::Unrouted => inputs,
+        State::Waiting => { inputs_try_open::inner::try_open(inputs, i, time, world, commands) }
         State::Running | State::Stalled => {
             let seen = look.seen;
-            inputs_watch::inner::watch(inputs, i, time, seen, world, commands, used)
+            inputs_watch::inner::watch(inputs, i, time, seen, world, commands)
         }
     }
 }
@@ -48,12 +42,10 @@ fn look_at(
 fn rests(slot: Slot, look: Look) -> bool
     ensures { result ≡ true → (state_number slot.state < 2) × ((s : Inputs) (i time : ℕ) → slot_at s i ≡ slot → looked i look time s ≡ quiet s) }
 {
-    let state = slot.state;
-    let code = inputs_slots::code(state);
-    if inputs_slots::RUNNING <= code {
+    if State::Waiting < slot.state {
         return false;
     }
-    if code != inputs_slots::WAITING {
+    if slot.state != State::Waiting {
         return true;
     }
     let world = look.world;
@@ -81,9 +73,7 @@ pub fn stays(slot: Slot, look: Look) -> bool
 fn moves(slot: Slot, look: Look) -> bool
     ensures { result ≡ true → ((s : Inputs) (i time : ℕ) → slot_at s i ≡ slot → looked i look time s ≡ quiet (put_slot s i (moved_slot slot look.world.head time))) }
 {
-    let state = slot.state;
-    let code = inputs_slots::code(state);
-    if code < inputs_slots::RUNNING {
+    if slot.state < State::Running {
         return false;
     }
     let to = slot.route;
@@ -104,23 +94,16 @@ pub fn tick_input(
     look: Look,
     lags: &[u32],
     time: u64,
-    starts: &mut [u64],
-    totals: &mut [u64],
-    counts: &mut [u32],
-    sums: &mut [u64],
-    times: &mut [u64],
-    peaks: &mut [u32],
-    commands: &mut [u32],
-    used: usize,
-) -> Sent
+    lists: &mut AllLists<'_>,
+    commands: &mut Commands<'_>,
+) -> Inputs
     requires sized { Sized inputs × (time ≤ time_limit) }
-    requires input_asked { InputAsked inputs (lists starts.old totals.old counts.old sums.old times.old peaks.old) i look (length lags.now) time }
-    requires used_in_bounds { used + 9 ≤ length commands.old }
-    ensures { Effected 9 (ticked_input i look lags.now time inputs (lists starts.old totals.old counts.old sums.old times.old peaks.old)) result (lists starts.new totals.new counts.new sums.new times.new peaks.new) commands.old commands.new used }
+    requires input_asked { InputAsked inputs (lists_lent lists.old) i look (length lags.now) time }
+    requires used_in_bounds { Room 9 commands.old }
+    ensures affects { Affects 9 (ticked_input i look lags.now time inputs (lists_lent lists.old)) result (lists_lent lists.new) commands.old commands.new }
+    ensures same { SameLists lists.old lists.new }
 {
-    let arrived = inputs_auto_delay::inner::arrive(
-        inputs, i, lags, time, starts, totals, counts, sums,
-    );
+    let arrived = inputs_auto_delay::inner::arrive(inputs, i, lags, time, lists);
     let max_lag = inputs_auto_delay::inner::max_lag(lags);
     let policy = inputs.policy;
     let heard = inputs_auto_delay::inner::late_event(policy, arrived, look.applied, max_lag);
@@ -128,22 +111,14 @@ pub fn tick_input(
     before.slots[i] = heard;
     // Most inputs wait for their flow or see their head move: their record goes through no function that opens or watches.
     if rests(heard, look) {
-        return Sent {
-            inputs: before,
-            used,
-        };
+        return before;
     }
     if moves(heard, look) {
         let world = look.world;
         let moved = inputs_watch::moved(heard, world.head, time);
         before.slots[i] = moved;
-        return inputs_auto_delay::inner::auto_delay(
-            before, i, max_lag, time, starts, sums, times, peaks, commands, used,
-        );
+        return inputs_auto_delay::inner::auto_delay(before, i, max_lag, time, lists, commands);
     }
-    let seen = look_at(before, i, look, time, commands, used);
-    let all = seen.inputs;
-    inputs_auto_delay::inner::auto_delay(
-        all, i, max_lag, time, starts, sums, times, peaks, commands, seen.used,
-    )
+    let seen = look_at(before, i, look, time, commands);
+    inputs_auto_delay::inner::auto_delay(seen, i, max_lag, time, lists, commands)
 }

@@ -13,38 +13,35 @@ pub mod inner;
 pub fn reader_fits(reader: Option<u32>) -> bool
     ensures { result ≡ reader_fits reader }
 {
-    let Some(channels) = reader else {
-        return true;
-    };
-    channels <= 64
+    reader.is_none_or(|channels| channels <= 64)
 }
 
 // The time of the SetInput, inode and head are stored. A stalled input is still stalled until the head moves again.
 fn running(slot: Slot, inode: u64, head: u64, time: u64) -> Slot
     ensures { result ≡ running_slot slot inode head time }
 {
-    let told = inputs_slots::with_last_input(slot, time);
-    let placed = inputs_slots::with_inode(told, Some(inode));
-    let state = slot.state;
-    if inputs_slots::code(state) == inputs_slots::STALLED {
-        return inputs_slots::with_head(placed, head, slot.head_changed);
+    let placed = Slot {
+        inode: Some(inode),
+        last_head: head,
+        last_input: Some(time),
+        ..slot
+    };
+    if slot.state == State::Stalled {
+        return placed;
     }
-    let runs = inputs_slots::with_state(placed, State::Running);
-    inputs_slots::with_head(runs, head, time)
+    Slot {
+        state: State::Running,
+        head_changed: time,
+        ..placed
+    }
 }
 
 // Does an input that opens start at the delay that its flow had last?
+#[tactic(auto, using(rules_record::proofs::Derived::state_eq), unfolding(rules_routing::specs::TryOpen::starts_anew, base::specs::Choice::both))]
 fn starts(slot: Slot) -> bool
     ensures { result ≡ starts_anew slot }
 {
-    if !inputs_slots::automatic(slot) {
-        return false;
-    }
-    let state = slot.state;
-    if inputs_slots::code(state) != inputs_slots::WAITING {
-        return false;
-    }
-    slot.delay == 0
+    inputs_slots::automatic(slot) && slot.state == State::Waiting && slot.delay == 0
 }
 
 // The delay is the seed of the input's hold.
@@ -52,8 +49,9 @@ fn seed(inputs: Inputs, i: usize, delay: u32, time: u64) -> Inputs
     ensures { result ≡ seeded_at i delay time inputs }
 {
     let slot = inputs_slots::slot_at(inputs, i);
-    let hold = slot.hold;
-    let seeded = delay_hold::inner::seed(hold, delay, time);
-    let changed = inputs_slots::with_hold(slot, seeded);
+    let changed = Slot {
+        hold: delay_hold::inner::seed(slot.hold, delay, time),
+        ..slot
+    };
     inputs_slots::put_slot(inputs, i, changed)
 }

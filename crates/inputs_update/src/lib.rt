@@ -3,7 +3,7 @@
 
 ghost use Rattle.std.specs.Prelude.{◌≡◌};
 ghost use Rattle.refusals.specs.Numbers.{number_in};
-ghost use Rattle.rules_record.specs.Lent.{lists};
+ghost use Rattle.rules_record.specs.Lending.{lists_lent, lists_seen, SameLists};
 ghost use Rattle.rules_calls.specs.Update.{kind_of};
 ghost use Rattle.rules_calls.specs.UpdateChecks.{manual_fits, kind_fits, desk_limit, desk_fits, manual_number, update_number};
 ghost use Rattle.rules_record.specs.Reply.{left_inputs};
@@ -11,7 +11,7 @@ ghost use Rattle.rules_calls.specs.UpdateReply.{update_reply, confirm_reply};
 
 use refusals::Refusal;
 use rules_calls::DelaySetting;
-use rules_record::{ExtraDelay, Inputs};
+use rules_record::{AllLists, AllView, ExtraDelay, Inputs};
 
 mod steps;
 
@@ -23,10 +23,7 @@ const DESK_REACH: u32 = 2_400;
 fn manual_fits(delay: f64, maximum: u32) -> bool
     ensures { result ≡ manual_fits delay maximum }
 {
-    if delay >= 0.0 {
-        return delay <= doubles::ms(maximum);
-    }
-    false
+    delay >= 0.0 && delay <= doubles::ms(maximum)
 }
 
 fn kind_fits(kind: ExtraDelay, maximum: u32) -> bool
@@ -49,8 +46,7 @@ fn desk_fits(setting: DelaySetting, maximum: u32) -> bool
     ensures { result ≡ desk_fits setting maximum }
 {
     match setting {
-        DelaySetting::Auto(_) => true,
-        DelaySetting::Ms(_) => true,
+        DelaySetting::Auto(_) | DelaySetting::Ms(_) => true,
         DelaySetting::Desk(delay) => delay <= doubles::ms(desk_limit(maximum)),
     }
 }
@@ -84,19 +80,12 @@ fn check_update(
     input: usize,
     setting: DelaySetting,
     time: u64,
-    starts: &[u64],
-    totals: &[u64],
-    counts: &[u32],
-    sums: &[u64],
-    times: &[u64],
-    peaks: &[u32],
+    lists: AllView<'_>,
     words: usize,
 ) -> Result<(), Refusal>
-    ensures { number_in result ≡ update_number inputs (lists starts.now totals.now counts.now sums.now times.now peaks.now) words input setting time }
+    ensures { number_in result ≡ update_number inputs (lists_seen lists.entry) words input setting time }
 {
-    inputs_checks::check_input(
-        inputs, input, time, starts, totals, counts, sums, times, peaks, words,
-    )?;
+    inputs_checks::check_input(inputs, input, time, lists, words)?;
     let policy = inputs.policy;
     check_manual(setting, policy.delay_max)
 }
@@ -108,36 +97,18 @@ pub fn update(
     input: usize,
     setting: DelaySetting,
     time: u64,
-    starts: &mut [u64],
-    totals: &mut [u64],
-    counts: &mut [u32],
-    sums: &mut [u64],
-    times: &mut [u64],
-    peaks: &mut [u32],
+    lists: &mut AllLists<'_>,
     commands: &mut [u32],
 ) -> Result<Inputs, Refusal>
-    ensures { left_inputs inputs result (lists starts.new totals.new counts.new sums.new times.new peaks.new) commands.new ≡ update_reply inputs (lists starts.old totals.old counts.old sums.old times.old peaks.old) commands.old input setting time }
+    ensures left { left_inputs inputs result (lists_lent lists.new) commands.new ≡ update_reply inputs (lists_lent lists.old) commands.old input setting time }
+    ensures same { SameLists lists.old lists.new }
 {
-    check_update(
-        inputs,
-        input,
-        setting,
-        time,
-        starts,
-        totals,
-        counts,
-        sums,
-        times,
-        peaks,
-        commands.len(),
-    )?;
+    check_update(inputs, input, setting, time, lists.view(), commands.len())?;
     let kind = kind_of(setting);
     let slot = steps::with_kind(inputs_slots::slot_at(inputs, input), kind);
     let ExtraDelay::Ms(delay) = kind else {
         commands.fill(0);
-        return Ok(inputs_clear::inner::clear(
-            inputs, input, slot, starts, totals, counts, sums, times, peaks,
-        ));
+        return Ok(inputs_clear::inner::clear(inputs, input, slot, lists));
     };
     Ok(steps::delay_set(inputs, input, slot, doubles::samples(delay), time, commands))
 }
@@ -147,28 +118,12 @@ pub fn confirm_delay(
     inputs: Inputs,
     input: usize,
     time: u64,
-    starts: &[u64],
-    totals: &[u64],
-    counts: &[u32],
-    sums: &[u64],
-    times: &[u64],
-    peaks: &[u32],
+    lists: AllView<'_>,
     commands: &mut [u32],
 ) -> Result<Inputs, Refusal>
-    ensures { left_inputs inputs result (lists starts.now totals.now counts.now sums.now times.now peaks.now) commands.new ≡ confirm_reply inputs (lists starts.now totals.now counts.now sums.now times.now peaks.now) commands.old input time }
+    ensures { left_inputs inputs result (lists_seen lists.entry) commands.new ≡ confirm_reply inputs (lists_seen lists.entry) commands.old input time }
 {
-    inputs_checks::check_input(
-        inputs,
-        input,
-        time,
-        starts,
-        totals,
-        counts,
-        sums,
-        times,
-        peaks,
-        commands.len(),
-    )?;
+    inputs_checks::check_input(inputs, input, time, lists, commands.len())?;
     let slot = inputs_slots::slot_at(inputs, input);
     let proposed = slot.proposed;
     let Some(delay) = proposed else {

@@ -5,6 +5,7 @@ ghost use Rattle.base.specs.Lists.{padded};
 ghost use Rattle.rules_calls.specs.Update.{kind_stored, delay_set};
 ghost use Rattle.rules_calls.specs.ConfirmDelay.{taken};
 
+use inputs_commands::Commands;
 use rules_record::{ExtraDelay, InputConfig, Inputs, Slot};
 
 // The kind is stored, the proposal goes.
@@ -12,8 +13,11 @@ pub(crate) fn with_kind(slot: Slot, kind: ExtraDelay) -> Slot
     ensures { result ≡ kind_stored slot kind }
 {
     let config = InputConfig { extra_delay: kind };
-    let stored = inputs_slots::with_config(slot, config);
-    inputs_slots::with_proposed(stored, None)
+    Slot {
+        config,
+        proposed: None,
+        ..slot
+    }
 }
 
 // The proposal is taken: one delay change more.
@@ -21,8 +25,11 @@ pub(crate) fn taken(slot: Slot) -> Slot
     requires { slot.delay_changes < counter_limit }
     ensures { result ≡ taken slot }
 {
-    let rest = inputs_slots::with_proposed(slot, None);
-    inputs_slots::with_delay_changes(rest, slot.delay_changes + 1)
+    Slot {
+        proposed: None,
+        delay_changes: slot.delay_changes + 1,
+        ..slot
+    }
 }
 
 // Input i has this slot, and then its delay is set; the whole list of commands is written.
@@ -39,6 +46,9 @@ pub(crate) fn delay_set(
 {
     commands.fill(0);
     let all = inputs_slots::put_slot(inputs, i, slot);
-    let sent = inputs_set_delay::inner::set_delay(all, i, delay, time, commands, 0);
-    sent.inputs
+    let mut sent = Commands {
+        words: commands,
+        used: 0,
+    };
+    inputs_set_delay::inner::set_delay(all, i, delay, time, &mut sent)
 }

@@ -1,14 +1,11 @@
 -- What `watch` does by what it finds is `watch_of`. Assumes nothing.
 use Rattle.std.specs.Prelude.{◌≡◌, ℕ, Bool, true, false, eqb, None, Option, Some}
 use mathlib.Core.Path.{refl, sym, ap, ◌∙◌}
-use borrow.Author.Tests.{eq-eqb, ne_eqb}
 use Rattle.base.specs.Choice.{pick}
-use Rattle.base.proofs.Choices.{yes_pick, no_pick}
+use Rattle.base.proofs.Choices.{no_pick}
 use Rattle.rules_record.specs.declared.Slot.{Slot}
 use Rattle.rules_record.specs.declared.Route.{Route}
 use Rattle.rules_record.specs.declared.Inputs.{Inputs}
-use Rattle.rules_record.specs.declared.State.TheVariants.{Stalled}
-use Rattle.rules_record.specs.Slots.{with_state}
 use Rattle.rules_record.specs.Inputs.{slot_at, put_slot}
 use Rattle.rules_record.specs.Commands.{clear_input, quiet, send_first}
 use Rattle.rules_routing.specs.declared.World.{World}
@@ -18,26 +15,8 @@ use Rattle.inputs_watch.specs.declared.Found.{Found}
 use Rattle.inputs_watch.specs.declared.Found.TheVariants.{Lost, Created, Moved, Still}
 use Rattle.inputs_watch.specs.WatchInPlace.{found_by, watch_found}
 
--- ---- what is found, by the tests
-module _ (last head : ℕ) {to : Option Route} {seen stored : Option ℕ} {route : Route} {inode mine : ℕ} (is-to : to ≡ Some route) (is_seen : seen ≡ Some inode) (is-stored : stored ≡ Some mine) where
-  tested : found_by to seen stored last head ≡ pick (eqb mine inode) (pick (eqb head last) Still Moved) Created
-  tested = λ t. found_by (is-to t) (is_seen t) (is-stored t) last head
-
-  pub other_found : (mine ≡ inode → ⊥) → Created ≡ found_by to seen stored last head
-  other_found other = sym (tested ∙ no_pick _ _ (ne_eqb _ _ other))
-
-  module _ (same : mine ≡ inode) where
-    pub moved_found : (head ≡ last → ⊥) → Moved ≡ found_by to seen stored last head
-    moved_found moved = sym (tested ∙ yes_pick _ _ (eq-eqb _ _ same) ∙ no_pick _ _ (ne_eqb _ _ moved))
-
-    pub still_found : head ≡ last → Still ≡ found_by to seen stored last head
-    still_found still = sym (tested ∙ yes_pick _ _ (eq-eqb _ _ same) ∙ yes_pick _ _ (eq-eqb _ _ still))
-
 -- ---- what is done then
 module _ (slot : Slot) (s : Inputs) (i time : ℕ) (world : World) where
-  pub still_stalls : stalls_now slot time s.stall ≡ true → {stalled : Slot} {all : Inputs} → stalled ≡ with_state slot Stalled → all ≡ put_slot s i stalled → watch_found Still slot s i time world ≡ try_open_of all i time world
-  still_stalls h e f = yes_pick _ _ h ∙ ap (λ (z : Inputs). try_open_of z i time world) (sym (f ∙ ap (put_slot s i) e))
-
   pub still_stays : stalls_now slot time s.stall ≡ false → watch_found Still slot s i time world ≡ quiet s
   still_stays h = no_pick _ _ h
 

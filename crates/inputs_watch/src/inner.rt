@@ -1,23 +1,27 @@
 // `watch` over the whole record. Inner functions: they ask for room for two commands, and that reopens can be counted.
-ghost use Rattle.std.specs.Prelude.{◌≡◌, ◌+◌, ◌<◌, ◌≤◌, length};
+ghost use Rattle.std.specs.Prelude.{◌≡◌, ◌<◌};
 ghost use Rattle.base.specs.Limits.{counter_limit};
-ghost use Rattle.rules_record.specs.Inputs.{slot_at};
-ghost use Rattle.rules_record.specs.Commands.{Did};
+ghost use Rattle.inputs_commands.specs.Sending.{CanOpen, Does};
 ghost use Rattle.rules_routing.specs.Watch.{lost_slot, watch_of};
 ghost use Rattle.inputs_watch.specs.declared.Found.TheVariants.{Still};
 ghost use Rattle.inputs_watch.specs.WatchInPlace.{watch_found};
 
 use super::Found;
-use rules_record::{Inputs, Sent, Slot, State};
+use inputs_commands::{Command, Commands};
+use rules_record::{Inputs, Slot, State};
 use rules_routing::World;
 
 // The flow is gone: the input waits for it.
+#[tactic(auto, unfolding(rules_routing::specs::Watch::lost_slot))]
 fn lost(slot: Slot) -> Slot
     requires { slot.reopens < counter_limit }
     ensures { result ≡ lost_slot slot }
 {
-    let waits = inputs_slots::with_state(slot, State::Waiting);
-    inputs_slots::with_reopens(waits, slot.reopens + 1)
+    Slot {
+        state: State::Waiting,
+        reopens: slot.reopens + 1,
+        ..slot
+    }
 }
 
 // The head stands still. The flow may have been re-created under the same inode: after `stall` it is opened again once.
@@ -27,18 +31,20 @@ fn watch_still(
     slot: Slot,
     time: u64,
     world: World,
-    commands: &mut [u32],
-    used: usize,
-) -> Sent
-    requires { (used + 6 ≤ length commands.old) × (i < 16) × ((slot_at inputs i).reopens < counter_limit) × (slot.reopens < counter_limit) }
-    ensures { Did 6 (watch_found Still slot inputs i time world) result commands.old commands.new used }
+    commands: &mut Commands<'_>,
+) -> Inputs
+    requires { CanOpen inputs i commands.old × (slot.reopens < counter_limit) }
+    ensures { Does 6 (watch_found Still slot inputs i time world) result commands.old commands.new }
 {
     if crate::stalls(slot, time, inputs.stall) {
-        let stalled = inputs_slots::with_state(slot, State::Stalled);
+        let stalled = Slot {
+            state: State::Stalled,
+            ..slot
+        };
         let all = inputs_slots::put_slot(inputs, i, stalled);
-        return inputs_try_open::inner::try_open(all, i, time, world, commands, used);
+        return inputs_try_open::inner::try_open(all, i, time, world, commands);
     }
-    Sent { inputs, used }
+    inputs
 }
 
 // `seen` is the inode that `watch` sees, the world is what `try_open` would see.
@@ -48,41 +54,30 @@ pub fn watch(
     time: u64,
     seen: Option<u64>,
     world: World,
-    commands: &mut [u32],
-    used: usize,
-) -> Sent
-    requires { (used + 6 ≤ length commands.old) × (i < 16) × ((slot_at inputs i).reopens < counter_limit) }
-    ensures { Did 6 (watch_of inputs i time seen world) result commands.old commands.new used }
+    commands: &mut Commands<'_>,
+) -> Inputs
+    requires { CanOpen inputs i commands.old }
+    ensures { Does 6 (watch_of inputs i time seen world) result commands.old commands.new }
 {
     let slot = inputs_slots::slot_at(inputs, i);
     let to = slot.route;
     let stored = slot.inode;
     let found = crate::finds(to, seen, stored, slot.last_head, world.head);
     match found {
-        Found::Unwatched => Sent { inputs, used },
+        Found::Unwatched => inputs,
         Found::Lost => {
-            let next = inputs_commands::inner::send(
-                commands,
-                used,
-                inputs_commands::inner::CLEAR_INPUT,
-                i,
-                0,
-            );
+            commands.send(Command::ClearInput {
+                input: i,
+                forget: false,
+            });
             let waits = lost(slot);
-            let all = inputs_slots::put_slot(inputs, i, waits);
-            Sent {
-                inputs: all,
-                used: next,
-            }
+            inputs_slots::put_slot(inputs, i, waits)
         }
-        Found::Created => {
-            inputs_try_open::inner::try_open(inputs, i, time, world, commands, used)
-        }
+        Found::Created => { inputs_try_open::inner::try_open(inputs, i, time, world, commands) }
         Found::Moved => {
             let moved = crate::moved(slot, world.head, time);
-            let all = inputs_slots::put_slot(inputs, i, moved);
-            Sent { inputs: all, used }
+            inputs_slots::put_slot(inputs, i, moved)
         }
-        Found::Still => watch_still(inputs, i, slot, time, world, commands, used),
+        Found::Still => watch_still(inputs, i, slot, time, world, commands),
     }
 }

@@ -29,6 +29,7 @@ pub fn finds(
 ) -> Found
     ensures { result ≡ found_by to seen stored last_head head }
 {
+    // These are the form that document 01 names.
     let Some(_) = to else {
         return Found::Unwatched;
     };
@@ -51,21 +52,24 @@ pub fn finds(
 pub fn moved(slot: Slot, head: u64, time: u64) -> Slot
     ensures { result ≡ moved_slot slot head time }
 {
-    let seen = inputs_slots::with_head(slot, head, time);
-    let state = slot.state;
-    if inputs_slots::code(state) == inputs_slots::STALLED {
-        return inputs_slots::with_state(seen, State::Running);
+    let seen = Slot {
+        last_head: head,
+        head_changed: time,
+        ..slot
+    };
+    if slot.state == State::Stalled {
+        return Slot {
+            state: State::Running,
+            ..seen
+        };
     }
     seen
 }
 
 // Has a running input had the same head for at least `stall`?
+#[tactic(auto, using(rules_record::proofs::Derived::state_eq), unfolding(rules_routing::specs::Watch::stalls_now, base::specs::Choice::both))]
 fn stalls(slot: Slot, time: u64, stall: u64) -> bool
     ensures { result ≡ stalls_now slot time stall }
 {
-    let state = slot.state;
-    if inputs_slots::code(state) != inputs_slots::RUNNING {
-        return false;
-    }
-    stall <= time.saturating_sub(slot.head_changed)
+    slot.state == State::Running && stall <= time.saturating_sub(slot.head_changed)
 }

@@ -1,25 +1,28 @@
 // The window of input j, on its part of the lists of all inputs. These functions ask something of their caller, who has made the checks.
+// Each cuts its parts itself: a part is followed back to its list only where its two ends are written beside it.
 ghost use Rattle.std.specs.Prelude.{◌≡◌, ◌+◌, ◌*◌, ◌≤◌, true, [], length};
 ghost use Rattle.base.specs.Lists.{part, patched};
 ghost use Rattle.base.specs.Rows.{span_of};
 ghost use Rattle.base.specs.Limits.{time_limit, width_limit, buckets_limit};
-ghost use Rattle.policy.specs.Settings.{Sound};
+ghost use Rattle.policy.specs.Settings as settings;
 ghost use Rattle.rules_window.specs.Window.{cleared, pushed_all};
 ghost use Rattle.lag_window.specs.Lent.{lent};
-ghost use Rattle.inputs_window.specs.Windows.{window_in};
-ghost use Rattle.rules_window.specs.WholeWindow.{whole_window, whole_with_sums};
-ghost use Rattle.rules_window.specs.Checks.{room_for};
+ghost use Rattle.rules_record.specs.Lending.{lists_lent, lists_seen, SameLists};
+ghost use Rattle.inputs_window.specs.Windows.{window_in, all_windows};
+ghost use Rattle.rules_window.specs.WholeWindow.{whole_window, whole_with_sums, Shaped};
+ghost use Rattle.rules_window.specs.Checks.{room_for, CanPush};
 ghost use Rattle.rules_window.specs.Quantile.{found, quantile_upto, Placeable};
 ghost use Rattle.rules_window.specs.ColumnSums.{column_sums, as_one_second};
 ghost use Rattle.rules_window.specs.Parts.{part_of, placed, PartsIn};
 
 use lag_window::LagWindow;
 use policy::DelayPolicy;
-use rules_record::Slot;
+use rules_record::{AllLists, AllView, Slot};
+use rules_window::{WindowLists, WindowView};
 
 // The window of the input with this slot. The record itself is not handed on: it would be copied for each input.
 pub fn window_in(policy: DelayPolicy, width: u32, slot: Slot) -> LagWindow
-    requires { Sound policy × (1 ≤ width) }
+    requires { settings.Sound policy × (1 ≤ width) }
     ensures { result ≡ window_in policy width slot }
 {
     let buckets = buckets::inner::buckets_of(policy.read_offset, policy.delay_max, width);
@@ -31,17 +34,10 @@ pub fn window_in(policy: DelayPolicy, width: u32, slot: Slot) -> LagWindow
 }
 
 // Whether the window of input j is whole and its sums are right (check 6).
-pub fn whole(
-    window: LagWindow,
-    j: usize,
-    starts: &[u64],
-    totals: &[u64],
-    counts: &[u32],
-    sums: &[u64],
-) -> bool
-    requires parts_in { PartsIn j (lent window starts.now totals.now counts.now) }
-    requires buckets_in_bounds { j * window.buckets + window.buckets ≤ length sums.now }
-    ensures { result ≡ whole_with_sums (part_of j (lent window starts.now totals.now counts.now)) (part (j * window.buckets) window.buckets sums.now) }
+pub fn whole(window: LagWindow, j: usize, lists: AllView<'_>) -> bool
+    requires parts_in { PartsIn j (all_windows window (lists_seen lists)) }
+    requires buckets_in_bounds { j * window.buckets + window.buckets ≤ length lists.sums.now }
+    ensures { result ≡ whole_with_sums (part_of j (all_windows window (lists_seen lists.entry))) (part (j * window.buckets) window.buckets lists.entry.sums.now) }
 {
     let a = j * LagWindow::SECONDS;
     let e = a + LagWindow::SECONDS;
@@ -51,13 +47,13 @@ pub fn whole(
     let to = from + n;
     let first = j * buckets;
     let last = first + buckets;
-    lag_window::inner::whole(
-        window,
-        &starts[a..e],
-        &totals[a..e],
-        &counts[from..to],
-        &sums[first..last],
-    )
+    let own = WindowView {
+        starts: &lists.starts[a..e],
+        totals: &lists.totals[a..e],
+        counts: &lists.counts[from..to],
+        sums: &lists.sums[first..last],
+    };
+    lag_window::inner::whole(window, own)
 }
 
 // The newest total of input j takes these lags (check 11).
@@ -73,8 +69,31 @@ pub fn room(
     ensures { result ≡ room_for time lags (part_of j (lent window starts.now totals.now [])) }
 {
     let a = j * LagWindow::SECONDS;
-    let e = a + LagWindow::SECONDS;
-    lag_window::inner::room(window.seconds, time, lags, &starts[a..e], &totals[a..e])
+    let e = a + window.seconds;
+    lag_window::inner::room(&starts[a..e], &totals[a..e], time, lags)
+}
+
+// The lags of one tick are pushed to a window, on its own lists. These come singly: a part that goes straight into a struct is not followed back to its list.
+fn push_own(
+    window: LagWindow,
+    lags: &[u32],
+    time: u64,
+    starts: &mut [u64],
+    totals: &mut [u64],
+    counts: &mut [u32],
+    sums: &mut [u64],
+) -> LagWindow
+    requires { CanPush time (length lags.now) (lent window starts.old totals.old counts.old) sums.old }
+    ensures counts_after { lent result starts.new totals.new counts.new ≡ pushed_all time lags.now (lent window starts.old totals.old counts.old) }
+    ensures sums_after { sums.new ≡ column_sums (pushed_all time lags.now (lent window starts.old totals.old counts.old)) }
+{
+    let mut own = WindowLists {
+        starts,
+        totals,
+        counts,
+        sums,
+    };
+    lag_window::inner::push_all(window, lags, time, &mut own)
 }
 
 // The lags of one tick are pushed to the window of input j.
@@ -83,19 +102,19 @@ pub fn push_all(
     j: usize,
     lags: &[u32],
     time: u64,
-    starts: &mut [u64],
-    totals: &mut [u64],
-    counts: &mut [u32],
-    sums: &mut [u64],
+    lists: &mut AllLists<'_>,
 ) -> LagWindow
-    requires parts_in { PartsIn j (lent window starts.old totals.old counts.old) }
-    requires buckets_in_bounds { j * window.buckets + window.buckets ≤ length sums.old }
-    requires counts_value { whole_window (part_of j (lent window starts.old totals.old counts.old)) ≡ true }
-    requires sums_value { part (j * window.buckets) window.buckets sums.old ≡ column_sums (part_of j (lent window starts.old totals.old counts.old)) }
+    requires parts_in { PartsIn j (all_windows window (lists_lent lists.old)) }
+    requires buckets_in_bounds { j * window.buckets + window.buckets ≤ length lists.old.sums.now }
+    requires counts_value { whole_window (part_of j (all_windows window (lists_lent lists.old))) ≡ true }
+    requires sums_value { part (j * window.buckets) window.buckets lists.old.sums.now ≡ column_sums (part_of j (all_windows window (lists_lent lists.old))) }
     requires time_le_time_limit { time ≤ time_limit }
-    requires counts_value_2 { room_for time (length lags.now) (part_of j (lent window starts.old totals.old counts.old)) ≡ true }
-    ensures counts_after { lent result starts.new totals.new counts.new ≡ placed j (pushed_all time lags.now (part_of j (lent window starts.old totals.old counts.old))) (lent window starts.old totals.old counts.old) }
-    ensures sums_after { sums.new ≡ patched (j * window.buckets) window.buckets (column_sums (pushed_all time lags.now (part_of j (lent window starts.old totals.old counts.old)))) sums.old }
+    requires counts_value_2 { room_for time (length lags.now) (part_of j (all_windows window (lists_lent lists.old))) ≡ true }
+    ensures counts_after { all_windows result (lists_lent lists.new) ≡ placed j (pushed_all time lags.now (part_of j (all_windows window (lists_lent lists.old)))) (all_windows window (lists_lent lists.old)) }
+    ensures sums_after { lists.new.sums.now ≡ patched (j * window.buckets) window.buckets (column_sums (pushed_all time lags.now (part_of j (all_windows window (lists_lent lists.old))))) lists.old.sums.now }
+    ensures times_kept { lists.new.times.now ≡ lists.old.times.now }
+    ensures peaks_kept { lists.new.peaks.now ≡ lists.old.peaks.now }
+    ensures same { SameLists lists.old lists.new }
 {
     let a = j * LagWindow::SECONDS;
     let e = a + LagWindow::SECONDS;
@@ -105,30 +124,48 @@ pub fn push_all(
     let to = from + n;
     let first = j * buckets;
     let last = first + buckets;
-    lag_window::inner::push_all(
+    push_own(
         window,
         lags,
         time,
-        &mut starts[a..e],
-        &mut totals[a..e],
-        &mut counts[from..to],
-        &mut sums[first..last],
+        &mut lists.starts[a..e],
+        &mut lists.totals[a..e],
+        &mut lists.counts[from..to],
+        &mut lists.sums[first..last],
     )
 }
 
-// The window of input j is cleared.
-pub fn clear(
+// A window is cleared, on its own lists, which come singly as to `push_own`.
+fn clear_own(
     window: LagWindow,
-    j: usize,
     starts: &mut [u64],
     totals: &mut [u64],
     counts: &mut [u32],
     sums: &mut [u64],
 ) -> LagWindow
-    requires parts_in { PartsIn j (lent window starts.old totals.old counts.old) }
-    requires buckets_in_bounds { j * window.buckets + window.buckets ≤ length sums.old }
-    ensures counts_after { lent result starts.new totals.new counts.new ≡ placed j (cleared (part_of j (lent window starts.old totals.old counts.old))) (lent window starts.old totals.old counts.old) }
-    ensures sums_after { sums.new ≡ patched (j * window.buckets) window.buckets (column_sums (cleared (part_of j (lent window starts.old totals.old counts.old)))) sums.old }
+    requires shaped { Shaped (lent window starts.old totals.old counts.old) }
+    requires sums_len { length sums.old ≡ window.buckets }
+    ensures counts_after { lent result starts.new totals.new counts.new ≡ cleared (lent window starts.old totals.old counts.old) }
+    ensures sums_after { sums.new ≡ column_sums (cleared (lent window starts.old totals.old counts.old)) }
+{
+    let mut own = WindowLists {
+        starts,
+        totals,
+        counts,
+        sums,
+    };
+    lag_window::inner::emptied(window, &mut own)
+}
+
+// The window of input j is cleared.
+pub fn clear(window: LagWindow, j: usize, lists: &mut AllLists<'_>) -> LagWindow
+    requires parts_in { PartsIn j (all_windows window (lists_lent lists.old)) }
+    requires buckets_in_bounds { j * window.buckets + window.buckets ≤ length lists.old.sums.now }
+    ensures counts_after { all_windows result (lists_lent lists.new) ≡ placed j (cleared (part_of j (all_windows window (lists_lent lists.old)))) (all_windows window (lists_lent lists.old)) }
+    ensures sums_after { lists.new.sums.now ≡ patched (j * window.buckets) window.buckets (column_sums (cleared (part_of j (all_windows window (lists_lent lists.old))))) lists.old.sums.now }
+    ensures times_kept { lists.new.times.now ≡ lists.old.times.now }
+    ensures peaks_kept { lists.new.peaks.now ≡ lists.old.peaks.now }
+    ensures same { SameLists lists.old lists.new }
 {
     let a = j * LagWindow::SECONDS;
     let e = a + LagWindow::SECONDS;
@@ -138,12 +175,12 @@ pub fn clear(
     let to = from + n;
     let first = j * buckets;
     let last = first + buckets;
-    lag_window::inner::emptied(
+    clear_own(
         window,
-        &mut starts[a..e],
-        &mut totals[a..e],
-        &mut counts[from..to],
-        &mut sums[first..last],
+        &mut lists.starts[a..e],
+        &mut lists.totals[a..e],
+        &mut lists.counts[from..to],
+        &mut lists.sums[first..last],
     )
 }
 

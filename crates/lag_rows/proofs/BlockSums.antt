@@ -1,9 +1,9 @@
 -- A row summed by blocks of 64 buckets, whose sums are kept. Assumes nothing.
-use Rattle.std.proofs.Common.{◌≡◌, ℕ, ◌+◌, ◌-◌, ◌*◌, ◌/◌, ◌<◌, ◌≤◌, List, length, take, drop, get_or, set, sum, le_antisymm, sym, refl, ap, ◌∙◌, ⊎_elim, eq-or-lt_of_le, zero-add, arith, get_or-set_other, get_or-set_same, length-take}
+use Rattle.std.proofs.Common.{◌≡◌, ℕ, ◌+◌, ◌-◌, ◌*◌, ◌/◌, ◌<◌, ◌≤◌, List, length, take, drop, get_or, set, sum, le_antisymm, refl, ap, ◌∙◌, zero-add, arith, length-take}
 use lib.Seq.{get_or-take}
 use Rattle.base.specs.Lists.{sum_from}
 use Rattle.rules_window.proofs.Sums.{from_split}
-use Rattle.lag_rows.proofs.Parts.{part_sum}
+use Rattle.lag_rows.proofs.Parts.{part_sum, set_next}
 use Rattle.lag_rows.specs.Blocks.{Blocks}
 
 -- the first i blocks
@@ -16,23 +16,18 @@ module _ (us : List ℕ) where
 
   pub kept_more : (i v : ℕ) (xs : List ℕ) → Kept i us xs → i < length xs → v ≡ sum_from (64 * i) 64 us → Kept (i + 1) us (set xs i v)
   kept_more i v xs h l ev =
-      record {
-        at = λ j k. ⊎_elim
-            (λ (z : j ≡ i). ap (λ (y : ℕ). get_or (set xs i v) y 0) z ∙ (get_or-set_same xs i v 0 l ∙ (ev ∙ ap (λ (y : ℕ). sum_from (64 * y) 64 us) (sym z))))
-            (λ g. get_or-set_other xs i j v 0 (λ z. omega arith) ∙ h.at j g)
-            (eq-or-lt_of_le (omega arith));
-      }
+      record { at = set_next (λ j. sum_from (64 * j) 64 us) i v xs h.at l ev }
 
   pub kept_end : (i m : ℕ) (xs : List ℕ) → Kept i us xs → m / 64 ≤ i → Blocks m us xs
   kept_end i m xs h l = record { at = λ j k. h.at j (omega arith) }
 
   -- a block that was kept, of the whole ones among the first m numbers
-  module _ (i b m n : ℕ) (xs : List ℕ) (h : Blocks n us xs) (em : m ≡ n) (e : b ≡ 64 * i) (l : i < length (take (m / 64) xs)) where
-    pub kept_in : b + 64 ≤ m
+  module _ (i m n : ℕ) (xs : List ℕ) (h : Blocks n us xs) (em : m ≡ n) (l : i < length (take (m / 64) xs)) where
+    pub kept_in : 64 * i + 64 ≤ m
     kept_in = omega (arith, length-take (m / 64) xs)
 
-    pub kept_at : get_or (take (m / 64) xs) i 0 ≡ sum_from b 64 us
-    kept_at = get_or-take (m / 64) xs i 0 (omega (arith, length-take (m / 64) xs)) ∙ (h.at i (omega (arith, kept_in)) ∙ ap (λ (y : ℕ). sum_from y 64 us) (sym e))
+    pub kept_at : get_or (take (m / 64) xs) i 0 ≡ sum_from (64 * i) 64 us
+    kept_at = get_or-take (m / 64) xs i 0 (omega (arith, length-take (m / 64) xs)) ∙ h.at i (omega (arith, kept_in))
 
   -- ---- the sum of a block, of the numbers after the whole blocks, and of all up to there
   pub block_sum : (i m : ℕ) → i < m / 64 → m ≤ length us → sum (take (64 * i + 64 - 64 * i) (drop (64 * i) us)) ≡ sum_from (64 * i) 64 us

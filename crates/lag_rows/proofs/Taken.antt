@@ -1,5 +1,5 @@
 -- Rows taken off the sums, as the loops go. Assumes nothing.
-use Rattle.std.proofs.Common.{◌≡◌, ℕ, ◌+◌, ◌-◌, ◌*◌, ◌<◌, ◌≤◌, List, length, get_or, set, sym, refl, ap, ◌∙◌, le_antisymm, arith}
+use Rattle.std.proofs.Common.{◌≡◌, ℕ, ◌+◌, ◌-◌, ◌*◌, ◌<◌, ◌≤◌, List, length, get_or, set, sym, refl, ap, ◌∙◌, arith}
 use Rattle.base.proofs.All.{sum_more}
 use Rattle.base.proofs.Listed.{listed_length, listed_at}
 use Rattle.base.proofs.Toward.{toward, toward_ahead, toward_more, toward_all}
@@ -38,6 +38,3 @@ module _ (B : ℕ) (cs us : List ℕ) where
         sum_more (λ q. get_or cs (q * B + b) 0) r _ _ refl refl,
         sum_rises (λ q. get_or cs (q * B + b) 0) (r + 1) k (omega arith),
       )
-
-  pub less_end : (k r : ℕ) (xs : List ℕ) → xs ≡ less_rows B r cs us → r ≤ k → k ≤ r → xs ≡ less_rows B k cs us
-  less_end k r xs e l m = rw (← le_antisymm l m) e

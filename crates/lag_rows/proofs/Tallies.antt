@@ -1,11 +1,12 @@
 -- Sums of all rows and columns at once in 32 bits, as the loops go, and where they are the sums themselves. Assumes nothing.
-use Rattle.std.proofs.Common.{◌≡◌, ℕ, ◌+◌, ◌*◌, ◌%◌, ◌<◌, ◌≤◌, Bool, true, false, ◌&&◌, eqb, leb, List, [], length, get_or, set, replicate, sym, refl, ap, ◌∙◌, ⊎_elim, le_antisymm, eq-or-lt_of_le, add-one, arith, get_or-set_other, get_or-set_same, w64, Fits, eq-eqb, ne_eqb, le-leb}
+use Rattle.std.proofs.Common.{◌≡◌, ℕ, ◌+◌, ◌*◌, ◌%◌, ◌<◌, ◌≤◌, Bool, true, false, ◌&&◌, eqb, leb, List, [], length, get_or, set, replicate, sym, refl, ap, ◌∙◌, ⊎_elim, le_antisymm, eq-or-lt_of_le, add-one, arith, w64, Fits, eq-eqb, ne_eqb, le-leb}
 use borrow.Author.Tests.{lt-leb}
 use lib.Bits.{bit_or, bit_xor}
+use Rattle.std.proofs.lemmas.Nat.{le_or_l, le_or_r}
 use Rattle.base.specs.Choice.{pick, both}
 use Rattle.base.specs.Limits.{buckets_limit}
 use Rattle.base.specs.Lists.{all, sum_from, row_sum, sum}
-use Rattle.base.proofs.All.{all_none, all_more, all_stop, all_end, from_none, from_more, or_zero, le_or, le_or_second, both_no, both_yes}
+use Rattle.base.proofs.All.{all_none, all_more, all_stop, all_end, from_none, from_more, or_zero, both_no, both_yes}
 use Rattle.base.proofs.Choices.{by_le}
 use Rattle.base.proofs.Differ.{xor_same}
 use Rattle.base.proofs.Flat.{flat_lt}
@@ -19,6 +20,7 @@ use Rattle.rules_window.specs.Quantile.{column}
 use Rattle.rules_window.specs.ColumnSums.{right_sums}
 use Rattle.rules_window.proofs.Reaching.{column_none, column_more}
 use Rattle.rules_window.proofs.Sums.{sum_bound}
+use Rattle.lag_rows.proofs.Parts.{set_next}
 use Rattle.lag_rows.specs.Tallies.{row_places, rows_to, Covered, Columns, alike, alike_to, totals_are}
 
 -- ---- a sum modulo 2^32 and one number more
@@ -26,29 +28,16 @@ wraps : (s v r x : ℕ) → s ≡ x % 4294967296 → r ≡ (s + v) % 4294967296 
 wraps s v r x e h = omega arith
 
 -- ---- where the rows begin
-module _ (B : ℕ) where
-  places_long : length (row_places B) ≡ 11
+module _ (B r b : ℕ) (xs : List ℕ) (e : xs ≡ row_places B) (l : r < 11) (h : b < B) where
+  pub place_is : get_or xs r 0 + b ≡ r * B + b
   unfolding row_places
-  places_long = listed_length _ 11
+  place_is = ap (λ (y : ℕ). y + b) (ap (λ (y : List ℕ). get_or y r 0) e ∙ listed_at _ 11 r l)
 
-  module _ (r : ℕ) (xs s : List ℕ) (long : length s ≡ 11) (e : xs ≡ toward (row_places B) s r) where
-    pub places_next : r < 11 → set xs r (r * B) ≡ toward (row_places B) s (r + 1)
-    unfolding row_places
-    places_next l = rw e (toward_more (row_places B) s (places_long ∙ sym long) r (r * B) (rw long l) (listed_at _ 11 r l))
+  pub place_in : get_or xs r 0 + b < 11 * B
+  place_in = rw place_is (flat_lt r 11 B b l h)
 
-    pub places_end : 11 ≤ r → xs ≡ row_places B
-    places_end l = e ∙ toward_all (row_places B) s (places_long ∙ sym long) r (rw long l)
-
-  module _ (r b : ℕ) (xs : List ℕ) (e : xs ≡ row_places B) (l : r < 11) (h : b < B) where
-    pub place_is : get_or xs r 0 + b ≡ r * B + b
-    unfolding row_places
-    place_is = ap (λ (y : ℕ). y + b) (ap (λ (y : List ℕ). get_or y r 0) e ∙ listed_at _ 11 r l)
-
-    pub place_in : get_or xs r 0 + b < 11 * B
-    place_in = rw place_is (flat_lt r 11 B b l h)
-
-    pub place_fits : B ≤ buckets_limit → Fits w64 (get_or xs r 0 + b)
-    place_fits k = omega (arith, place_in)
+  pub place_fits : B ≤ buckets_limit → Fits w64 (get_or xs r 0 + b)
+  place_fits k = omega (arith, place_in)
 
 -- ---- one column: each count goes to its row and to the column
 module _ (B b : ℕ) (cs : List ℕ) where
@@ -57,9 +46,6 @@ module _ (B b : ℕ) (cs : List ℕ) where
 
   pub sum_next : (r s x v : ℕ) → s ≡ column B b r cs % 4294967296 → x ≡ get_or cs (r * B + b) 0 → v ≡ (s + x) % 4294967296 → v ≡ column B b (r + 1) cs % 4294967296
   sum_next r s x v e h w = wraps s x v (column B b r cs) e w ∙ ap (λ (y : ℕ). y % 4294967296) (column_more B b cs r (column B b r cs) x refl h)
-
-  pub sum_end : (r s : ℕ) → s ≡ column B b r cs % 4294967296 → r ≤ 11 → 11 ≤ r → s ≡ column B b 11 cs % 4294967296
-  sum_end r s e l m = rw (← le_antisymm l m) e
 
   rows_long : (k : ℕ) → length (rows_to B k cs) ≡ 11
   unfolding rows_to
@@ -100,8 +86,8 @@ module _ (B b : ℕ) (cs : List ℕ) where
   pub passed_next : (r bits x : ℕ) → Passed B b r bits cs → x ≡ get_or cs (r * B + b) 0 → Passed B b (r + 1) (bit_or bits x) cs
   passed_next r bits x h e =
       record {
-        before = record { at = λ q i l k. omega (arith, h.before.at q i l k, le_or bits x) };
-        at = λ q l. ⊎_elim (λ (z : q ≡ r). omega (arith, le_or_second bits x, ap (λ (y : ℕ). get_or cs (y * B + b) 0) z)) (λ k. omega (arith, h.at q k, le_or bits x)) (eq-or-lt_of_le (omega arith));
+        before = record { at = λ q i l k. omega (arith, h.before.at q i l k, le_or_l bits x) };
+        at = λ q l. ⊎_elim (λ (z : q ≡ r). omega (arith, le_or_r bits x, ap (λ (y : ℕ). get_or cs (y * B + b) 0) z)) (λ k. omega (arith, h.at q k, le_or_l bits x)) (eq-or-lt_of_le (omega arith));
       }
 
   pub passed_end : (r bits : ℕ) → Passed B b r bits cs → 11 ≤ r → Covered B (b + 1) bits cs
@@ -110,26 +96,12 @@ module _ (B b : ℕ) (cs : List ℕ) where
 
 -- ---- k columns from a bucket on
 module _ (B from : ℕ) (cs : List ℕ) where
-  pub rows_done : (k i : ℕ) (rows : List ℕ) → rows ≡ rows_to B (from + i) cs → i ≤ k → k ≤ i → rows ≡ rows_to B (from + k) cs
-  rows_done k i rows e l m = rw (← le_antisymm l m) e
-
-  pub covered_done : (k i bits : ℕ) → Covered B (from + i) bits cs → i ≤ k → k ≤ i → Covered B (from + k) bits cs
-  covered_done k i bits h l m = rw (← le_antisymm l m) h
-
   pub columns_none : (xs : List ℕ) → Columns B from 0 cs xs
   columns_none xs = record { at = λ i l. absurd (omega arith) }
 
   pub columns_next : (i v : ℕ) (xs : List ℕ) → Columns B from i cs xs → i < length xs → v ≡ column B (from + i) 11 cs % 4294967296 → Columns B from (i + 1) cs (set xs i v)
   columns_next i v xs h l e =
-      record {
-        at = λ j k. ⊎_elim
-            (λ (z : j ≡ i). ap (λ (y : ℕ). get_or (set xs i v) y 0) z ∙ (get_or-set_same xs i v 0 l ∙ (e ∙ ap (λ (y : ℕ). column B (from + y) 11 cs % 4294967296) (sym z))))
-            (λ g. get_or-set_other xs i j v 0 (λ z. omega arith) ∙ h.at j g)
-            (eq-or-lt_of_le (omega arith));
-      }
-
-  pub columns_end : (k i : ℕ) (xs : List ℕ) → Columns B from i cs xs → i ≤ k → k ≤ i → Columns B from k cs xs
-  columns_end k i xs h l m = rw (← le_antisymm l m) h
+      record { at = set_next (λ j. column B (from + j) 11 cs % 4294967296) i v xs h.at l e }
 
 -- ---- columns compared with the sums
 module _ (from : ℕ) (xs us : List ℕ) where
@@ -149,9 +121,6 @@ module _ (from : ℕ) (xs us : List ℕ) where
       nested true true = refl
       nested true false = refl
       nested false rest = refl
-
-  pub alike_end : (k i wrong bits : ℕ) → eqb bits 0 ≡ both (eqb wrong 0) (alike from i xs us) → i ≤ k → k ≤ i → eqb bits 0 ≡ both (eqb wrong 0) (alike from k xs us)
-  alike_end k i wrong bits e l m = rw (← le_antisymm l m) e
 
 -- ---- blocks of columns
 module _ (B : ℕ) (cs : List ℕ) where
@@ -173,6 +142,15 @@ module _ (B : ℕ) (cs us : List ℕ) where
       w
       ∙ (rw e (ap (both (all (λ i. eqb (get_or us i 0) (column B i 11 cs % 4294967296)) b)) (all_cong _ _ k (λ i l. ap (eqb (get_or us (b + i) 0)) (h.at i l))))
       ∙ sym (all_split (λ i. eqb (get_or us i 0) (column B i 11 cs % 4294967296)) b k))
+
+-- all buckets are summed
+pub record Summed (B : ℕ) (cs us rows : List ℕ) (bits wrong : ℕ) : Type 0 where
+  pub covered : Covered B B bits cs
+  pub each_row : rows ≡ rows_to B B cs
+  pub alike : eqb wrong 0 ≡ alike_to B B cs us
+
+pub all_summed : (B b : ℕ) (cs us rows : List ℕ) (bits wrong : ℕ) → b ≡ B → Covered B b bits cs → rows ≡ rows_to B b cs → eqb wrong 0 ≡ alike_to B b cs us → Summed B cs us rows bits wrong
+all_summed B b cs us rows bits wrong e h f g = record { covered = rw e at h; each_row = rw e at f; alike = rw e at g }
 
 -- ---- totals compared with rows
 module _ (rows ts : List ℕ) where

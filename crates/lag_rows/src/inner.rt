@@ -12,6 +12,7 @@ ghost use Rattle.lag_rows.specs.Tallies.{row_places, rows_to, Covered, Columns, 
 ghost use Rattle.lag_rows.specs.Blocks.{Blocks};
 
 use base::blank;
+use rules_window::WindowView;
 
 // The seconds that a window has room for, and the most lags that one of them counts.
 pub const SECONDS: usize = 11;
@@ -22,32 +23,28 @@ pub const MOST: u64 = 4_294_967_295;
 const BLOCK: usize = 512;
 
 // ---- rows and columns one by one, in 64 bits
-// The sum of n counts from a on.
-fn long_sum(s: &[u32], a: usize, n: usize) -> u64
-    requires { (a + n ≤ length s.now) × (n ≤ buckets_limit) }
-    ensures { (result ≡ sum_from a n s.now) × (result ≤ n * 4294967295) }
+// The sum of a row.
+fn long_sum(row: &[u32]) -> u64
+    requires { length row.now ≤ buckets_limit }
+    ensures { result ≡ sum row.now }
 {
-    let mut total: u64 = 0;
-    for x in &s[a..a + n] {
-        total += u64::from(*x);
-    }
-    total
+    row.iter().map(|x| u64::from(*x)).sum()
 }
 
-// Row sums equal to totals up to 4,294,967,295, in all 11 rows.
+// Row sums equal to totals up to 4,294,967,295, in all 11 rows. A loop: a closure would have to be told that i is a row.
 fn long_rows(buckets: usize, totals: &[u64], counts: &[u32]) -> bool
     requires { (buckets ≤ buckets_limit) × (length totals.now ≡ 11) × (length counts.now ≡ 11 * buckets) }
     ensures { result ≡ summed 11 buckets totals.now counts.now }
 {
     for (i, total) in totals.iter().enumerate() {
-        if MOST < *total || long_sum(counts, i * buckets, buckets) != *total {
+        if MOST < *total || long_sum(&counts[i * buckets..i * buckets + buckets]) != *total {
             return false;
         }
     }
     true
 }
 
-// The lags of bucket b in the 11 rows.
+// The lags of bucket b in the 11 rows. Column by column, here and below: a count stands at r · B + b, so its place is counted.
 fn long_column(counts: &[u32], buckets: usize, b: usize) -> u64
     requires { (b < buckets) × (length counts.now ≡ 11 * buckets) }
     ensures { (result ≡ column buckets b 11 counts.now) × (result ≤ 47244640245) }
@@ -59,7 +56,7 @@ fn long_column(counts: &[u32], buckets: usize, b: usize) -> u64
     total
 }
 
-// Each sum is that of its bucket in the 11 rows.
+// Each sum is that of its bucket in the 11 rows. A loop, as in `long_rows`.
 fn long_columns(buckets: usize, counts: &[u32], sums: &[u64]) -> bool
     requires { (length counts.now ≡ 11 * buckets) × (length sums.now ≡ buckets) }
     ensures { result ≡ right_sums (windowed 11 buckets 0 [] [] counts.now) sums.now }
@@ -73,23 +70,43 @@ fn long_columns(buckets: usize, counts: &[u32], sums: &[u64]) -> bool
 }
 
 // ---- all rows and columns at once, in 32 bits
-// Where each of the 11 rows begins. A caller makes this list and lends it to `right`: a loop over the buckets then reads every row by a pointer of its own and computes no address.
-pub fn row_places(buckets: usize, places: &mut [usize])
-    requires { (buckets ≤ buckets_limit) × (length places.old ≡ 11) }
-    ensures { places.new ≡ row_places buckets }
+// Where each of the 11 rows begins. A caller makes this and lends it to `right`: a loop over the buckets then reads every row by a pointer of its own and computes no address.
+#[derive(Clone, Copy)]
+pub struct RowPlaces {
+    places: [usize; SECONDS],
+    pub buckets: usize,
+    ghost begin: { places ≡ row_places buckets },
+    ghost few: { buckets ≤ buckets_limit },
+}
+
+pub fn row_places(buckets: usize) -> RowPlaces
+    requires { buckets ≤ buckets_limit }
+    ensures { result.buckets ≡ buckets }
 {
-    for (r, place) in places.iter_mut().enumerate() {
-        *place = r * buckets;
+    RowPlaces {
+        places: [
+            0,
+            buckets,
+            2 * buckets,
+            3 * buckets,
+            4 * buckets,
+            5 * buckets,
+            6 * buckets,
+            7 * buckets,
+            8 * buckets,
+            9 * buckets,
+            10 * buckets,
+        ],
+        buckets,
     }
 }
 
 // Where bucket b of row r stands.
-fn place(places: &[usize], buckets: usize, r: usize, b: usize) -> usize
-    requires r_bound { (r < 11) × (b < buckets) × (buckets ≤ buckets_limit) × (length places.now ≡ 11) }
-    requires places_value { places.now ≡ row_places buckets }
-    ensures { (result ≡ r * buckets + b) × (result < 11 * buckets) }
+fn place(places: &RowPlaces, r: usize, b: usize) -> usize
+    requires { (r < 11) × (b < places.now.buckets) }
+    ensures { (result ≡ r * places.now.buckets + b) × (result < 11 * places.now.buckets) }
 {
-    places[r] + b
+    places.places[r] + b
 }
 
 // The sum of a column modulo 2^32, and the bits of all counts passed, joined: no count is larger.
@@ -100,26 +117,18 @@ struct Column {
 }
 
 // Bucket b of the 11 rows: each count is added to its row's sum and to the column's.
-fn add_column(
-    rows: &mut [u32],
-    bits: u32,
-    places: &[usize],
-    buckets: usize,
-    b: usize,
-    counts: &[u32],
-) -> Column
-    requires b_lt_buckets { (b < buckets) × (buckets ≤ buckets_limit) × (length counts.now ≡ 11 * buckets) × (length rows.old ≡ 11) }
-    requires places_len { (length places.now ≡ 11) × (places.now ≡ row_places buckets) }
-    requires rows_value { rows.old ≡ rows_to buckets b counts.now }
-    requires covered { Covered buckets b bits counts.now }
-    ensures rows_after { rows.new ≡ rows_to buckets (b + 1) counts.now }
-    ensures covered_2 { Covered buckets (b + 1) result.bits counts.now }
-    ensures sum_value { result.sum ≡ column buckets b 11 counts.now % 4294967296 }
+fn add_column(rows: &mut [u32], bits: u32, places: &RowPlaces, b: usize, counts: &[u32]) -> Column
+    requires b_lt_buckets { (b < places.now.buckets) × (length counts.now ≡ 11 * places.now.buckets) × (length rows.old ≡ 11) }
+    requires rows_value { rows.old ≡ rows_to places.now.buckets b counts.now }
+    requires covered { Covered places.now.buckets b bits counts.now }
+    ensures rows_after { rows.new ≡ rows_to places.now.buckets (b + 1) counts.now }
+    ensures covered_2 { Covered places.now.buckets (b + 1) result.bits counts.now }
+    ensures sum_value { result.sum ≡ column places.now.buckets b 11 counts.now % 4294967296 }
 {
     let mut sum: u32 = 0;
     let mut joined = bits;
     for r in 0..SECONDS {
-        let x = counts[place(places, buckets, r, b)];
+        let x = counts[place(places, r, b)];
         rows[r] = rows[r].wrapping_add(x);
         sum = sum.wrapping_add(x);
         joined |= x;
@@ -127,35 +136,33 @@ fn add_column(
     Column { sum, bits: joined }
 }
 
-// The k buckets from `from` on. No number of 64 bits stands in this loop, so that the compiler may take four buckets at once.
+// The k buckets from `from` on, which are no part of a list: they stand in each of the rows. No number of 64 bits stands in this loop, so that the compiler may take four buckets at once.
 fn add_columns(
     rows: &mut [u32],
     columns: &mut [u32],
     bits: u32,
-    places: &[usize],
-    buckets: usize,
+    places: &RowPlaces,
     from: usize,
     k: usize,
     counts: &[u32],
 ) -> u32
-    requires k_bound { (from + k ≤ buckets) × (buckets ≤ buckets_limit) × (length counts.now ≡ 11 * buckets) × (length rows.old ≡ 11) × (k ≤ length columns.old) }
-    requires places_len { (length places.now ≡ 11) × (places.now ≡ row_places buckets) }
-    requires rows_value { rows.old ≡ rows_to buckets from counts.now }
-    requires covered { Covered buckets from bits counts.now }
-    ensures rows_after { rows.new ≡ rows_to buckets (from + k) counts.now }
-    ensures covered_2 { Covered buckets (from + k) result counts.now }
-    ensures columns { Columns buckets from k counts.now columns.new }
+    requires k_bound { (from + k ≤ places.now.buckets) × (length counts.now ≡ 11 * places.now.buckets) × (length rows.old ≡ 11) × (k ≤ length columns.old) }
+    requires rows_value { rows.old ≡ rows_to places.now.buckets from counts.now }
+    requires covered { Covered places.now.buckets from bits counts.now }
+    ensures rows_after { rows.new ≡ rows_to places.now.buckets (from + k) counts.now }
+    ensures covered_2 { Covered places.now.buckets (from + k) result counts.now }
+    ensures columns { Columns places.now.buckets from k counts.now columns.new }
 {
     let mut joined = bits;
     for i in 0..k {
-        let column = add_column(rows, joined, places, buckets, from + i, counts);
+        let column = add_column(rows, joined, places, from + i, counts);
         columns[i] = column.sum;
         joined = column.bits;
     }
     joined
 }
 
-// The bits in which k columns differ from the sums, joined to those of the columns before.
+// The bits in which k columns differ from the sums from `from` on, joined to those of the columns before.
 fn differing(columns: &[u32], from: usize, k: usize, wrong: u64, sums: &[u64]) -> u64
     requires { (k ≤ length columns.now) × (from + k ≤ length sums.now) }
     ensures { (result == 0) ≡ both (wrong == 0) (alike from k columns.now sums.now) }
@@ -167,13 +174,13 @@ fn differing(columns: &[u32], from: usize, k: usize, wrong: u64, sums: &[u64]) -
     joined
 }
 
-// Each row's sum is its total.
-fn totals_are(rows: &[u32], totals: &[u64]) -> bool
-    requires { (length rows.now ≡ 11) × (length totals.now ≡ 11) }
+// Each row's sum is its total. By its index: two iterators side by side cost each check of a window more.
+fn totals_are(rows: &[u32; SECONDS], totals: &[u64]) -> bool
+    requires { length totals.now ≡ 11 }
     ensures { result ≡ totals_are 11 rows.now totals.now }
 {
-    for (i, total) in totals.iter().enumerate() {
-        if u64::from(rows[i]) != *total {
+    for r in 0..SECONDS {
+        if u64::from(rows[r]) != totals[r] {
             return false;
         }
     }
@@ -182,44 +189,36 @@ fn totals_are(rows: &[u32], totals: &[u64]) -> bool
 
 // Row sums equal to totals, and column sums to the sums: one pass reads each count once, and the 11 of a bucket side by side.
 // 11 counts below 2^20 have a sum below 2^24, and 4,096 one below 2^32, so that sums of 32 bits have not wrapped; else those of 64 bits are taken.
-fn sums_right(
-    buckets: usize,
-    places: &[usize],
-    totals: &[u64],
-    counts: &[u32],
-    sums: &[u64],
-) -> bool
-    requires buckets_le_buckets_limit { (buckets ≤ buckets_limit) × (length totals.now ≡ 11) × (length counts.now ≡ 11 * buckets) × (length sums.now ≡ buckets) }
-    requires places_len { (length places.now ≡ 11) × (places.now ≡ row_places buckets) }
-    ensures { result ≡ tallies_right buckets totals.now counts.now sums.now }
+fn sums_right(places: &RowPlaces, lists: WindowView<'_>) -> bool
+    requires { (length lists.totals.now ≡ 11) × (length lists.counts.now ≡ 11 * places.now.buckets) × (length lists.sums.now ≡ places.now.buckets) }
+    ensures { result ≡ tallies_right places.now.buckets lists.entry.totals.now lists.entry.counts.now lists.entry.sums.now }
 {
+    let buckets = places.buckets;
     let mut rows = [0u32; SECONDS];
     let mut columns = [0u32; BLOCK];
     let mut bits: u32 = 0;
     let mut wrong: u64 = 0;
-    let mut b = 0;
-    while b < buckets {
+    for b in (0..buckets).step_by(BLOCK) {
         let k = BLOCK.min(buckets - b);
-        bits = add_columns(&mut rows, &mut columns, bits, places, buckets, b, k, counts);
-        wrong = differing(&columns, b, k, wrong, sums);
-        b += k;
+        bits = add_columns(&mut rows, &mut columns, bits, places, b, k, lists.counts);
+        wrong = differing(&columns, b, k, wrong, lists.sums);
     }
     if bits < 1_048_576 {
-        return wrong == 0 && totals_are(&rows, totals);
+        return wrong == 0 && totals_are(&rows, lists.totals);
     }
-    long_rows(buckets, totals, counts) && long_columns(buckets, counts, sums)
+    long_rows(buckets, lists.totals, lists.counts)
+        && long_columns(buckets, lists.counts, lists.sums)
 }
 
 // Row sums equal to totals up to 4,294,967,295, and each sum that of its bucket, over all 11 rows. Where all totals are zero nothing is added.
-pub fn right(buckets: usize, places: &[usize], totals: &[u64], counts: &[u32], sums: &[u64]) -> bool
-    requires buckets_nonzero { (0 < buckets) × (buckets ≤ buckets_limit) × (length totals.now ≡ 11) × (length counts.now ≡ 11 * buckets) × (length sums.now ≡ buckets) }
-    requires places_len { (length places.now ≡ 11) × (places.now ≡ row_places buckets) }
-    ensures { result ≡ tallies_right buckets totals.now counts.now sums.now }
+pub fn right(places: &RowPlaces, lists: WindowView<'_>) -> bool
+    requires { (0 < places.now.buckets) × (length lists.totals.now ≡ 11) × (length lists.counts.now ≡ 11 * places.now.buckets) × (length lists.sums.now ≡ places.now.buckets) }
+    ensures { result ≡ tallies_right places.now.buckets lists.entry.totals.now lists.entry.counts.now lists.entry.sums.now }
 {
-    if blank(totals, 0) {
-        return blank(counts, 0) && blank(sums, 0);
+    if blank(lists.totals, 0) {
+        return blank(lists.counts, 0) && blank(lists.sums, 0);
     }
-    sums_right(buckets, places, totals, counts, sums)
+    sums_right(places, lists)
 }
 
 // ---- seconds go
@@ -262,17 +261,28 @@ fn edge(b: usize, width: u32) -> u32
     (b as u32) * width
 }
 
-// How many buckets start at most at limit.
-fn shown(buckets: usize, width: u32, limit: u32) -> usize
-    requires { 1 ≤ width }
-    ensures { result ≡ min buckets (limit / width + 1) }
-{
-    buckets.min((limit / width) as usize + 1)
+// A row of sums, of which the buckets that start at most at limit are counted: in these are at most 11 full seconds of lags.
+#[derive(Clone, Copy)]
+struct SumsUpto<'a> {
+    limit: u32,
+    width: u32,
+    buckets: usize,
+    sums: &'a [u64],
+    ghost shape: { (1 ≤ width) × (buckets ≤ buckets_limit) × (length sums.now ≡ buckets) },
+    ghost few: { running limit width buckets 1 sums.now buckets ≤ 47244640245 },
 }
 
-// The sum of the first m numbers, of which there are at most 4,096: 64 blocks of 64. The sums of the whole blocks are kept, for the search.
-fn add_blocks(m: usize, sums: &[u64], blocks: &mut [u64]) -> u64
-    requires m_in_bounds { (m ≤ length sums.now) × (m ≤ buckets_limit) × (length blocks.old ≡ 64) }
+// How many buckets are counted.
+fn shown(row: SumsUpto<'_>) -> usize
+    ensures { result ≡ min row.entry.buckets (row.entry.limit / row.entry.width + 1) }
+{
+    row.buckets.min((row.limit / row.width) as usize + 1)
+}
+
+// The sum of the first m numbers, of which there are at most 4,096: 64 blocks of 64. The sums of the whole blocks are kept, for the search, each in its place.
+// m, and not the part up to it: what is said of the blocks is said of the list as it is lent.
+fn add_blocks(m: usize, sums: &[u64], blocks: &mut [u64; 64]) -> u64
+    requires m_in_bounds { (m ≤ length sums.now) × (m ≤ buckets_limit) }
     requires sums_bound { sum_from 0 m sums.now ≤ 47244640245 }
     ensures value { result ≡ sum_from 0 m sums.now }
     ensures blocks { Blocks m sums.now blocks.new }
@@ -287,36 +297,23 @@ fn add_blocks(m: usize, sums: &[u64], blocks: &mut [u64]) -> u64
     all + total(&sums[64 * whole..m])
 }
 
-// The lags in buckets that start at most at limit, and their blocks.
-fn total_upto(buckets: usize, width: u32, limit: u32, sums: &[u64], blocks: &mut [u64]) -> u64
-    requires le_width { (1 ≤ width) × (buckets ≤ buckets_limit) × (length sums.now ≡ buckets) × (length blocks.old ≡ 64) }
-    requires buckets_bound { running limit width buckets 1 sums.now buckets ≤ 47244640245 }
-    ensures value { result ≡ running limit width buckets 1 sums.now buckets }
-    ensures blocks { Blocks (min buckets (limit / width + 1)) sums.now blocks.new }
+// The lags in the buckets that are counted, and their blocks.
+fn total_upto(row: SumsUpto<'_>, blocks: &mut [u64; 64]) -> u64
+    ensures value { result ≡ running row.entry.limit row.entry.width row.entry.buckets 1 row.entry.sums.now row.entry.buckets }
+    ensures blocks { Blocks (min row.entry.buckets (row.entry.limit / row.entry.width + 1)) row.entry.sums.now blocks.new }
 {
-    let m = shown(buckets, width, limit);
-    add_blocks(m, sums, blocks)
+    add_blocks(shown(row), row.sums, blocks)
 }
 
 // The first bucket, of those from `from` on, where the running count reaches target; `before` is the running count up to there.
-fn reached_from(
-    buckets: usize,
-    width: u32,
-    limit: u32,
-    target: u64,
-    from: usize,
-    before: u64,
-    sums: &[u64],
-) -> Option<usize>
-    requires le_width { (1 ≤ width) × (length sums.now ≡ buckets) }
-    requires buckets_bound { running limit width buckets 1 sums.now buckets ≤ 47244640245 }
-    requires from_bound { (from ≤ min buckets (limit / width + 1)) × (1 ≤ from → before < target) }
-    requires before_value { before ≡ running limit width buckets 1 sums.now from }
-    ensures { result ≡ reach target limit width buckets 1 sums.now (buckets - from) from }
+fn reached_from(row: SumsUpto<'_>, target: u64, from: usize, before: u64) -> Option<usize>
+    requires from_bound { (from ≤ min row.buckets (row.limit / row.width + 1)) × (1 ≤ from → before < target) }
+    requires before_value { before ≡ running row.limit row.width row.buckets 1 row.sums.now from }
+    ensures { result ≡ reach target row.entry.limit row.entry.width row.entry.buckets 1 row.entry.sums.now (row.entry.buckets - from) from }
 {
     let mut seen: u64 = before;
-    for b in from..shown(buckets, width, limit) {
-        seen += sums[b];
+    for b in from..shown(row) {
+        seen += row.sums[b];
         if target <= seen {
             return Some(b);
         }
@@ -325,29 +322,19 @@ fn reached_from(
 }
 
 // The first bucket where the running count reaches target: only the block of 64 buckets that reaches it is walked bucket by bucket.
-fn reached(
-    buckets: usize,
-    width: u32,
-    limit: u32,
-    target: u64,
-    sums: &[u64],
-    blocks: &[u64],
-) -> Option<usize>
-    requires le_width { (1 ≤ width) × (buckets ≤ buckets_limit) × (length sums.now ≡ buckets) × (length blocks.now ≡ 64) }
-    requires buckets_bound { running limit width buckets 1 sums.now buckets ≤ 47244640245 }
-    requires blocks { Blocks (min buckets (limit / width + 1)) sums.now blocks.now }
-    ensures { result ≡ reach target limit width buckets 1 sums.now buckets 0 }
+fn reached(row: SumsUpto<'_>, target: u64, blocks: &[u64; 64]) -> Option<usize>
+    requires { Blocks (min row.buckets (row.limit / row.width + 1)) row.sums.now blocks.now }
+    ensures { result ≡ reach target row.entry.limit row.entry.width row.entry.buckets 1 row.entry.sums.now row.entry.buckets 0 }
 {
+    let whole = shown(row) / 64;
     let mut seen: u64 = 0;
-    let mut b = 0;
-    for more in &blocks[..shown(buckets, width, limit) / 64] {
+    for (i, more) in blocks[..whole].iter().enumerate() {
         if target <= seen + more {
-            return reached_from(buckets, width, limit, target, b, seen, sums);
+            return reached_from(row, target, 64 * i, seen);
         }
         seen += more;
-        b += 64;
     }
-    reached_from(buckets, width, limit, target, b, seen, sums)
+    reached_from(row, target, 64 * whole, seen)
 }
 
 // The quantile q of the lags up to limit: one pass sums the row, and the sums of its blocks lead to the bucket.
@@ -357,14 +344,18 @@ pub fn quantile_upto(buckets: usize, width: u32, q: f64, limit: u32, sums: &[u64
     requires placeable { Placeable q limit (as_one_second buckets width sums.now) }
     ensures { found result ≡ quantile_upto q limit (as_one_second buckets width sums.now) }
 {
+    let row = SumsUpto {
+        limit,
+        width,
+        buckets,
+        sums,
+    };
     let mut blocks = [0u64; 64];
-    let total = total_upto(buckets, width, limit, sums, &mut blocks);
+    let total = total_upto(row, &mut blocks);
     if total == 0 {
         return None;
     }
     let target = doubles::inner::quantile_place(total, q);
-    let Some(b) = reached(buckets, width, limit, target, sums, &blocks) else {
-        return None;
-    };
+    let b = reached(row, target, &blocks)?;
     Some(edge(b + 1, width))
 }

@@ -11,7 +11,8 @@ use Rattle.lag_window.specs.Lent.{lent}
 use Rattle.rules_window.specs.WholeWindow.{Sound}
 use Rattle.rules_window.specs.ColumnSums.{column_sums}
 use Rattle.rules_window.specs.InPlace.{dropped_in_place, opened_in_place, pushed_in_place}
-use Rattle.rules_window.specs.Checks.{newest}
+use Rattle.rules_window.specs.Checks.{newest, CanPush}
+use Rattle.rules_window.proofs.Numbers.{one_room}
 use Rattle.rules_window.proofs.WholeAt.{Whole, whole_of}
 use Rattle.rules_window.proofs.Keeps.{dropped_whole, opened_whole, open_fits, near, opened_pos, room_dropped, room_opened, bucket_lt}
 use Rattle.rules_window.proofs.InUse.{in_place}
@@ -24,9 +25,15 @@ at_most_row : (B : ℕ) (cs : List ℕ) (r b : ℕ) → b < B → get_or cs (r *
 unfolding sum_from
 at_most_row B cs r b l = sum_at_le _ B b l
 
-module _ (time : ℕ) (w : LagWindow) (s t c : List ℕ) (sound : Sound (lent w s t c)) where
-  pub drop_asks : (us : List ℕ) → us ≡ column_sums (lent w s t c) → ((w.seconds ≤ 11) × (length s ≡ 11) × (length c ≡ 11 * w.buckets)) × (us ≡ column_sums (lent w s t c))
-  drop_asks us own = (((whole_of (lent w s t c) sound).few, sound.shaped.starts_long, sound.shaped.counts_long), own)
+module _ (time : ℕ) (w : LagWindow) (s t c us : List ℕ) (asked : CanPush time 1 (lent w s t c) us) where
+  sound : Sound (lent w s t c)
+  sound = asked.sound
+
+  soon : time ≤ time_limit
+  soon = asked.soon
+
+  pub drop_asks : ((w.seconds ≤ 11) × (length s ≡ 11) × (length c ≡ 11 * w.buckets)) × (us ≡ column_sums (lent w s t c))
+  drop_asks = (((whole_of (lent w s t c) sound).few, sound.shaped.starts_long, sound.shaped.counts_long), asked.own)
 
   module _ (w1 : LagWindow) (s1 t1 c1 : List ℕ) (e1 : lent w1 s1 t1 c1 ≡ dropped_in_place time (lent w s t c)) where
     dropped_is : Whole (lent w1 s1 t1 c1)
@@ -38,7 +45,7 @@ module _ (time : ℕ) (w : LagWindow) (s t c : List ℕ) (sound : Sound (lent w 
     pub open_asks : (w1.seconds ≤ length s1) × (opens time w1.seconds s1 ≡ true → w1.seconds < length s1)
     open_asks = (omega (arith, dropped_is.few, dropped_is.ls), λ o. omega (arith, dropped_is.ls, open_fits time (lent w1 s1 t1 c1) dropped_is near_is o))
 
-    module _ (lag : ℕ) (soon : time ≤ time_limit) (room : newest time (lent w s t c) < 4294967295) (w2 : LagWindow) (s2 : List ℕ) (e2 : (x y : List ℕ) → lent w2 s2 x y ≡ opened_in_place time (lent w1 s1 x y)) where
+    module _ (lag : ℕ) (w2 : LagWindow) (s2 : List ℕ) (e2 : (x y : List ℕ) → lent w2 s2 x y ≡ opened_in_place time (lent w1 s1 x y)) where
       opened_is : Whole (lent w2 s2 t1 c1)
       opened_is = subst Whole (sym (e2 t1 c1)) (opened_whole time (lent w1 s1 t1 c1) dropped_is soon near_is)
 
@@ -59,7 +66,7 @@ module _ (time : ℕ) (w : LagWindow) (s t c : List ℕ) (sound : Sound (lent w 
       total_is : get_or t1 (w2.seconds - 1) 0 < 4294967295
       total_is =
           subst (λ (v : Window). get_or v.totals (v.seconds - 1) 0 < 4294967295) (sym (e2 t1 c1))
-          (room_opened time (lent w1 s1 t1 c1) 4294967295 dropped_is (subst (λ (v : Window). newest time v < 4294967295) (sym e1) (room_dropped time (lent w s t c) 4294967295 (omega arith) room)))
+          (room_opened time (lent w1 s1 t1 c1) 4294967295 dropped_is (subst (λ (v : Window). newest time v < 4294967295) (sym e1) (room_dropped time (lent w s t c) 4294967295 (omega arith) (one_room time (lent w s t c) us asked))))
 
       some : 0 < w2.buckets
       some = omega (arith, sound.shaped.buckets_low, buckets_is)
@@ -97,7 +104,7 @@ module _ (time : ℕ) (w : LagWindow) (s t c : List ℕ) (sound : Sound (lent w 
         pub push_sums_is : (us2 : List ℕ) → us2 ≡ bumped (bucket_of lag w2.width w2.buckets) us1 → us2 ≡ column_sums (pushed lag time (lent w s t c))
         push_sums_is us2 e = e ∙ ((rw (width_is, buckets_is, eu)) ∙ sym (pushed_sums lag time (lent w s t c) sound soon))
 
-      pub push_is : (t2 c2 : List ℕ) → ((x : List ℕ) → lent w2 x t2 c2 ≡ counted lag (lent w2 x t1 c1)) → lent w2 s2 t2 c2 ≡ pushed lag time (lent w s t c)
+      pub push_is : (s3 t2 c2 : List ℕ) → lent w2 s3 t2 c2 ≡ counted lag (lent w2 s2 t1 c1) → lent w2 s3 t2 c2 ≡ pushed lag time (lent w s t c)
       unfolding pushed_in_place
-      push_is t2 c2 e3 =
-          e3 s2 ∙ (ap (counted lag) steps ∙ in_place lag time (lent w s t c) (whole_of (lent w s t c) sound) (omega (arith, sound.shaped.buckets_low)))
+      push_is s3 t2 c2 e3 =
+          e3 ∙ (ap (counted lag) steps ∙ in_place lag time (lent w s t c) (whole_of (lent w s t c) sound) (omega (arith, sound.shaped.buckets_low)))

@@ -1,5 +1,5 @@
 -- The steps of a push and the room check, as the code makes them. Assumes nothing.
-use Rattle.std.specs.Prelude.{◌≡◌, ℕ, ◌+◌, ◌-◌, ◌*◌, ◌^◌, ◌<◌, ◌≤◌, Bool, true, false, List, length, get_or, set}
+use Rattle.std.specs.Prelude.{◌≡◌, ℕ, ◌+◌, ◌-◌, ◌*◌, ◌^◌, ◌<◌, ◌≤◌, Bool, true, false, List, length, get_or, set, take}
 use mathlib.Core.Path.{sym, ap, ◌∙◌}
 use native.Mathlib.Omega.{arith}
 use native.Mathlib.Nat.{sub-zero, zero-mul}
@@ -15,12 +15,15 @@ use Rattle.lag_window.specs.Lent.{lent}
 use Rattle.rules_window.specs.Quantile.{column}
 use Rattle.rules_window.specs.ColumnSums.{column_sums}
 use Rattle.rules_window.specs.InPlace.{less_rows, dropped_in_place, opened_in_place}
-use Rattle.rules_window.specs.Checks.{newest_of}
 use Rattle.rules_window.proofs.ColumnSums.{sums_length}
-use Rattle.rules_window.proofs.Stales.{stale_le, opens_used}
+use Rattle.rules_window.proofs.Stales.{stale_le, stale_part, opens_part}
 use Rattle.rules_window.proofs.SumsKept.{dropped_sums, rows_in_sums}
 
 -- ---- old seconds go: k of them
+-- how many these are, as the code counts them in a view of the starts in use
+pub stale_told : (t n : ℕ) (seen xs : List ℕ) (k : ℕ) → seen ≡ xs → n ≤ length xs → k ≡ stale t (length (take n seen)) (take n seen) → k ≡ stale t n xs
+stale_told t n seen xs k e h q = q ∙ rw e (stale_part t n xs h)
+
 module _ (t n : ℕ) (xs : List ℕ) (k : ℕ) (e : k ≡ stale t n xs) where
   pub old_le : k ≤ n
   old_le = omega (arith, stale_le t n xs)
@@ -51,8 +54,9 @@ module _ (w : LagWindow) (time k : ℕ) (s t c us : List ℕ) (own : us ≡ colu
   dropped_sums_none z = own ∙ ap column_sums (dropped_none w time k s t c e z)
 
 -- ---- a second opens
-pub open_room : (r o : Bool) (n l : ℕ) → (o ≡ true → n < l) → r ≡ o → r ≡ true → n < l
-open_room r o n l f e h = f (sym e ∙ h)
+-- whether it does, as the code asks it of the starts in use
+pub opens_told : (time n : ℕ) (s : List ℕ) (r : Bool) → n ≤ length s → r ≡ opens time (length (take n s)) (take n s) → r ≡ opens time n s
+opens_told time n s r h e = e ∙ opens_part time n s h
 
 pub opened_yes : (w : LagWindow) (time : ℕ) (s : List ℕ) (r : Bool) → r ≡ opens time w.seconds s → r ≡ true → (t c : List ℕ) → lent (record { seconds = w.seconds + 1; buckets = w.buckets; width = w.width }) (set s w.seconds time) t c ≡ opened_in_place time (lent w s t c)
 unfolding opened_in_place
@@ -84,19 +88,3 @@ counted_by w lag b p t c f e s = rw (e, f)
 
 pub summed_by : (b q : ℕ) (us : List ℕ) → b ≡ q → set us b (get_or us b 0 + 1) ≡ bumped q us
 summed_by b q us e = rw e
-
--- ---- the newest total
-
-pub newest_used : (t n : ℕ) (xs : List ℕ) (r : Bool) → r ≡ opens t n xs → r ≡ false → 1 ≤ n
-newest_used t n xs r e h = opens_used t n xs (sym e ∙ h)
-
-pub newest_in : (t n : ℕ) (xs ts : List ℕ) (r : Bool) → r ≡ opens t n xs → r ≡ false → n ≤ length ts → n - 1 < length ts
-newest_in t n xs ts r e h l = omega (arith, opens_used t n xs (sym e ∙ h))
-
-pub newest_opens : (t n : ℕ) (xs ts : List ℕ) (r : Bool) → r ≡ opens t n xs → r ≡ true → 0 ≡ newest_of t n xs ts
-unfolding newest_of
-newest_opens t n xs ts r e h = rw (← e, h)
-
-pub newest_stays : (t n : ℕ) (xs ts : List ℕ) (r : Bool) → r ≡ opens t n xs → r ≡ false → get_or ts (n - 1) 0 ≡ newest_of t n xs ts
-unfolding newest_of
-newest_stays t n xs ts r e h = rw (← e, h)

@@ -14,9 +14,13 @@ use Rattle.refusals.specs.Numbers as refusals
 unfoldable pub times_allowed : DelayPolicy → Bool
 times_allowed p = both (nat_le p.hold span_limit) (both (nat_le nanos p.window) (nat_le p.window span_limit))
 
+-- a double from 0 to a limit "and no NaN"
+abbrev pub in_range : (x limit : Float) → Bool
+in_range x limit = both (le (fin false 0 (pos 0)) x) (le x limit)
+
 -- 4: "Is margin at most 96,000, percent 0 to 1,000 and no NaN": of a policy, the share is from 0 to 10
 unfoldable pub margins_allowed : DelayPolicy → Bool
-margins_allowed p = both (nat_le p.margin samples_limit) (both (le (fin false 0 (pos 0)) p.margin_share) (le p.margin_share (fin false 5 (pos 1))))
+margins_allowed p = both (nat_le p.margin samples_limit) (in_range p.margin_share (fin false 5 (pos 1)))
 
 -- what checks 2 and 4 say of a policy, as facts
 pub record Sound (p : DelayPolicy) : Type 0 where

@@ -11,6 +11,5 @@ pub fn need(policy: crate::DelayPolicy, lag: u32) -> u32
     let above = lag.saturating_sub(policy.read_offset);
     let share = doubles::inner::round_half_away(above as f64 * policy.margin_share);
     let sum = above as u64 + policy.margin as u64 + share;
-    let most = policy.delay_max;
-    if sum < most as u64 { sum as u32 } else { most }
+    sum.min(policy.delay_max as u64) as u32
 }

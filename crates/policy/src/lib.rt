@@ -3,7 +3,7 @@
 
 ghost use Rattle.std.specs.Prelude.{◌≡◌};
 ghost use Rattle.policy.specs.Need.{need_reply, told};
-ghost use Rattle.policy.specs.Settings.{times_allowed, margins_allowed, share_reply, told_share};
+ghost use Rattle.policy.specs.Settings.{in_range, times_allowed, margins_allowed, share_reply, told_share};
 
 use refusals::Refusal;
 
@@ -27,29 +27,20 @@ pub struct DelayPolicy {
 
 impl DelayPolicy {
     // Hold is at most 600 s, and window 1 to 600 s (check 3).
+    #[tactic(auto, unfolding(crate::specs::Settings::times_allowed, base::specs::Choice::both))]
     pub fn times_allowed(self) -> bool
         ensures { result ≡ times_allowed self }
     {
-        if self.hold > base::SPAN_LIMIT {
-            return false;
-        }
-        if self.window < base::NANOS {
-            return false;
-        }
-        self.window <= base::SPAN_LIMIT
+        self.hold <= base::SPAN_LIMIT
+            && base::NANOS <= self.window
+            && self.window <= base::SPAN_LIMIT
     }
 
     // Margin is at most 96,000, and the share from 0 to 10 and no NaN (check 4).
     pub fn margins_allowed(self) -> bool
         ensures { result ≡ margins_allowed self }
     {
-        if self.margin > base::SAMPLES_LIMIT {
-            return false;
-        }
-        if self.margin_share >= 0.0 {
-            return self.margin_share <= 10.0;
-        }
-        false
+        self.margin <= base::SAMPLES_LIMIT && in_range(self.margin_share, 10.0)
     }
 
     // The delay that covers a lag, with the margin, within the maximum.
@@ -66,14 +57,19 @@ impl DelayPolicy {
     }
 }
 
+// From 0 to a limit, and no NaN.
+fn in_range(x: f64, limit: f64) -> bool
+    ensures { result ≡ in_range x limit }
+{
+    0.0 <= x && x <= limit
+}
+
 // A percent from 0 to 1,000 as a share (check 4).
 pub fn share_of(percent: f64) -> Result<f64, Refusal>
     ensures { told_share result ≡ share_reply percent }
 {
-    if percent >= 0.0 {
-        if percent <= 1000.0 {
-            return Ok(percent / 100.0);
-        }
+    if in_range(percent, 1000.0) {
+        return Ok(percent / 100.0);
     }
     Err(Refusal::Margin)
 }

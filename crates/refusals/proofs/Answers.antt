@@ -1,7 +1,10 @@
 -- An answer's number and value determine it: it is accepted exactly where its number is 0, and then its value is the one it brings; a refusal is told by its number. Assumes nothing.
-use Rattle.std.specs.Prelude.{◌≡◌, ℕ, ◌<◌, ◌==◌, if◌then◌else◌, Result, Ok, Err}
+use Rattle.std.specs.Prelude.{◌≡◌, ℕ, ◌<◌, ◌≤◌, ◌==◌, if◌then◌else◌, Bool, true, false, Result, Ok, Err}
+use borrow.Author.Tests.{leb-true}
 use Rattle.std.proofs.Common.{refl, sym, ap, ◌∙◌, arith}
-use Rattle.base.specs.Choice.{accepted}
+use Rattle.base.specs.Choice.{ask, accepted}
+use Rattle.base.specs.Limits.{timely, time_limit, call_number}
+use Rattle.base.proofs.Choices.{asked}
 use Rattle.refusals.specs.declared.Refusal.{Refusal}
 use Rattle.refusals.specs.declared.Refusal.TheVariants.{InputCount, Reach, Pause, Margin, ListLength, NotWhole, NoInput, Time, FlowTable, Shown, SecondFull, ManualDelay, NoProposal, Quantile, Current, Width, Buckets, FileHead, FileOrder, DeskDelay}
 use Rattle.refusals.specs.Numbers.{number_of, number_in, value_in}
@@ -91,3 +94,29 @@ checked_back DeskDelay = refl
 -- two refusals of one number are the same
 pub told_by_number : (one other : Refusal) → number_of one ≡ number_of other → one ≡ other
 told_by_number one other e = sym (checked_back one) ∙ ap numbers_check e ∙ checked_back other
+
+-- ---- the checks 6 and 8 of a clock helper's call, made one after the other
+-- the check that says no ends the call with its number
+pub call_stopped : (whole : Bool) (time : ℕ) (refusal : Refusal) → number_of refusal ≡ ask 6 whole 0 → number_of refusal ≡ call_number whole time
+unfolding ask call_number
+call_stopped true time refusal e = absurd (never_zero refusal e)
+call_stopped false time refusal e = e
+
+-- where 6 says yes, 8 has the last word
+pub call_timed : (whole : Bool) (time n : ℕ) → 0 ≡ ask 6 whole 0 → n ≡ ask 8 (timely time) 0 → n ≡ call_number whole time
+unfolding ask call_number
+call_timed true time n six e = e
+call_timed false time n six e = absurd (omega (arith, six))
+
+-- what 8 lets through
+pub timed : (time : ℕ) → 0 ≡ ask 8 (timely time) 0 → time ≤ time_limit
+timed time e = leb-true time time_limit (asked 7 (timely time) 0 (sym e)).0
+
+-- a no of 8 is one with other checks after it
+pub time_stops : (time rest : ℕ) (refusal : Refusal) → number_of refusal ≡ ask 8 (timely time) 0 → number_of refusal ≡ ask 8 (timely time) rest
+unfolding ask
+time_stops time rest refusal e = stops (timely time) e
+  where
+    stops : (ok : Bool) → number_of refusal ≡ ask 8 ok 0 → number_of refusal ≡ ask 8 ok rest
+    stops true e = absurd (never_zero refusal e)
+    stops false e = e

@@ -37,11 +37,3 @@ number_in (Err refusal) = number_of refusal
 abbrev pub value_in : {A : Type 0} → (zero : A) → Result A Refusal → A
 value_in zero (Ok value) = value
 value_in zero (Err refusal) = zero
-
--- an answer as the papers have it: its number and its value
-pub record Answered (A : Type 0) : Type 0 where
-  pub number : ℕ
-  pub value : A
-
-abbrev pub answered : {A : Type 0} → (zero : A) → Result A Refusal → Answered A
-answered zero result = record { number = number_in result; value = value_in zero result }

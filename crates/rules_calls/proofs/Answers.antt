@@ -20,7 +20,7 @@ use Rattle.rules_record.specs.Commands.{set_delay}
 use Rattle.rules_record.specs.Lent.{Lists}
 use Rattle.rules_record.specs.Effects.{silent}
 use Rattle.rules_routing.specs.declared.World.{World}
-use Rattle.rules_calls.specs.Route.{equal_route, other_flow, starts_over, zeroing, started_over, routed_slot, routed_to}
+use Rattle.rules_calls.specs.Route.{equal_route, other_flow, starts_over, forgetting, zeroing, started_over, routed_slot, routed_to}
 use Rattle.rules_calls.specs.RouteChecks.{route_number}
 use Rattle.rules_calls.specs.RouteReply.{route_reply}
 use Rattle.rules_calls.specs.Status.{channels_shown, worst_ms}
@@ -41,6 +41,10 @@ leaving_sets_zero i slot from auto some =
     yes_pick _ _
     (true_both _ _ (ap (other_flow None) from)
     (true_both _ _ auto (ap not (ne_eqb _ _ some))))
+
+-- "an old route sends ClearInput with forget": kind 2, the input, 1
+pub old_route_forgotten : (i : ℕ) (old : Route) → forgetting i (Some old) ≡ 2 ∷ i ∷ 1 ∷ []
+old_route_forgotten i old = refl
 
 -- document 02, §4, of the time of the last SetInput: ClearInput, SetDelay 0 and the new route leave it; where the new flow opens, `try_open` stores its own
 pub routing_leaves_the_opening : (new : Option Route) (time : ℕ) (slot : Slot) → (routed_slot new time slot).last_input ≡ slot.last_input

@@ -24,8 +24,7 @@ use Rattle.rules_record.specs.declared.Inputs.{Inputs}
 use Rattle.rules_record.specs.Slots.{with_config, with_head}
 use Rattle.rules_record.specs.Inputs.{slot_at, put_slot}
 use Rattle.rules_record.specs.Flows.{admits, enrolled, flow_place, kept}
-use Rattle.rules_record.specs.declared.Sent.{Sent}
-use Rattle.rules_record.specs.Commands.{Done, Did, send_first}
+use Rattle.rules_record.specs.Commands.{Sent, Done, Did, send_first}
 use Rattle.rules_record.proofs.Sending.{did_by, did_quiet}
 use Rattle.rules_routing.specs.SetDelay.{set_delay_of}
 use Rattle.rules_calls.specs.NewLoading.{loaded_flow, loaded_one, loaded_below, load_fits}
@@ -107,9 +106,9 @@ did_then {few} {most} {from} {done} {answer} {last} {before} {between} {after} n
 
 -- one input
 module _ (s : Inputs) (i time : ℕ) where
-  pub made_by : (kind : ExtraDelay) {at stored headed : Slot} {all : Inputs} → at ≡ slot_at s i → stored ≡ with_config at (record { extra_delay = kind }) → headed ≡ with_head stored 0 time → all ≡ put_slot s i headed
+  pub made_by : (kind : ExtraDelay) {at : Slot} {all : Inputs} → at ≡ slot_at s i → all ≡ put_slot s i (with_head (with_config at (record { extra_delay = kind })) 0 time)
       → all ≡ made_at i kind time s
-  made_by kind e f g h = h ∙ ap (put_slot s i) (g ∙ ap (λ (x : Slot). with_head x 0 time) (f ∙ ap (λ (x : Slot). with_config x (record { extra_delay = kind })) e))
+  made_by kind e f = f ∙ ap (λ (x : Slot). put_slot s i (with_head (with_config x (record { extra_delay = kind })) 0 time)) e
 
   module _ {kind : ExtraDelay} {all : Inputs} (is_made : all ≡ made_at i kind time s) {before : List ℕ} {used : ℕ} where
     pub started_auto : {tag : AutoTag} → kind ≡ Auto tag → Did 3 (started_one i kind time s) (record { inputs = all; used = used }) before before used
@@ -123,22 +122,19 @@ module _ (s : Inputs) (i time : ℕ) where
         did_by (ap (λ (x : ExtraDelay). started_one i x time s) e ∙ sym (ap (λ (z : Inputs). set_delay_of z i (min (samples_of delay) s.policy.delay_max) time) (is_made ∙ ap (λ (x : ExtraDelay). made_at i x time s) e)) ∙ sym (ap (λ (n : ℕ). set_delay_of all i n time) (g ∙ ap (λ (n : ℕ). min n s.policy.delay_max) f))) d
 
 -- the first i inputs are started
-pub record Starting (kinds : List ExtraDelay) (time count : ℕ) (s : Inputs) (before : List ℕ) (i : ℕ) (so_far : Inputs) (used : ℕ) (after : List ℕ) : Type 0 where
+pub record Starting (kinds : List ExtraDelay) (time count : ℕ) (s : Inputs) (before : List ℕ) (begin i : ℕ) (so_far : Inputs) (used : ℕ) (after : List ℕ) : Type 0 where
   pub within : i ≤ count
   pub long : length after ≡ length before
-  pub did : Did (i * 3) (started_below i kinds time s) (record { inputs = so_far; used = used }) before after 0
+  pub did : Did (i * 3) (started_below i kinds time s) (record { inputs = so_far; used = used }) before after begin
 
-module _ (kinds : List ExtraDelay) (time count : ℕ) (s : Inputs) (before : List ℕ) where
-  pub starting_none : Starting kinds time count s before 0 s 0 before
+module _ (kinds : List ExtraDelay) (time count : ℕ) (s : Inputs) (before : List ℕ) (begin : ℕ) where
+  pub starting_none : Starting kinds time count s before begin 0 s begin before
   unfolding started_below
   starting_none = record { within = omega arith; long = refl; did = did_quiet refl }
 
-  module _ {i : ℕ} {so_far : Inputs} {used : ℕ} {between : List ℕ} (inv : Starting kinds time count s before i so_far used between) where
-    pub starting_used : used ≤ i * 3
-    starting_used = omega (arith, inv.did.used, inv.did.room)
-
+  module _ {i : ℕ} {so_far : Inputs} {used : ℕ} {between : List ℕ} (inv : Starting kinds time count s before begin i so_far used between) where
     pub starting_more : i < count → {kind : ExtraDelay} {sent : Sent} {after : List ℕ} → kind ≡ kind_at kinds i → Did 3 (started_one i kind time so_far) sent between after used → length after ≡ length between
-        → Starting kinds time count s before (i + 1) sent.inputs sent.used after
+        → Starting kinds time count s before begin (i + 1) sent.inputs sent.used after
     unfolding started_below
     starting_more h {kind} {sent} {after} is-kind d e = record {
       within = omega arith;
@@ -152,8 +148,8 @@ module _ (kinds : List ExtraDelay) (time count : ℕ) (s : Inputs) (before : Lis
         more : i * 3 + 3 ≡ suc i * 3
         more = omega arith
 
-        at_next : Did (suc i * 3) (started_below (suc i) kinds time s) sent before after 0
-        at_next = subst (λ (n : ℕ). Did n (started_below (suc i) kinds time s) sent before after 0) more (did_then (started_one i (kind_at kinds i) time) inv.did here)
+        at_next : Did (suc i * 3) (started_below (suc i) kinds time s) sent before after begin
+        at_next = subst (λ (n : ℕ). Did n (started_below (suc i) kinds time s) sent before after begin) more (did_then (started_one i (kind_at kinds i) time) inv.did here)
 
-    pub starting_end : count ≤ i → Did (count * 3) (started_below count kinds time s) (record { inputs = so_far; used = used }) before between 0
-    starting_end h = subst (λ (n : ℕ). Did (n * 3) (started_below n kinds time s) (record { inputs = so_far; used = used }) before between 0) (le_antisymm inv.within h) inv.did
+    pub starting_end : count ≤ i → Did (count * 3) (started_below count kinds time s) (record { inputs = so_far; used = used }) before between begin
+    starting_end h = subst (λ (n : ℕ). Did (n * 3) (started_below n kinds time s) (record { inputs = so_far; used = used }) before between begin) (le_antisymm inv.within h) inv.did

@@ -19,8 +19,7 @@ use Rattle.buckets.proofs.Told.{ranges_passed, ranges_stop}
 use Rattle.policy.specs.declared.DelayPolicy.{DelayPolicy}
 use Rattle.rules_record.specs.declared.ExtraDelay.{ExtraDelay}
 use Rattle.rules_record.specs.declared.Inputs.{Inputs}
-use Rattle.rules_record.specs.declared.Sent.{Sent}
-use Rattle.rules_record.specs.Commands.{Did}
+use Rattle.rules_record.specs.Commands.{Sent, Did}
 use Rattle.rules_record.specs.declared.Output.TheVariants.{Words}
 use Rattle.rules_record.specs.Lent.{Lists, buckets_in}
 use Rattle.rules_record.specs.Checks.{inputs_allowed, pauses_allowed, lists_fit, output_fits}

@@ -17,8 +17,7 @@ use Rattle.rules_record.specs.declared.Slot.{Slot}
 use Rattle.rules_record.specs.declared.Inputs.{Inputs}
 use Rattle.rules_record.specs.Inputs.{slot_at}
 use Rattle.rules_record.proofs.SlotFrame.{slot_put}
-use Rattle.rules_record.specs.declared.Sent.{Sent}
-use Rattle.rules_record.specs.Commands.{Done, Did}
+use Rattle.rules_record.specs.Commands.{Sent, Done, Did}
 use Rattle.rules_routing.specs.declared.World.{World}
 use Rattle.rules_record.specs.declared.Output.TheVariants.{Words}
 use Rattle.rules_record.specs.Lent.{Lists}

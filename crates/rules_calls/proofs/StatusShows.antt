@@ -1,5 +1,5 @@
 -- What a status shows, part by part, and what its functions ask of a record that was checked. Assumes nothing.
-use Rattle.std.specs.Prelude.{None, Option, Some}
+use Rattle.std.specs.Prelude.{None, Some}
 use Prim.Native.Nat.{ℕ}
 use mathlib.Core.Path.{◌≡◌, refl, sym, ap, ◌∙◌}
 use mathlib.Core.List.{List}
@@ -10,11 +10,7 @@ use Rattle.rules_window.specs.Window.{Window}
 use Rattle.rules_window.specs.Quantile.{quantile_of, thousandths}
 use Rattle.rules_window.specs.ColumnSums.{column_sums, as_one_second}
 use Rattle.rules_window.proofs.OneSecond.{same_quantile}
-use Rattle.rules_record.specs.declared.Flow.{Flow}
-use Rattle.rules_record.specs.declared.Route.{Route}
-use Rattle.rules_record.specs.declared.Inputs.{Inputs}
-use Rattle.rules_record.specs.Flows.{flow_at}
-use Rattle.rules_calls.specs.Status.{source_of, arrival_by, arrival_with, arrival_of, arrival_in}
+use Rattle.rules_calls.specs.Status.{arrival_by, arrival_with, arrival_of, arrival_in}
 
 -- ---- the three quantiles, all or none
 -- the other arm of `let .. else`: a quantile whose tag is not that of an end
@@ -65,7 +61,3 @@ unfolding arrival_in
 arrival_row w own =
     ap (λ (row : List ℕ). arrival_in (as_one_second w.buckets w.width row)) own
     ∙ (λ t. arrival_of (same_quantile w 4294967295 (thousandths 500) t) (same_quantile w 4294967295 (thousandths 990) t) (same_quantile w 4294967295 (thousandths 999) t))
-
--- ---- the route
-pub source_there : (s : Inputs) {to : Option Route} {route : Route} {flow : Flow} → to ≡ Some route → flow ≡ flow_at s route.flow → Some (record { flow = flow; domain = route.domain }) ≡ source_of s to
-source_there s {route = route} e is-flow = (λ t. Some (record { flow = is-flow t; domain = route.domain })) ∙ sym (ap (source_of s) e)

@@ -9,7 +9,7 @@ use borrow.Author.Tests.{eq-eqb, ne_eqb, eqb-true}
 use Rattle.base.specs.Lists.{padded, listed}
 use Rattle.base.proofs.Choices.{yes_ask, no_ask, asked, refused_old, accepted_new, accepted_all}
 use Rattle.rules_files.specs.Files.{rises, count_in, flow_in, delay_in, headed}
-use Rattle.rules_files.specs.ReadFile.{read_number, flow_byte_in, flows_read, delays_read, LeftByReader, left_read, read_reply}
+use Rattle.rules_files.specs.ReadFile.{read_number, flow_byte_in, flows_read, delays_read, LeftByReader, read_reply}
 use Rattle.rules_files.proofs.Heads.{Headed, headed_of, of_headed, unheaded}
 
 -- what the reader's checks let through

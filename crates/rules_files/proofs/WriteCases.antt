@@ -6,9 +6,11 @@ use native.Mathlib.Omega.{arith}
 use lib.Dec.{ltb}
 use lib.ListN.{length, get_or}
 use borrow.Author.Tests.{eqb-true}
+use Rattle.std.specs.Prelude.{Option, None, Some}
+use Rattle.std.specs.Option.{unwrap_or}
 use Rattle.base.specs.Choice.{pick}
 use Rattle.base.specs.Lists.{padded, listed}
-use Rattle.base.proofs.Choices.{lt_yes, lt_no, lt_rule, by_le, refused_old, accepted_new, accepted_all}
+use Rattle.base.proofs.Choices.{lt_yes, lt_no, by_le, refused_old, accepted_new, accepted_all}
 use Rattle.base.proofs.Listed.{listed_at}
 use Rattle.rules_record.specs.declared.FlowEntry.{FlowEntry}
 use Rattle.rules_record.specs.declared.Inputs.{Inputs}
@@ -18,14 +20,19 @@ use Rattle.rules_record.specs.Lent.{Lists}
 use Rattle.rules_record.proofs.Checked.{checked_output}
 use Rattle.rules_files.specs.Files.{head_byte, entry_byte, file_byte, file_of}
 use Rattle.rules_files.specs.Table.{delay_of, held_count, ranked_below, sorted_flow, sorted_delay}
-use Rattle.rules_files.specs.WriteFile.{table_file, write_number, LeftByWriter, left_written, write_reply}
-use Rattle.rules_files.specs.WriteInPlace.{entry_of, byte_by}
+use Rattle.rules_files.specs.WriteFile.{table_file, write_number, LeftByWriter, write_reply}
+use Rattle.rules_files.specs.WriteInPlace.{byte_by}
 use Rattle.rules_files.proofs.RankLoops.{entry_there, ranked_within}
 
 -- ---- one byte
-module _ (head i : ℕ) (within : i < head + 1280) {k : ℕ} (e : k ≡ entry_of head i) where
+-- a delay as std answers it, 0 where there is none
+pub delay_or_zero : (remembered : Option ℕ) → unwrap_or remembered 0 ≡ delay_of remembered
+delay_or_zero None = refl
+delay_or_zero (Some delay) = refl
+
+module _ (head i : ℕ) (within : i < head + 1280) {k : ℕ} (e : k ≡ (i - head) / 20) where
   pub entry_few : k < 64
-  entry_few = rw e (lt_rule i head 0 ((i - head) / 20) (λ (x : ℕ). x < 64) (λ l. omega arith) (λ l. omega arith))
+  entry_few = omega arith
 
   module _ (table : List FlowEntry) {places : List ℕ} (p : places ≡ listed (ranked_below 64 table) 64) where
     place_there : get_or places k 0 ≡ ranked_below 64 table k
@@ -42,13 +49,13 @@ module _ (head i : ℕ) (within : i < head + 1280) {k : ℕ} (e : k ≡ entry_of
         entry : FlowEntry
         entry = get_or table (get_or places k 0) empty_entry
 
-        there : head ≤ i → entry ≡ entry_in table (ranked_below 64 table ((i - head) / 20))
-        there l = sym (entry_there table _ place_within) ∙ ap (entry_in table) (place_there ∙ ap (ranked_below 64 table) (e ∙ lt_no i head 0 ((i - head) / 20) l))
+        there : entry ≡ entry_in table (ranked_below 64 table ((i - head) / 20))
+        there = sym (entry_there table _ place_within) ∙ ap (entry_in table) (place_there ∙ ap (ranked_below 64 table) e)
 
         inner : pick (ltb i head) (head_byte version rate count i) (entry_byte entry.flow (delay_of entry.remembered) ((i - head) % 20)) ≡ file_byte version head rate count (sorted_flow table) (sorted_delay table) i
         inner =
             by_le head i
-            (λ l. ap (λ (x : FlowEntry). pick (ltb i head) (head_byte version rate count i) (entry_byte x.flow (delay_of x.remembered) ((i - head) % 20))) (there l))
+            (λ l. ap (λ (x : FlowEntry). pick (ltb i head) (head_byte version rate count i) (entry_byte x.flow (delay_of x.remembered) ((i - head) % 20))) there)
             (λ l. lt_yes i head _ _ l ∙ sym (lt_yes i head _ _ l))
 
 module _ (version head rate count : ℕ) (entry : FlowEntry) (i : ℕ) (l : i < head + count * 20) where

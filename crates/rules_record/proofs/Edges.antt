@@ -29,7 +29,7 @@ use Rattle.rules_record.specs.Commands.{set_input, clear_input, set_delay}
 use Rattle.rules_record.specs.Flows.{flow_place, admits, recalled, kept, differs, marked, remembered}
 use Rattle.rules_record.specs.Instances.{same_key}
 use Rattle.rules_record.specs.Prune.{uses_key, is_extra, any_uses, wanted_key}
-use Rattle.rules_record.specs.WholePlaces.{route_fits, whole_slot, unused_timer, unused_hold, unused_parts, unused_numbers, unused_slot}
+use Rattle.rules_record.specs.WholePlaces.{route_fits, whole_slot, unused_hold, unused_parts, unused_numbers, unused_slot}
 
 -- "States: 0 Unrouted, 1 Waiting, 2 Running, 3 Stalled."
 pub states_numbered : state_number Unrouted ∷ state_number Waiting ∷ state_number Running ∷ state_number Stalled ∷ [] ≡ 0 ∷ 1 ∷ 2 ∷ 3 ∷ []
@@ -114,7 +114,7 @@ times_up_to_the_limit = refl
 
 -- 6: "unused places zero": a slot to which a command went, even at time 0, is not unused
 pub unused_slots_have_no_times : unused_slot empty_slot ∷ unused_slot (with_delay empty_slot 0 0) ∷ unused_slot (with_last_input empty_slot 0) ∷ [] ≡ true ∷ false ∷ false ∷ []
-unfolding both unused_timer unused_hold unused_parts unused_numbers unused_slot empty_slot
+unfolding both unused_hold unused_parts unused_numbers unused_slot empty_slot
 unused_slots_have_no_times = refl
 
 -- "three u32 words a command: kind (1 SetInput, 2 ClearInput, 3 SetDelay), input from 0, then channels, forget as 0 or 1, or samples"

@@ -2,8 +2,7 @@
 use Rattle.std.specs.Prelude.{◌≡◌, ℕ, List, ◌++◌}
 use mathlib.Core.Path.{refl, sym, subst}
 use Rattle.rules_record.specs.declared.Inputs.{Inputs}
-use Rattle.rules_record.specs.declared.Sent.{Sent}
-use Rattle.rules_record.specs.Commands.{Done, Did, quiet}
+use Rattle.rules_record.specs.Commands.{Sent, Done, Did, quiet}
 use Rattle.rules_record.proofs.Sending.{did_quiet}
 use Rattle.rules_record.specs.Lent.{Lists}
 use Rattle.rules_record.specs.Effects.{Effect, silent, beside, followed_by, Effected}

@@ -1,26 +1,30 @@
 -- The definitions of the instance table as the code comes to them. Assumes nothing.
-use Rattle.std.specs.Prelude.{◌≡◌, ℕ, zero, suc, ◌+◌, ◌-◌, ◌<◌, ◌≤◌, Bool, true, false, eqb, List, [], ◌∷◌, ◌++◌, length, get_or, drop, set, replicate, None, Option}
-use mathlib.Core.Path.{refl, sym, ap, ◌∙◌}
+use Rattle.std.specs.Prelude.{◌≡◌, ℕ, zero, suc, ◌+◌, ◌-◌, ◌<◌, ◌≤◌, Bool, true, false, not, nat_lt, take, List, [], ◌∷◌, ◌++◌, length, get_or, drop, set, replicate, None, Option, Some}
+use Rattle.std.specs.List.{list_any}
+use Rattle.std.specs.Option.{option_eq}
+use Rattle.std.proofs.lemmas.List.{get_or-take, length-take-le, take-take, take_all}
+use mathlib.Core.Path.{refl, sym, ap, ap₂, ◌∙◌}
 use mathlib.Core.List.{append-nil}
-use native.Mathlib.Nat.{not-suc-le-zero, add-zero, zero-add, add-suc, suc-add, sub-zero, zero-sub, suc-sub-suc}
+use native.Mathlib.Nat.{add-zero, zero-add, add-suc, suc-add, sub-zero, zero-sub, suc-sub-suc}
 use native.Mathlib.Numerals.{add-one}
 use native.Mathlib.Omega.{arith}
-use lib.ListN.{length-append, length-replicate, length-set}
-use lib.Seq.{sets, sets-eq, get_or-set_same, get_or-set_other}
-use borrow.Author.Tests.{eq-eqb, ne_eqb, eqb-true, eqb-false, lt-ltb}
+use lib.ListN.{length-append, length-replicate}
+use lib.Seq.{sets, sets-eq}
+use borrow.Author.Tests.{lt-ltb}
 use Rattle.base.specs.Choice.{pick}
 use Rattle.base.specs.First.{first}
 use Rattle.base.specs.Any.{any}
-use Rattle.base.proofs.Choices.{by_bool, yes_pick, no_pick}
-use Rattle.base.proofs.First.{first_cong}
+use Rattle.base.proofs.Choices.{yes_pick, no_pick}
+use Rattle.base.specs.Lists.{all}
+use Rattle.base.proofs.All.{all_more, all_stop, all_end}
 use Rattle.base.proofs.Any.{any_cong}
+use Rattle.rules_record.specs.contracts.InstancePartialEq.TheImpl as instance
+use Rattle.rules_record.proofs.Derived.{key_eq, extra_eq}
+use Rattle.rules_record.proofs.Searched.{any_places, first_of_any, any_of_first}
 use Rattle.rules_record.specs.declared.Instance.{Instance}
-use Rattle.rules_record.specs.declared.Slot.{Slot}
 use Rattle.rules_record.specs.declared.Inputs.{Inputs}
-use Rattle.rules_record.specs.Slots.{empty_slot}
 use Rattle.rules_record.specs.Inputs.{slot_at, with_instances}
-use Rattle.rules_record.proofs.SlotFrame.{slot_in}
-use Rattle.rules_record.specs.Instances.{same_key, no_key, key_at, keys_held, key_below, new_key_at}
+use Rattle.rules_record.specs.Instances.{same_key, no_key, key_at, keys_held, key_below, found_key, distinct_keys, new_key_at}
 use Rattle.rules_record.specs.Prune.{uses_key, any_uses, is_extra, wanted_key, keep_one, kept_keys, with_keys, pruned}
 
 pub held_most : (s : Inputs) → keys_held s ≤ 18
@@ -33,47 +37,58 @@ module _ (s : Inputs) where
   unfolding key_at
   table_key place l = sym (yes_pick _ _ (lt-ltb _ _ l))
 
-  pub table_below : (key : Instance) (n : ℕ) → n ≤ 18 → first (λ place. same_key (get_or s.instances place no_key) key) n ≡ key_below n s key
-  unfolding key_below
-  table_below key n h = first_cong _ _ n (λ k l. ap (λ (at : Instance). same_key at key) (table_key k (omega arith)))
+-- what the code's searches tell of the table
+module _ (s : Inputs) (wide : length s.instances ≡ 18) {n : ℕ} (e : n ≡ keys_held s) where
+  few : n ≤ 18
+  few = rw e (held_most s)
 
--- what a test of the code told of a place
-module _ (s : Inputs) (place : ℕ) (l : place < 18) {at : Instance} {r : ℕ} (e : at ≡ get_or s.instances place no_key) (h : r ≡ first (λ j. same_key (get_or s.instances j no_key) at) place) where
-  here : r ≡ key_below place s (key_at s place)
-  here = h ∙ table_below s at place (omega arith) ∙ ap (key_below place s) (e ∙ table_key s place l)
+  pub found_by : (key : Instance) {r : Bool} → r ≡ list_any (λ (x : Instance). (instance.eq-value).it x key) (take n s.instances) → r ≡ found_key s key
+  unfolding found_key key_below
+  found_by key h =
+      h
+      ∙ any_places _ s.instances no_key n (rw wide few)
+      ∙ any_cong _ _ n (λ k l. key_eq (get_or s.instances k no_key) key ∙ ap (λ (at : Instance). same_key at key) (table_key s k (omega (arith, few, l))))
+      ∙ any_of_first (λ k. same_key (key_at s k) key) n
+      ∙ ap (λ (m : ℕ). nat_lt (first (λ k. same_key (key_at s k) key) m) m) e
 
-  pub told_new : r ≡ place → new_key_at s place ≡ true
-  told_new g = eq-eqb _ _ (sym here ∙ g)
+  module _ {i : ℕ} (l : i < length (take n s.instances)) {r : Bool} (h : r ≡ list_any (λ (x : Instance). (instance.eq-value).it x (get_or (take n s.instances) i no_key)) (take i (take n s.instances))) where
+    within : i < n
+    within = rw (length-take-le n s.instances (rw wide few)) at l
 
-  pub told_twice : (r ≡ place → ⊥) → new_key_at s place ≡ false
-  told_twice g = ne_eqb _ _ (λ w. g (here ∙ w))
+    here : get_or (take n s.instances) i no_key ≡ key_at s i
+    here = get_or-take n s.instances i no_key within ∙ table_key s i (omega (arith, few, within))
 
--- ---- what the inputs read, input by input
-pub record Collected (s : Inputs) (read : List (Option Instance)) (n : ℕ) : Type 0 where
-  pub within : n ≤ 16
-  pub sized : length read ≡ 16
-  pub told : (i : ℕ) (key : Instance) → i < n → is_extra (get_or read i None) key ≡ uses_key (slot_at s i) key
+    told : new_key_at s i ≡ not r
+    unfolding key_below
+    told =
+        first_of_any _ i
+        ∙ ap not
+        (sym
+        (h
+        ∙ ap (list_any (λ (x : Instance). (instance.eq-value).it x (get_or (take n s.instances) i no_key))) (take-take i n s.instances (omega (arith, within)))
+        ∙ any_places _ s.instances no_key i (rw wide (omega (arith, few, within)))
+        ∙ any_cong _ _ i (λ k m. key_eq (get_or s.instances k no_key) _ ∙ ap₂ same_key (table_key s k (omega (arith, few, within))) here)))
 
-pub collect_start : (s : Inputs) → Collected s (replicate 16 None) 0
-collect_start s = record { within = omega arith; sized = let none : Option Instance = None in length-replicate 16 none; told = λ i key l. absurd (not-suc-le-zero l) }
+    pub told_new : r ≡ false → all (new_key_at s) i ≡ true → all (new_key_at s) (i + 1) ≡ true
+    told_new g before = all_more _ _ before (told ∙ ap not g)
 
-pub collect_more : {s : Inputs} {read : List (Option Instance)} {n : ℕ} → Collected s read n → n < 16 → (one : Option Instance) → ((key : Instance) → is_extra one key ≡ uses_key (get_or s.slots n empty_slot) key) → Collected s (set read n one) (n + 1)
-collect_more {s} {read} {n} v l one h = record {
-  within = omega arith;
-  sized = length-set read n one ∙ v.sized;
-  told = λ i key m. by_bool (eqb i n) (λ e. same i key (eqb-true i n e)) (λ e. other i key m (eqb-false i n e));
-}
-  where
-    same : (i : ℕ) (key : Instance) → i ≡ n → is_extra (get_or (set read n one) i None) key ≡ uses_key (slot_at s i) key
-    same i key e =
-        rw e
-        (ap (λ (x : Option Instance). is_extra x key) (get_or-set_same read n one None (rw v.sized l))
-        ∙ h key
-        ∙ ap (λ (x : Slot). uses_key x key) (slot_in s n l))
+    pub told_twice : r ≡ true → false ≡ distinct_keys s
+    unfolding distinct_keys
+    told_twice g = all_stop _ _ i (rw (← e) within) (told ∙ ap not g)
 
-    other : (i : ℕ) (key : Instance) → i < n + 1 → (i ≡ n → ⊥) → is_extra (get_or (set read n one) i None) key ≡ uses_key (slot_at s i) key
-    other i key m e = ap (λ (x : Option Instance). is_extra x key) (get_or-set_other read n i one None e) ∙ v.told i key (omega (arith, e))
+  pub told_distinct : {i : ℕ} → all (new_key_at s) i ≡ true → i ≤ length (take n s.instances) → length (take n s.instances) ≤ i → true ≡ distinct_keys s
+  unfolding distinct_keys
+  told_distinct {i} h k l = all_end _ _ i h (rw (← e, ← length-take-le n s.instances (rw wide few)) k) (rw (← e, ← length-take-le n s.instances (rw wide few)) l)
 
+-- what the code asks of all that the inputs read
+pub told_read : (read : List (Option Instance)) → length read ≡ 16 → (key : Instance) {r : Bool} → r ≡ list_any (λ (x : Option Instance). option_eq (instance.eq-value).it x (Some key)) read → r ≡ any (λ i. is_extra (get_or read i None) key) 16
+told_read read wide key h =
+    h
+    ∙ ap (list_any (λ (x : Option Instance). option_eq (instance.eq-value).it x (Some key))) (sym (take_all 16 read (omega (arith, wide))))
+    ∙ any_places _ read None 16 (omega (arith, wide))
+    ∙ any_cong _ _ 16 (λ i l. extra_eq (get_or read i None) key)
+
+-- ---- what the inputs read
 -- what the code asks of a key is whether it is wanted
 pub told_wanted : (s : Inputs) (extra : Option Instance) (key : Instance) (read : List (Option Instance)) {r : Bool} → ((i : ℕ) (key : Instance) → i < 16 → is_extra (get_or read i None) key ≡ uses_key (slot_at s i) key) → r ≡ pick (is_extra extra key) true (any (λ i. is_extra (get_or read i None) key) 16) → r ≡ wanted_key s extra key
 unfolding wanted_key any_uses

@@ -12,6 +12,8 @@ pub mod Beside
 pub mod RecordCases
 pub mod CheckOrder
 pub mod Checked
+pub mod Derived
+pub mod Searched
 pub mod Effects
 pub mod Facts
 pub mod Keep

@@ -7,8 +7,7 @@ use native.Mathlib.Omega.{arith}
 use lib.Seq.{sets}
 use Rattle.base.proofs.Words.{sets_append}
 use Rattle.rules_record.specs.declared.Inputs.{Inputs}
-use Rattle.rules_record.specs.declared.Sent.{Sent}
-use Rattle.rules_record.specs.Commands.{Done, Did, quiet, send_first, changed}
+use Rattle.rules_record.specs.Commands.{Sent, Done, Did, quiet, send_first, changed}
 
 -- what is done may be said by another name
 pub did_by : {most : ℕ} {done same : Done} {answer : Sent} {before after : List ℕ} {from : ℕ} → done ≡ same → Did most same answer before after from → Did most done answer before after from

@@ -16,7 +16,7 @@ use Rattle.rules_window.specs.WholeWindow.{summed, whole_window, Shaped, Sound}
 use Rattle.rules_window.specs.ColumnSums.{right_sums}
 use Rattle.rules_window.proofs.ColumnSums.{right_are_own}
 use Rattle.delay_hold.specs.Next.{Held, fresh_hold, cleared_hold}
-use Rattle.delay_hold.specs.Whole.{whole_peaks, whole_times, timer_fits, whole_hold}
+use Rattle.delay_hold.specs.Whole.{whole_peaks, whole_times, whole_hold}
 use Rattle.base.specs.Rows as rows
 use Rattle.rules_record.specs.declared.Slot.{Slot}
 use Rattle.rules_record.specs.declared.Inputs.{Inputs}
@@ -105,7 +105,7 @@ fresh_sound s l f = record { shaped = fresh_shaped s l f; whole = fresh_whole (b
 
 -- a fresh hold over zeros
 fresh_times : (policy : DelayPolicy) → whole_times policy fresh_hold ≡ true
-unfolding whole_times timer_fits both
+unfolding whole_times both
 fresh_times policy = refl
 
 pub cleared_whole : (policy : DelayPolicy) (width : ℕ) (h : Held) → nanos ≤ policy.window → whole_hold policy width (cleared_hold h) ≡ true

@@ -1,5 +1,5 @@
 -- A place that passes the test for unused places is the empty one, and the empty one passes. Assumes nothing.
-use Rattle.std.specs.Prelude.{◌≡◌, ℕ, true, false, None, Option, Some}
+use Rattle.std.specs.Prelude.{◌≡◌, ℕ, true, None, Option, Some}
 use mathlib.Core.Path.{refl}
 use native.Mathlib.Omega.{arith}
 use borrow.Author.Tests.{eqb-true, not-true}
@@ -21,7 +21,7 @@ use Rattle.rules_record.specs.Slots.{is_auto, empty_slot}
 use Rattle.rules_record.specs.States.{state_number}
 use Rattle.rules_record.specs.Flows.{empty_entry}
 use Rattle.rules_record.specs.Instances.{no_key}
-use Rattle.rules_record.specs.WholePlaces.{never_yet, no_seed, no_route, no_inode, no_proposal, no_delay, unused_timer, unused_hold, unused_parts, unused_numbers, unused_slot, unused_entry, unused_key}
+use Rattle.rules_record.specs.WholePlaces.{never_yet, no_seed, no_timer, no_route, no_inode, no_proposal, no_delay, unused_hold, unused_parts, unused_numbers, unused_slot, unused_entry, unused_key}
 use Rattle.rules_record.specs.declared.Route.{Route}
 
 -- ---- one field
@@ -32,6 +32,10 @@ is_never (Some time) h = let z : ◌≡◌ {A = ℕ} 0 1 = cc in absurd (omega a
 is_no_seed : (x : Option Seed) → no_seed x ≡ true → x ≡ None
 is_no_seed None h = refl
 is_no_seed (Some seed) h = let z : ◌≡◌ {A = ℕ} 0 1 = cc in absurd (omega arith)
+
+is_no_timer : (x : Option LowerTimer) → no_timer x ≡ true → x ≡ None
+is_no_timer None h = refl
+is_no_timer (Some timer) h = let z : ◌≡◌ {A = ℕ} 0 1 = cc in absurd (omega arith)
 
 is_nowhere : (x : Option Route) → no_route x ≡ true → x ≡ None
 is_nowhere None h = refl
@@ -59,19 +63,7 @@ is_unrouted_law Waiting h = absurd (omega arith)
 is_unrouted_law Running h = absurd (omega arith)
 is_unrouted_law Stalled h = absurd (omega arith)
 
--- ---- a timer, a hold, a slot
-pub unused_timer_law : (timer : LowerTimer) → unused_timer timer ≡ true → timer ≡ record { on = false; since = 0; highest = 0 }
-unfolding unused_timer
-unused_timer_law timer h =
-    let t1 = both_true _ _ h in
-    let t2 = both_true _ _ t1.1 in
-    λ i.
-    record {
-      on = not-true timer.on t1.0 i;
-      since = eqb-true timer.since 0 t2.0 i;
-      highest = eqb-true timer.highest 0 t2.1 i;
-    }
-
+-- ---- a hold, a slot
 pub unused_hold_law : (hold : DelayHold) → unused_hold hold ≡ true → hold ≡ fresh_hold
 unfolding unused_hold
 unused_hold_law hold h =
@@ -85,7 +77,7 @@ unused_hold_law hold h =
     record {
       peaks = eqb-true hold.peaks 0 t1.0 i;
       last_change = is_never hold.last_change t2.0 i;
-      lower = unused_timer_law hold.lower t3.0 i;
+      lower = is_no_timer hold.lower t3.0 i;
       started = is_never hold.started t4.0 i;
       startup_late = eqb-true hold.startup_late 0 t5.0 i;
       late_before = not-true hold.late_before t6.0 i;
@@ -133,7 +125,7 @@ unused_slot_law slot h =
     }
 
 pub empty_slot_law : unused_slot empty_slot ≡ true
-unfolding unused_slot unused_parts unused_numbers unused_hold unused_timer empty_slot both
+unfolding unused_slot unused_parts unused_numbers unused_hold empty_slot both
 empty_slot_law = refl
 
 -- ---- an entry of the flow table, and an instance

@@ -2,7 +2,6 @@
 use Rattle.std.specs.Prelude.{◌≡◌, ℕ, ◌+◌, ◌≤◌, List, [], ◌∷◌, ◌++◌, length}
 use Rattle.std.proofs.lemmas.List.Edits.{sets}
 use Rattle.rules_record.specs.declared.Inputs.{Inputs}
-use Rattle.rules_record.specs.declared.Sent.{Sent}
 
 -- "three u32 words a command: kind (1 SetInput, 2 ClearInput, 3 SetDelay), input from 0, then channels, forget as 0 or 1, or samples"
 abbrev pub set_input : (input channels : ℕ) → List ℕ
@@ -30,6 +29,11 @@ send_first words next = record { inputs = next.inputs; words = words ++ next.wor
 -- the record changes once more, with nothing sent
 unfoldable pub changed : (f : (Inputs → Inputs)) (done : Done) → Done
 changed f done = record { inputs = f done.inputs; words = done.words }
+
+-- the record after a step, and how many command words are in use
+pub record Sent : Type 0 where
+  pub inputs : Inputs
+  pub used : ℕ
 
 -- The answer is what `done` says, and the lent words `after` are `before` with the words of `done` from place `from` on
 -- ("Commands stand in sending order"), at most `most` of them.

@@ -2,8 +2,7 @@
 -- Assumes nothing.
 use Rattle.std.specs.Prelude.{◌≡◌, ℕ, List, [], ◌++◌}
 use Rattle.rules_record.specs.declared.Inputs.{Inputs}
-use Rattle.rules_record.specs.declared.Sent.{Sent}
-use Rattle.rules_record.specs.Commands.{Done, Did}
+use Rattle.rules_record.specs.Commands.{Sent, Done, Did}
 use Rattle.rules_record.specs.Lent.{Lists}
 
 pub record Effect : Type 0 where

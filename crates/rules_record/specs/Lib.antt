@@ -9,6 +9,7 @@ pub mod Instances
 pub mod Prune
 pub mod Commands
 pub mod Lent
+pub mod Lending
 -- checks 1 to 8, and check 6 place by place; Facts says the same as propositions
 pub mod Checks
 pub mod WholeRecord

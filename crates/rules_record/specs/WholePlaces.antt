@@ -56,6 +56,10 @@ abbrev pub no_seed : Option Seed → Bool
 no_seed None = true
 no_seed (Some seed) = false
 
+abbrev pub no_timer : Option LowerTimer → Bool
+no_timer None = true
+no_timer (Some timer) = false
+
 abbrev pub no_route : Option Route → Bool
 no_route None = true
 no_route (Some route) = false
@@ -72,16 +76,12 @@ abbrev pub no_delay : Option ℕ → Bool
 no_delay None = true
 no_delay (Some delay) = false
 
--- the timer is off, and zero
-unfoldable pub unused_timer : LowerTimer → Bool
-unused_timer timer = both (not timer.on) (both (timer.since == 0) (timer.highest == 0))
-
 -- the hold of a slot that is not in use
 unfoldable pub unused_hold : DelayHold → Bool
 unused_hold hold =
     both (hold.peaks == 0)
     (both (never_yet hold.last_change)
-    (both (unused_timer hold.lower)
+    (both (no_timer hold.lower)
     (both (never_yet hold.started)
     (both (hold.startup_late == 0)
     (both (not hold.late_before)

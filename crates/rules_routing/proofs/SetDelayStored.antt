@@ -14,10 +14,10 @@ use Rattle.rules_record.proofs.FlowTable.{for_rest, for_distinct, for_sized, for
 use Rattle.rules_routing.specs.SetDelay.{delay_stored}
 
 -- the steps of the code
-pub stored_by : (s : Inputs) (i delay time : ℕ) {slot changed : Slot} {stored all : Inputs} → slot ≡ slot_at s i → changed ≡ with_delay slot delay time → stored ≡ put_slot s i changed → all ≡ remembered_for stored slot delay
+pub stored_by : (s : Inputs) (i delay time : ℕ) {slot : Slot} {stored all : Inputs} → slot ≡ slot_at s i → stored ≡ put_slot s i (with_delay slot delay time) → all ≡ remembered_for stored slot delay
     → all ≡ delay_stored s i delay time
 unfolding delay_stored
-stored_by s i delay time e f g h = rw (h, g, f, e)
+stored_by s i delay time e f g = rw (g, f, e)
 
 -- a change of the slots, and then of the flow table
 rest_of : (s slots all : Inputs) → slots ≡ with_slots s slots.slots → all ≡ with_flows slots all.flows slots.flow_count all.unsaved

@@ -1,11 +1,11 @@
 -- The definitions of opening as the code comes to them, each under what leads to it. Assumes nothing.
+use Rattle.base.specs.Choice.{both}
+use lib.Dec.{eqb}
 use Rattle.std.specs.Prelude.{None, Option, Some}
 use Prim.Native.Nat.{ℕ, ◌+◌, min}
 use mathlib.Core.Bool.{true, false}
 use mathlib.Core.Path.{◌≡◌, sym, ap, ◌∙◌}
-use lib.Dec.{eqb}
 use borrow.Author.Tests.{eq-eqb, ne_eqb}
-use Rattle.base.specs.Choice.{both}
 use Rattle.base.proofs.Choices.{yes_pick, no_pick}
 use Rattle.delay_hold.specs.declared.DelayHold.{DelayHold}
 use Rattle.delay_hold.specs.Next.{seeded_hold}
@@ -14,7 +14,7 @@ use Rattle.rules_record.specs.declared.Route.{Route}
 use Rattle.rules_record.specs.declared.Instance.{Instance}
 use Rattle.rules_record.specs.declared.Inputs.{Inputs}
 use Rattle.rules_record.specs.declared.State.TheVariants.{Running}
-use Rattle.rules_record.specs.Slots.{is_auto, with_state, with_inode, with_head, with_reopens, with_hold, with_last_input}
+use Rattle.rules_record.specs.Slots.{with_state, with_inode, with_head, with_reopens, with_hold, with_last_input, is_auto}
 use Rattle.rules_record.specs.States.{state_number}
 use Rattle.rules_record.specs.Inputs.{slot_at, put_slot}
 use Rattle.rules_record.specs.Commands.{set_input, quiet, send_first}
@@ -27,29 +27,25 @@ use Rattle.rules_routing.specs.TryOpen.{running_slot, opened_slot, starts_anew, 
 
 -- ---- the slot
 module _ (slot : Slot) (inode head time : ℕ) {number : ℕ} (code : number ≡ state_number slot.state) where
-  module _ {told placed : Slot} (t : told ≡ with_last_input slot time) (e : placed ≡ with_inode told (Some inode)) where
-    placed_is : placed ≡ with_inode (with_last_input slot time) (Some inode)
-    placed_is = e ∙ ap (λ (x : Slot). with_inode x (Some inode)) t
+  abbrev placed : Slot
+  placed = with_inode (with_last_input slot time) (Some inode)
 
-    pub running_stalled : number ≡ 3 → {r : Slot} → r ≡ with_head placed head slot.head_changed → r ≡ running_slot slot inode head time
-    unfolding running_slot
-    running_stalled h f = f ∙ ap (λ (x : Slot). with_head x head slot.head_changed) placed_is ∙ sym (yes_pick _ _ (eq-eqb _ _ (sym code ∙ h)))
+  pub running_stalled : number ≡ 3 → with_head placed head slot.head_changed ≡ running_slot slot inode head time
+  unfolding running_slot
+  running_stalled h = sym (yes_pick _ _ (eq-eqb _ _ (sym code ∙ h)))
 
-    pub running_now : (number ≡ 3 → ⊥) → {runs r : Slot} → runs ≡ with_state placed Running → r ≡ with_head runs head time → r ≡ running_slot slot inode head time
-    unfolding running_slot
-    running_now h g f =
-        f
-        ∙ ap (λ (x : Slot). with_head x head time) (g ∙ ap (λ (x : Slot). with_state x Running) placed_is)
-        ∙ sym (no_pick _ _ (ne_eqb _ _ (λ q. h (code ∙ q))))
+  pub running_now : (number ≡ 3 → ⊥) → with_head (with_state placed Running) head time ≡ running_slot slot inode head time
+  unfolding running_slot
+  running_now h = sym (no_pick _ _ (ne_eqb _ _ (λ q. h (code ∙ q))))
 
   module _ {runs : Slot} (e : runs ≡ running_slot slot inode head time) where
     pub opened_waiting : number ≡ 1 → runs ≡ opened_slot slot inode head time
     unfolding opened_slot
     opened_waiting h = e ∙ sym (yes_pick _ _ (eq-eqb _ _ (sym code ∙ h)))
 
-    pub opened_again : (number ≡ 1 → ⊥) → {r : Slot} → r ≡ with_reopens runs (slot.reopens + 1) → r ≡ opened_slot slot inode head time
+    pub opened_again : (number ≡ 1 → ⊥) → with_reopens runs (slot.reopens + 1) ≡ opened_slot slot inode head time
     unfolding opened_slot
-    opened_again h f = f ∙ ap (λ (x : Slot). with_reopens x (slot.reopens + 1)) e ∙ sym (no_pick _ _ (ne_eqb _ _ (λ q. h (code ∙ q))))
+    opened_again h = ap (λ (x : Slot). with_reopens x (slot.reopens + 1)) e ∙ sym (no_pick _ _ (ne_eqb _ _ (λ q. h (code ∙ q))))
 
 module _ (slot : Slot) where
   pub starts_manual : is_auto slot.config.extra_delay ≡ false → false ≡ starts_anew slot
@@ -65,12 +61,12 @@ module _ (slot : Slot) where
     unfolding starts_anew both
     starts_waiting h = sym (yes_pick _ _ auto ∙ yes_pick _ _ (eq-eqb _ _ (sym code ∙ h)))
 
-pub seeded_by : (s : Inputs) (i delay time : ℕ) {slot changed : Slot} {hold : DelayHold} {r : Inputs} → slot ≡ slot_at s i → hold ≡ seeded_hold slot.hold delay time → changed ≡ with_hold slot hold → r ≡ put_slot s i changed
+pub seeded_by : (s : Inputs) (i delay time : ℕ) {slot : Slot} {hold : DelayHold} {r : Inputs} → slot ≡ slot_at s i → hold ≡ seeded_hold slot.hold delay time → r ≡ put_slot s i (with_hold slot hold)
     → r ≡ seeded_at i delay time s
 unfolding seeded_at
-seeded_by s i delay time {slot} e f g h =
-    h
-    ∙ ap (put_slot s i) (g ∙ ap (with_hold slot) f ∙ ap (λ (x : Slot). with_hold x (seeded_hold x.hold delay time)) e)
+seeded_by s i delay time {slot} e f g =
+    g
+    ∙ ap (put_slot s i) (ap (with_hold slot) f ∙ ap (λ (x : Slot). with_hold x (seeded_hold x.hold delay time)) e)
 
 -- ---- the delay that it starts with
 pub start_by_law : (s : Inputs) (i last time : ℕ) {delay : ℕ} → delay ≡ min last s.policy.delay_max → start_of s i last time ≡ start_at delay s i time

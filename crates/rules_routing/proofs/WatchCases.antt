@@ -1,6 +1,6 @@
 -- The definitions of watching as the code comes to them, each under what leads to it. Assumes nothing.
-use Rattle.std.specs.Prelude.{None, Option, Some}
-use Prim.Native.Nat.{ℕ, ◌+◌, ◌-◌, ◌<◌, ◌^◌}
+use Rattle.std.specs.Prelude.{None, Option, Some, ◌+◌}
+use Prim.Native.Nat.{ℕ, ◌-◌, ◌<◌, ◌^◌}
 use mathlib.Core.Bool.{true, false}
 use mathlib.Core.Path.{◌≡◌, sym, ap, subst, ◌∙◌}
 use lib.Dec.{eqb, leb}
@@ -10,7 +10,7 @@ use Rattle.base.proofs.Choices.{yes_pick, no_pick}
 use Rattle.rules_record.specs.declared.Slot.{Slot}
 use Rattle.rules_record.specs.declared.Route.{Route}
 use Rattle.rules_record.specs.declared.Inputs.{Inputs}
-use Rattle.rules_record.specs.declared.State.TheVariants.{Waiting, Running, Stalled}
+use Rattle.rules_record.specs.declared.State.TheVariants.{Running, Stalled, Waiting}
 use Rattle.rules_record.specs.Slots.{with_state, with_head, with_reopens}
 use Rattle.rules_record.specs.States.{state_number}
 use Rattle.rules_record.specs.Inputs.{slot_at, put_slot}
@@ -25,29 +25,23 @@ pub lost_by : (slot : Slot) {waits r : Slot} → waits ≡ with_state slot Waiti
 unfolding lost_slot
 lost_by slot e f = f ∙ ap (λ (x : Slot). with_reopens x (slot.reopens + 1)) e
 
-module _ (slot : Slot) (head time : ℕ) {number : ℕ} (code : number ≡ state_number slot.state) {seen : Slot} (e : seen ≡ with_head slot head time) where
-  pub moved_stalled : number ≡ 3 → {r : Slot} → r ≡ with_state seen Running → r ≡ moved_slot slot head time
+module _ (slot : Slot) (head time : ℕ) {number : ℕ} (code : number ≡ state_number slot.state) where
+  pub moved_stalled : number ≡ 3 → with_state (with_head slot head time) Running ≡ moved_slot slot head time
   unfolding moved_slot
-  moved_stalled h f = f ∙ ap (λ (x : Slot). with_state x Running) e ∙ sym (yes_pick _ _ (eq-eqb _ _ (sym code ∙ h)))
+  moved_stalled h = sym (yes_pick _ _ (eq-eqb _ _ (sym code ∙ h)))
 
-  pub moved_other : (number ≡ 3 → ⊥) → seen ≡ moved_slot slot head time
+  pub moved_other : (number ≡ 3 → ⊥) → with_head slot head time ≡ moved_slot slot head time
   unfolding moved_slot
-  moved_other h = e ∙ sym (no_pick _ _ (ne_eqb _ _ (λ q. h (code ∙ q))))
+  moved_other h = sym (no_pick _ _ (ne_eqb _ _ (λ q. h (code ∙ q))))
 
-module _ (slot : Slot) (time stall : ℕ) {number : ℕ} (code : number ≡ state_number slot.state) where
-  pub stalls_other : (number ≡ 2 → ⊥) → false ≡ stalls_now slot time stall
-  unfolding stalls_now both
-  stalls_other h = sym (no_pick _ _ (ne_eqb _ _ (λ q. h (code ∙ q))))
-
-  pub stalls_running : number ≡ 2 → {age : ℕ} → age ≡ time - slot.head_changed → leb stall age ≡ stalls_now slot time stall
-  unfolding stalls_now both
-  stalls_running h e = ap (leb stall) e ∙ sym (yes_pick _ _ (eq-eqb _ _ (sym code ∙ h)))
+-- a running input stalls where it had the same head for `stall`
+pub stalls_running : (slot : Slot) (time stall : ℕ) → state_number slot.state ≡ 2 → leb stall (time - slot.head_changed) ≡ stalls_now slot time stall
+unfolding stalls_now both
+stalls_running slot time stall h = sym (yes_pick _ _ (eq-eqb _ _ h))
 
 -- the count of reopens stays where an input stalls
-pub stalled_reopens : (s : Inputs) (i : ℕ) (slot : Slot) {all : Inputs} {stalled : Slot} → stalled ≡ with_state slot Stalled → all ≡ put_slot s i stalled → (slot_at s i).reopens < 2 ^ 63 → slot.reopens < 2 ^ 63 → (slot_at all i).reopens < 2 ^ 63
-stalled_reopens s i slot {all} {stalled} e f old new =
-    subst (λ (z : Inputs). (slot_at z i).reopens < 2 ^ 63) (sym f)
-    (slot_put s i stalled (λ (x : Slot). x.reopens < 2 ^ 63) (subst (λ (x : Slot). x.reopens < 2 ^ 63) (sym e) new) old)
+pub stalled_reopens : (s : Inputs) (i : ℕ) (slot : Slot) {all : Inputs} → all ≡ put_slot s i (with_state slot Stalled) → (slot_at s i).reopens < 2 ^ 63 → slot.reopens < 2 ^ 63 → (slot_at all i).reopens < 2 ^ 63
+stalled_reopens s i slot e old new = subst (λ (z : Inputs). (slot_at z i).reopens < 2 ^ 63) (sym e) (slot_put s i (with_state slot Stalled) (λ (x : Slot). x.reopens < 2 ^ 63) new old)
 
 -- ---- the head
 module _ (slot : Slot) (s : Inputs) (i time : ℕ) (world : World) where

@@ -1,16 +1,14 @@
 -- `auto_delay`, case by case, as the code goes. Assumes nothing.
 use Rattle.std.specs.Prelude.{None, Option, Some}
-use Prim.Native.Nat.{ℕ, ◌*◌, ◌<◌}
+use Prim.Native.Nat.{ℕ, ◌*◌}
 use mathlib.Core.Bool.{Bool, true, false}
-use mathlib.Core.Path.{◌≡◌, sym, ap, subst, ◌∙◌}
+use mathlib.Core.Path.{◌≡◌, sym, ap, ◌∙◌}
 use mathlib.Core.List.{List}
 use borrow.Author.Tests.{eq-eqb, ne_eqb}
 use Rattle.base.specs.Lists.{part, patched}
-use Rattle.base.specs.Limits.{counter_limit}
 use Rattle.base.proofs.Choices.{yes_pick, no_pick}
 use Rattle.base.proofs.Points.{true_both}
 use Rattle.base.proofs.All.{both_no, both_yes}
-use Rattle.delay_hold.specs.declared.DelayHold.{DelayHold}
 use Rattle.delay_hold.specs.declared.Next.{Next}
 use Rattle.delay_hold.specs.Steps5To8.{timer_off, with_lower}
 use Rattle.delay_hold.specs.Next.{held, Decided, decided, next_of, one_millisecond, always_lower}
@@ -22,9 +20,8 @@ use Rattle.rules_record.specs.Inputs.{slot_at, put_slot}
 use Rattle.rules_record.specs.Commands.{quiet}
 use Rattle.rules_routing.specs.SetDelay.{set_delay_of}
 use Rattle.rules_record.specs.Lent.{Lists, lists, window_for, held_for}
-use Rattle.rules_record.specs.Facts.{OwnSums}
 use Rattle.rules_record.specs.Effects.{silent, beside}
-use Rattle.rules_tick.specs.AutoDelay.{p999_of, proposed_or, current_of, next_for, Answered, proposing, changing, answered, decided_for, interrupted, goes_on, auto_delayed}
+use Rattle.rules_tick.specs.AutoDelay.{p999_of, current_of, next_for, Answered, proposing, changing, answered, decided_for, interrupted, goes_on, auto_delayed}
 
 module _ (i : ℕ) (largest : Option ℕ) (time : ℕ) (s : Inputs) (l : Lists) where
   -- ---- whether it goes on
@@ -61,34 +58,26 @@ module _ (i time : ℕ) (slot : Slot) (s : Inputs) where
     unfolding answered
     answered_change h = ap (λ (x : Option ℕ). answered x i time slot s) answer ∙ no_pick _ _ h
 
--- "current is the proposal or else the delay"
-pub current_none : (slot : Slot) → slot.proposed ≡ None → slot.delay ≡ current_of slot
-current_none slot e = sym (ap (λ (x : Option ℕ). proposed_or x slot.delay) e)
-
-pub current_pending : (slot : Slot) (delay : ℕ) → slot.proposed ≡ Some delay → delay ≡ current_of slot
-current_pending slot delay e = sym (ap (λ (x : Option ℕ). proposed_or x slot.delay) e)
-
 -- ---- the steps of the code
-module _ (s : Inputs) (i : ℕ) (largest : Option ℕ) (time : ℕ) (starts sums times lags : List ℕ) {slot : Slot} {p : Option ℕ} {current k : ℕ} {times' lags' : List ℕ} {answer : Next}
+module _ (s : Inputs) (i : ℕ) (largest : Option ℕ) (time : ℕ) (l : Lists) {slot : Slot} {p : Option ℕ} {current k : ℕ} {times' lags' : List ℕ} {answer : Next}
     (is-slot : slot ≡ slot_at s i)
-    (is-p : (totals counts times peaks : List ℕ) → OwnSums s (lists starts totals counts sums times peaks) i slot → p ≡ p999_of s.policy (window_for s (lists starts totals counts sums times peaks) i slot))
+    (is-p : p ≡ p999_of s.policy (window_for s l i slot))
     (is-current : current ≡ current_of slot)
     (is-k : k ≡ 600)
-    (is-next : decided answer times' lags' ≡ next_of one_millisecond always_lower s.policy (held slot.hold (part (i * 600) k times) (part (i * 600) k lags)) p largest current time) where
-  pub next_by : (totals counts : List ℕ) → OwnSums s (lists starts totals counts sums times lags) i (slot_at s i)
-      → Answered i (next_for i largest time s (lists starts totals counts sums times lags)) answer (lists starts totals counts sums times lags) (lists starts totals counts sums (patched (i * 600) k times' times) (patched (i * 600) k lags' lags))
+    (is-next : decided answer times' lags' ≡ next_of one_millisecond always_lower s.policy (held slot.hold (part (i * 600) k l.times) (part (i * 600) k l.peaks)) p largest current time) where
+  next_is : decided answer times' lags' ≡ next_for i largest time s l
   unfolding next_for
-  next_by totals counts own = record {
-    change = ap (λ (d : Decided). d.change) is;
-    hold = ap (λ (d : Decided). d.held.hold) is;
-    lists = λ t. lists starts totals counts sums (patched (i * 600) (is-k t) (is t).held.times times) (patched (i * 600) (is-k t) (is t).held.lags lags);
+  next_is =
+      is-next
+      ∙ (λ t. next_of one_millisecond always_lower s.policy (held slot.hold (part (i * 600) (is-k t) l.times) (part (i * 600) (is-k t) l.peaks)) (is-p t) largest (is-current t) time)
+      ∙ ap (λ (x : Slot). next_of one_millisecond always_lower s.policy (held_for l i x) (p999_of s.policy (window_for s l i x)) largest (current_of x) time) is-slot
+
+  pub next_by : Answered i (next_for i largest time s l) answer l (lists l.starts l.totals l.counts l.sums (patched (i * 600) k times' l.times) (patched (i * 600) k lags' l.peaks))
+  next_by = record {
+    change = ap (λ (d : Decided). d.change) next_is;
+    hold = ap (λ (d : Decided). d.held.hold) next_is;
+    lists = λ t. lists l.starts l.totals l.counts l.sums (patched (i * 600) (is-k t) (next_is t).held.times l.times) (patched (i * 600) (is-k t) (next_is t).held.lags l.peaks);
   }
-    where
-      is : decided answer times' lags' ≡ next_for i largest time s (lists starts totals counts sums times lags)
-      is =
-          is-next
-          ∙ (λ t. next_of one_millisecond always_lower s.policy (held slot.hold (part (i * 600) (is-k t) times) (part (i * 600) (is-k t) lags)) (is-p totals counts times lags (subst (OwnSums s (lists starts totals counts sums times lags) i) (sym is-slot) own) t) largest (is-current t) time)
-          ∙ ap (λ (x : Slot). next_of one_millisecond always_lower s.policy (held_for (lists starts totals counts sums times lags) i x) (p999_of s.policy (window_for s (lists starts totals counts sums times lags) i x)) largest (current_of x) time) is-slot
 
 module _ (s : Inputs) (i : ℕ) (largest : Option ℕ) (time : ℕ) (l : Lists) {slot : Slot} (is-slot : slot ≡ slot_at s i) {code : ℕ} (is_code : code ≡ state_number slot.state) where
   state_is : code ≡ state_number (slot_at s i).state
@@ -110,16 +99,9 @@ module _ (s : Inputs) (i : ℕ) (largest : Option ℕ) (time : ℕ) (l : Lists) 
       pub manual_by : automatic ≡ false → auto_delayed i largest time s l ≡ silent s l
       manual_by h = auto_manual i largest time s l (λ e. moves (state_is ∙ e)) (sym state_is ∙ running) (sym auto_is ∙ h)
 
-      pub decides_by : {answer : Next} {decided : Slot} {m : Lists} → automatic ≡ true → Answered i (next_for i largest time s l) answer l m → decided ≡ with_hold slot answer.hold
-          → auto_delayed i largest time s l ≡ beside m (answered answer.change i time decided s)
+      pub decides_by : {answer : Next} {m : Lists} → automatic ≡ true → Answered i (next_for i largest time s l) answer l m
+          → auto_delayed i largest time s l ≡ beside m (answered answer.change i time (with_hold slot answer.hold) s)
       unfolding decided_for
-      decides_by {answer} {decided} {m} h a e =
+      decides_by {answer} {m} h a =
           auto_decides i largest time s l (λ q. moves (state_is ∙ q)) (sym state_is ∙ running) (sym auto_is ∙ h)
-          ∙ sym (λ t. beside (a.lists t) (answered (a.change t) i time (decided_is t) s))
-        where
-          decided_is : decided ≡ with_hold (slot_at s i) (next_for i largest time s l).held.hold
-          decided_is = e ∙ (λ t. with_hold (is-slot t) (a.hold t))
-
--- what the answer asks of the slot with its new hold
-pub answer_asks : (s : Inputs) (i : ℕ) {slot decided : Slot} {hold : DelayHold} → slot ≡ slot_at s i → decided ≡ with_hold slot hold → (slot_at s i).delay_changes < counter_limit → decided.delay_changes < counter_limit
-answer_asks s i is-slot e h = subst (λ (n : ℕ). n < counter_limit) (sym (ap (λ (x : Slot). x.delay_changes) e ∙ ap (λ (x : Slot). x.delay_changes) is-slot)) h
+          ∙ sym (λ t. beside (a.lists t) (answered (a.change t) i time (with_hold (is-slot t) (a.hold t)) s))

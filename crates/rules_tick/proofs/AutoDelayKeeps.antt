@@ -13,6 +13,7 @@ use Rattle.delay_hold.specs.Next.{Decided, one_millisecond, always_lower}
 use Rattle.delay_hold.specs.Whole.{whole_hold}
 use Rattle.delay_hold.specs.Checks.{AskedFor}
 use Rattle.delay_hold.proofs.Keeps.{ChangeFits, next_keeps_whole, next_keeps_lengths, next_change_fits}
+use Rattle.delay_hold.proofs.Marks.{interrupted_whole}
 use Rattle.rules_record.specs.declared.Slot.{Slot}
 use Rattle.rules_record.specs.declared.Inputs.{Inputs}
 use Rattle.rules_record.specs.Slots.{with_hold, with_proposed, with_delay_changes, with_delay}
@@ -37,7 +38,6 @@ use Rattle.rules_tick.proofs.Ready.{current_fits}
 use Rattle.rules_routing.proofs.SettingsKept.{SameSettings, settings_then, settings_put, settings_stored}
 use Rattle.rules_tick.proofs.Readiness.{ready_of}
 use Rattle.rules_tick.proofs.Raised.{Raised, raised_by}
-use Rattle.rules_tick.proofs.Interrupts.{interrupt_keeps_whole}
 use Rattle.rules_routing.proofs.SetDelayKeeps.{stored_keeps}
 
 -- ---- what `next` is asked, and what it keeps
@@ -163,7 +163,7 @@ module _ (i : ℕ) (largest : Option ℕ) (time : ℕ) (s : Inputs) (l : Lists) 
         input_keeps s l l i (with_hold (slot_at s i) (with_lower (slot_at s i).hold timer_off)) c h (beside_same s.count (buckets_in s) i l c.fitting.long)
         ready.window
         ready.sums
-        (interrupt_keeps_whole s.policy s.width (held_of s l i) ready.hold)
+        (interrupted_whole s.policy s.width (held_of s l i) ready.hold)
         (record { delay = old.delay; proposed = old.proposed; route = old.route; reopens = old.reopens; changes = old.changes; lates = old.lates; head = old.head; set = old.set; opened = old.opened })
 
     -- the slot with its new hold, and perhaps more

@@ -58,10 +58,10 @@ module _ (slot : Slot) where
   events_more late e before = rw (e, before)
 
 -- ---- the steps of the code
-pub late_by : (policy : DelayPolicy) (slot : Slot) (applied : ℕ) (largest : Option ℕ) {late : Bool} {events : ℕ} {r : Slot} → late ≡ late_now policy slot applied largest → events ≡ late_events_of slot late → r ≡ with_late slot events late
-    → r ≡ late_slot policy slot applied largest
-late_by policy slot applied largest {late} is-late is-events is-changed =
-    is-changed ∙ ap (λ (n : ℕ). with_late slot n late) is-events ∙ ap (λ (b : Bool). with_late slot (late_events_of slot b) b) is-late
+pub late_by : (policy : DelayPolicy) (slot : Slot) (applied : ℕ) (largest : Option ℕ) {late : Bool} {events : ℕ} → late ≡ late_now policy slot applied largest → events ≡ late_events_of slot late
+    → with_late slot events late ≡ late_slot policy slot applied largest
+late_by policy slot applied largest {late} is-late is-events =
+    ap (λ (n : ℕ). with_late slot n late) is-events ∙ ap (λ (b : Bool). with_late slot (late_events_of slot b) b) is-late
 
 -- a late event in a slot that is then stored is one in the record with that slot put
 pub late_stored : (s : Inputs) (i applied : ℕ) (largest : Option ℕ) (slot : Slot) {heard : Slot} → i < 16 → length s.slots ≡ 16 → heard ≡ late_slot s.policy slot applied largest

@@ -5,7 +5,6 @@ pub mod Ready
 pub mod AutoDelayKeeps
 pub mod AutoDelayCases
 pub mod Raised
-pub mod Interrupts
 pub mod LateKeeps
 pub mod LateCases
 pub mod P999

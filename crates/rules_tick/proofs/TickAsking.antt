@@ -2,7 +2,7 @@
 use Rattle.std.specs.Prelude.{Option}
 use Prim.Native.Nat.{ℕ, ◌<◌, ◌≤◌}
 use mathlib.Core.Path.{◌≡◌, refl, sym, ap, subst, ◌∙◌}
-use mathlib.Core.List.{List, []}
+use mathlib.Core.List.{List}
 use native.Mathlib.Omega.{arith}
 use lib.ListN.{length, set}
 use Rattle.base.specs.Limits.{time_limit, counter_limit}
@@ -13,12 +13,10 @@ use Rattle.rules_record.specs.Inputs.{slot_at, put_slot, with_slots}
 use Rattle.rules_record.proofs.SlotFrame.{slot_same, put_stores}
 use Rattle.rules_record.proofs.Sized.{sized_put}
 use Rattle.rules_record.specs.Sized.{Sized}
-use Rattle.rules_record.specs.declared.Sent.{Sent}
-use Rattle.rules_record.specs.Commands.{Did, quiet}
+use Rattle.rules_record.specs.Commands.{Sent, Did, quiet}
 use Rattle.rules_record.proofs.Sending.{did_by, did_quiet}
 use Rattle.rules_routing.specs.Watch.{moved_slot}
-use Rattle.rules_record.specs.Lent.{Lists, lists}
-use Rattle.rules_record.specs.Facts.{OwnSums}
+use Rattle.rules_record.specs.Lent.{Lists}
 use Rattle.rules_record.specs.Effects.{Effect, silent, beside, Effected}
 use Rattle.rules_record.proofs.Effects.{effected_by, effected_silent, effected_done}
 use Rattle.rules_tick.specs.Lags.{arrived, largest_of}
@@ -42,10 +40,8 @@ module _ (s : Inputs) (l : Lists) (i : ℕ) (look : Look) (lags : List ℕ) (tim
   pub low : i < 16
   low = ready_low s l i asked.ready
 
-  pub arrive_asks : ArriveAsked s (lists l.starts l.totals l.counts l.sums [] []) i time (length lags)
-  arrive_asks =
-      let w = ready_window s l i asked.ready in
-      record { window = record { sound = w.sound; held = w.held; sums_in = w.sums_in; whole = w.whole; sums = w.sums }; timely = soon; room = asked.room }
+  pub arrive_asks : ArriveAsked s l i time (length lags)
+  arrive_asks = record { window = ready_window s l i asked.ready; timely = soon; room = asked.room }
 
   abbrev first : Inputs
   first = (arrived i time lags s l).inputs
@@ -96,79 +92,64 @@ module _ (s : Inputs) (l : Lists) (i : ℕ) (look : Look) (lags : List ℕ) (tim
       abbrev third : Inputs
       third = (looked i look time second).inputs
 
-      module _ {seen : Sent} {before after a b c d : List ℕ} {used : ℕ} (h : Did 6 (looked i look time stored) seen before after used) (e : lists a b c d l.times l.peaks ≡ left) where
+      module _ {seen : Sent} {before after : List ℕ} {used : ℕ} {m : Lists} (h : Did 6 (looked i look time stored) seen before after used) (e : m ≡ left) where
         third_is : seen.inputs ≡ third
         third_is = h.inputs ∙ ap (λ (x : Inputs). (looked i look time x).inputs) second_is
 
-        third_ready : Ready seen.inputs (lists a b c d l.times l.peaks) i
-        third_ready = subst (λ (x : Inputs). Ready x (lists a b c d l.times l.peaks) i) (sym third_is) (subst (λ (m : Lists). Ready third m i) (sym e) (looked_ready second left i second_ready time soon second_sized look))
+        third_ready : Ready seen.inputs m i
+        third_ready = subst (λ (x : Inputs). Ready x m i) (sym third_is) (subst (λ (x : Lists). Ready third x i) (sym e) (looked_ready second left i second_ready time soon second_sized look))
 
         third_changes : (slot_at third i).delay_changes < counter_limit
         third_changes = subst (λ (n : ℕ). n < counter_limit) (sym (looked_changes second left i second_ready time soon second_sized look)) changes_fit
 
-        pub auto_asks : AutoAsked seen.inputs i a d l.times l.peaks
+        pub auto_asks : AutoAsked seen.inputs m i
         auto_asks = record {
-          totals = b;
-          counts = c;
           ready = third_ready;
           changes = subst (λ (x : Inputs). (slot_at x i).delay_changes < counter_limit) (sym third_is) third_changes;
         }
 
-        -- the sums that the lags left are those of the counts that they left
-        pub auto_sums : OwnSums seen.inputs (lists a b c d l.times l.peaks) i (slot_at seen.inputs i)
-        auto_sums = (ready_window seen.inputs (lists a b c d l.times l.peaks) i third_ready).sums
-
 -- ---- the steps in a row
-module _ (i : ℕ) (look : Look) (lags : List ℕ) (time : ℕ) (s : Inputs) (l : Lists) (slot : Slot) {heard_slot : Slot} {largest : Option ℕ} {seen answer : Sent} {a b c d times peaks before middle after : List ℕ} {used : ℕ}
+module _ (i : ℕ) (look : Look) (lags : List ℕ) (time : ℕ) (s : Inputs) (l : Lists) (slot : Slot) {heard_slot : Slot} {largest : Option ℕ} {seen answer : Sent} {m after_all : Lists} {before middle after : List ℕ} {used : ℕ}
     (low : i < 16) (sized : length s.slots ≡ 16)
-    (is-arrived : (times peaks : List ℕ) → silent (put_slot s i slot) (lists a b c d times peaks) ≡ arrived i time lags s (lists l.starts l.totals l.counts l.sums times peaks))
+    (is-arrived : silent (put_slot s i slot) m ≡ arrived i time lags s l)
     (is-largest : largest ≡ largest_of lags)
     (is-late : heard_slot ≡ late_slot s.policy slot look.applied largest)
     (is_seen : Did 6 (looked i look time (with_slots s (set s.slots i heard_slot))) seen before middle used)
-    (is-answer : Effected 3 (auto_delayed i largest time seen.inputs (lists a b c d l.times l.peaks)) answer (lists a b c d times peaks) middle after seen.used) where
+    (is-answer : Effected 3 (auto_delayed i largest time seen.inputs m) answer after_all middle after seen.used) where
   abbrev all : Inputs
   all = put_slot s i slot
 
   abbrev after_late : Inputs
   after_late = with_slots s (set s.slots i heard_slot)
 
-  first_is : silent all (lists a b c d l.times l.peaks) ≡ arrived i time lags s l
-  first_is = is-arrived l.times l.peaks
-
-  pub first_inputs : all ≡ (arrived i time lags s l).inputs
-  first_inputs = ap (λ (x : Effect). x.inputs) first_is
-
-  pub first_lists : lists a b c d l.times l.peaks ≡ (arrived i time lags s l).lists
-  first_lists = ap (λ (x : Effect). x.lists) first_is
-
-  heard_by : Effected 0 (heard i look lags time s l) (record { inputs = after_late; used = used }) (lists a b c d l.times l.peaks) before before used
+  heard_by : Effected 0 (heard i look lags time s l) (record { inputs = after_late; used = used }) m before before used
   unfolding heard
   heard_by =
-      effected_then 0 0 (arrived i time lags s l) (λ z m. silent (late_event i look.applied (largest_of lags) z) m)
-      (subst (λ (x : Effect). Effected 0 x (record { inputs = all; used = used }) (lists a b c d l.times l.peaks) before before used) first_is (effected_silent refl refl))
+      effected_then 0 0 (arrived i time lags s l) (λ z x. silent (late_event i look.applied (largest_of lags) z) x)
+      (subst (λ (x : Effect). Effected 0 x (record { inputs = all; used = used }) m before before used) is-arrived (effected_silent refl refl))
       (effected_silent (late_stored s i look.applied largest slot low sized is-late ∙ ap (λ (x : Option ℕ). late_event i look.applied x all) is-largest) refl)
 
-  seen_by : Effected 6 (beside (lists a b c d l.times l.peaks) (looked i look time after_late)) seen (lists a b c d l.times l.peaks) before middle used
+  seen_by : Effected 6 (beside m (looked i look time after_late)) seen m before middle used
   seen_by = effected_done is_seen refl
 
-  pub ticked_by : Effected 9 (ticked_input i look lags time s l) answer (lists a b c d times peaks) before after used
+  pub ticked_by : Effected 9 (ticked_input i look lags time s l) answer after_all before after used
   unfolding ticked_input
   ticked_by =
       effected_then 6 3 _ (auto_delayed i (largest_of lags) time)
-      (effected_then 0 6 (heard i look lags time s l) (λ z m. beside m (looked i look time z)) heard_by seen_by)
-      (subst (λ (x : Option ℕ). Effected 3 (auto_delayed i x time seen.inputs (lists a b c d l.times l.peaks)) answer (lists a b c d times peaks) middle after seen.used) is-largest is-answer)
+      (effected_then 0 6 (heard i look lags time s l) (λ z x. beside x (looked i look time z)) heard_by seen_by)
+      (subst (λ (x : Option ℕ). Effected 3 (auto_delayed i x time seen.inputs m) answer after_all middle after seen.used) is-largest is-answer)
 
 -- ---- the ways of an input that goes through no other function
 stored_slot : (s : Inputs) (i : ℕ) (slot : Slot) → i < 16 → length s.slots ≡ 16 → slot_at (with_slots s (set s.slots i slot)) i ≡ slot
 stored_slot s i slot low sized = ap (λ (z : Inputs). slot_at z i) (sym (put_stores s i slot low)) ∙ slot_same s i slot low sized
 
-pub rested_by : (i : ℕ) (look : Look) (lags : List ℕ) (time : ℕ) (s : Inputs) (l : Lists) (slot heard_slot : Slot) {largest : Option ℕ} {a b c d words : List ℕ} {used : ℕ}
+pub rested_by : (i : ℕ) (look : Look) (lags : List ℕ) (time : ℕ) (s : Inputs) (l : Lists) (slot heard_slot : Slot) {largest : Option ℕ} {m : Lists} {words : List ℕ} {used : ℕ}
     → i < 16 → length s.slots ≡ 16
-    → ((times peaks : List ℕ) → silent (put_slot s i slot) (lists a b c d times peaks) ≡ arrived i time lags s (lists l.starts l.totals l.counts l.sums times peaks))
+    → silent (put_slot s i slot) m ≡ arrived i time lags s l
     → largest ≡ largest_of lags
     → heard_slot ≡ late_slot s.policy slot look.applied largest
     → (state_number heard_slot.state < 2) × ((z : Inputs) (j at : ℕ) → slot_at z j ≡ heard_slot → looked j look at z ≡ quiet z)
-    → Effected 9 (ticked_input i look lags time s l) (record { inputs = with_slots s (set s.slots i heard_slot); used = used }) (lists a b c d l.times l.peaks) words words used
+    → Effected 9 (ticked_input i look lags time s l) (record { inputs = with_slots s (set s.slots i heard_slot); used = used }) m words words used
 rested_by i look lags time s l slot heard_slot {largest} low sized is-arrived is-largest is-late rests =
     ticked_by i look lags time s l slot low sized is-arrived is-largest is-late
     (did_by (rests.1 stored i time here) (did_quiet refl))

@@ -1,6 +1,6 @@
 -- What `tick` leaves, refused or accepted, as the code goes. Assumes nothing.
 use Prim.Native.Nat.{ℕ}
-use mathlib.Core.Bool.{false}
+use mathlib.Core.Bool.{Bool, false}
 use mathlib.Core.Path.{◌≡◌, sym, ap, ◌∙◌}
 use mathlib.Core.List.{List}
 use lib.ListN.{length}
@@ -13,7 +13,6 @@ use Rattle.rules_tick.specs.declared.Look.{Look}
 use Rattle.rules_tick.specs.TickChecks.{tick_number}
 use Rattle.rules_tick.specs.Tick.{ticked, unsaved_at}
 use Rattle.rules_tick.specs.TickReply.{tick_reply, tick_unsaved}
-use Rattle.rules_record.specs.Reply.{Reply}
 use Rattle.rules_tick.specs.TickAnswer.{TickReply, carried}
 use Rattle.rules_tick.specs.TickLeaves.{tick_leaves}
 
@@ -40,3 +39,9 @@ module _ (s : Inputs) (l : Lists) (commands : List ℕ) (looks : List Look) (lag
           reply = (ap (λ (k : ℕ). carried_out k commands (ticked looks lags time s l)) (sym passes) ∙ sym (accepted_new number (record { number = number; inputs = s; lists = l; commands = commands }) _ passes)) t;
           unsaved = sym (accepted_new number false (unsaved_at looks lags time s l) passes) t;
         })
+
+-- where the lent list ends as these words
+pub ticked_by : {n : ℕ} {s : Inputs} {l : Lists} {unsaved : Bool} {words list : List ℕ} {r : TickReply}
+    → record { reply = record { number = n; inputs = s; lists = l; commands = words }; unsaved = unsaved } ≡ r → list ≡ words
+    → record { reply = record { number = n; inputs = s; lists = l; commands = list }; unsaved = unsaved } ≡ r
+ticked_by {n} {s} {l} {unsaved} h e = ap (λ (c : List ℕ). record { reply = record { number = n; inputs = s; lists = l; commands = c }; unsaved = unsaved }) e ∙ h

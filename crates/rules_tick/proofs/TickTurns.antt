@@ -10,10 +10,10 @@ use Rattle.base.specs.Lists.{part, sum}
 use Rattle.base.specs.Limits.{counter_limit}
 use Rattle.rules_window.specs.Window.{Window}
 use Rattle.rules_window.specs.Checks.{room_for}
+use Rattle.rules_record.specs.Commands.{Sent}
 use Rattle.rules_record.specs.declared.Slot.{Slot}
 use Rattle.rules_record.specs.declared.Inputs.{Inputs}
 use Rattle.rules_record.specs.Sized.{Sized}
-use Rattle.rules_record.specs.declared.Sent.{Sent}
 use Rattle.rules_record.specs.Lent.{Lists, buckets_in, window_of}
 use Rattle.rules_record.specs.Checks.{Long}
 use Rattle.rules_record.specs.Effects.{Effected}
@@ -41,23 +41,17 @@ asked_same s z l m j settings long same {look} {lags} {time} a = record {
 
 -- ---- the loop
 -- after i turns the record, the lists and the commands are those of the first i inputs; the others are still to be asked
-pub record Turn (looks : List Look) (lags : List ℕ) (time : ℕ) (s₀ : Inputs) (l₀ : Lists) (c₀ : List ℕ) (i : ℕ) (s : Inputs) (l : Lists) (c : List ℕ) (used from : ℕ) : Type 0 where
+pub record Turn (looks : List Look) (lags : List ℕ) (time : ℕ) (s₀ : Inputs) (l₀ : Lists) (c₀ : List ℕ) (u₀ i : ℕ) (s : Inputs) (l : Lists) (c : List ℕ) (used from : ℕ) : Type 0 where
   pub within : i ≤ s₀.count
-  pub effected : Effected (i * 9) (ticked_below i looks lags time s₀ l₀) (record { inputs = s; used = used }) l c₀ c 0
+  pub effected : Effected (i * 9) (ticked_below i looks lags time s₀ l₀) (record { inputs = s; used = used }) l c₀ c u₀
   pub from_is : from ≡ lags_before looks i
   pub sized : Sized s
   pub count : s.count ≡ s₀.count
   pub later : (j : ℕ) → i ≤ j → j < s₀.count → InputAsked s l j (look_at looks j) (look_at looks j).lags time
-  pub starts : length l.starts ≡ length l₀.starts
-  pub totals : length l.totals ≡ length l₀.totals
-  pub counts : length l.counts ≡ length l₀.counts
-  pub sums : length l.sums ≡ length l₀.sums
-  pub times : length l.times ≡ length l₀.times
-  pub peaks : length l.peaks ≡ length l₀.peaks
   pub commands : length c ≡ length c₀
 
-module _ (looks : List Look) (lags : List ℕ) (time : ℕ) (s₀ : Inputs) (l₀ : Lists) (c₀ : List ℕ) (asked : InputsAsked s₀ l₀ looks lags time) where
-  pub turn_none : Turn looks lags time s₀ l₀ c₀ 0 s₀ l₀ c₀ 0 0
+module _ (looks : List Look) (lags : List ℕ) (time : ℕ) (s₀ : Inputs) (l₀ : Lists) (c₀ : List ℕ) (u₀ : ℕ) (asked : InputsAsked s₀ l₀ looks lags time) where
+  pub turn_none : Turn looks lags time s₀ l₀ c₀ u₀ 0 s₀ l₀ c₀ u₀ 0
   unfolding ticked_below lags_before sum
   turn_none = record {
     within = omega arith;
@@ -66,16 +60,10 @@ module _ (looks : List Look) (lags : List ℕ) (time : ℕ) (s₀ : Inputs) (l�
     sized = asked.sized;
     count = refl;
     later = λ j h g. asked.inputs j g;
-    starts = refl;
-    totals = refl;
-    counts = refl;
-    sums = refl;
-    times = refl;
-    peaks = refl;
     commands = refl;
   }
 
-  module _ (i : ℕ) {s : Inputs} {l : Lists} {c : List ℕ} {used from : ℕ} (turn : Turn looks lags time s₀ l₀ c₀ i s l c used from) (h : i < s₀.count) {look : Look} (is-look : look ≡ look_at looks i) where
+  module _ (i : ℕ) {s : Inputs} {l : Lists} {c : List ℕ} {used from : ℕ} (turn : Turn looks lags time s₀ l₀ c₀ u₀ i s l c used from) (h : i < s₀.count) {look : Look} (is-look : look ≡ look_at looks i) where
     pub lags_there : from + look.lags ≤ length lags
     lags_there = omega (arith, turn.from_is, ap (λ (x : Look). x.lags) is-look, before_within looks s₀.count i h, asked.lags_in_law)
 
@@ -98,23 +86,15 @@ module _ (looks : List Look) (lags : List ℕ) (time : ℕ) (s₀ : Inputs) (l�
             subst (λ (x : List ℕ). Effected 9 (ticked_input i (look_at looks i) x time s l) sent m c d used) own_lags
             (subst (λ (x : Look). Effected 9 (ticked_input i x (part from k lags) time s l) sent m c d used) is-look e)
 
-        pub turn_again :
-            (length m.starts ≡ length l.starts) → (length m.totals ≡ length l.totals) → (length m.counts ≡ length l.counts) → (length m.sums ≡ length l.sums) → (length m.times ≡ length l.times) → (length m.peaks ≡ length l.peaks) → (length d ≡ length c)
-            → Turn looks lags time s₀ l₀ c₀ (i + 1) sent.inputs m d sent.used (from + look.lags)
+        pub turn_again : length d ≡ length c → Turn looks lags time s₀ l₀ c₀ u₀ (i + 1) sent.inputs m d sent.used (from + look.lags)
         unfolding ticked_below
-        turn_again starts totals counts sums times peaks commands = record {
+        turn_again commands = record {
           within = omega arith;
           effected = below;
           from_is = (λ t. turn.from_is t + (is-look t).lags) ∙ sym (before_more looks i) ∙ ap (lags_before looks) (sym (add-one i));
           sized = subst Sized (sym step.done.inputs) (input_sized i (look_at looks i) (lags_of looks lags i) time s l turn.sized);
           count = ap (λ (x : Inputs). x.count) (step.done.inputs ∙ input_settings i (look_at looks i) (lags_of looks lags i) time s l) ∙ turn.count;
           later = after;
-          starts = starts ∙ turn.starts;
-          totals = totals ∙ turn.totals;
-          counts = counts ∙ turn.counts;
-          sums = sums ∙ turn.sums;
-          times = times ∙ turn.times;
-          peaks = peaks ∙ turn.peaks;
           commands = commands ∙ turn.commands;
         }
           where
@@ -124,11 +104,11 @@ module _ (looks : List Look) (lags : List ℕ) (time : ℕ) (s₀ : Inputs) (l�
             fits : room_for time (length (lags_of looks lags i)) (window_of s l i) ≡ true
             fits = ap (λ (n : ℕ). room_for time n (window_of s l i)) (lags_long looks lags s₀.count i asked.lags_in_law h) ∙ here.room
 
-            below : Effected ((i + 1) * 9) (ticked_below (i + 1) looks lags time s₀ l₀) sent m c₀ d 0
+            below : Effected ((i + 1) * 9) (ticked_below (i + 1) looks lags time s₀ l₀) sent m c₀ d u₀
             below =
                 let q : i * 9 + 9 ≡ (i + 1) * 9 = omega arith in
-                subst (λ (n : ℕ). Effected n (ticked_below (i + 1) looks lags time s₀ l₀) sent m c₀ d 0) q
-                (subst (λ (n : ℕ). Effected (i * 9 + 9) (ticked_below n looks lags time s₀ l₀) sent m c₀ d 0) (sym (add-one i))
+                subst (λ (n : ℕ). Effected n (ticked_below (i + 1) looks lags time s₀ l₀) sent m c₀ d u₀) q
+                (subst (λ (n : ℕ). Effected (i * 9 + 9) (ticked_below n looks lags time s₀ l₀) sent m c₀ d u₀) (sym (add-one i))
                 (effected_then (i * 9) 9 (ticked_below i looks lags time s₀ l₀) (ticked_input i (look_at looks i) (lags_of looks lags i) time) turn.effected step))
 
             after : (j : ℕ) → i + 1 ≤ j → j < s₀.count → InputAsked sent.inputs m j (look_at looks j) (look_at looks j).lags time
@@ -141,8 +121,8 @@ module _ (looks : List Look) (lags : List ℕ) (time : ℕ) (s₀ : Inputs) (l�
                 (input_same i (look_at looks i) (lags_of looks lags i) time s l here.ready turn.sized asked.timely fits j (omega (arith, turn.count)) (λ same. omega arith))
                 (turn.later j (omega arith) there)))
 
-  pub turn_end : (i : ℕ) {s : Inputs} {l : Lists} {c : List ℕ} {used from : ℕ} → Turn looks lags time s₀ l₀ c₀ i s l c used from → s₀.count ≤ i
-      → Effected (s₀.count * 9) (ticked_below s₀.count looks lags time s₀ l₀) (record { inputs = s; used = used }) l c₀ c 0
+  pub turn_end : (i : ℕ) {s : Inputs} {l : Lists} {c : List ℕ} {used from : ℕ} → Turn looks lags time s₀ l₀ c₀ u₀ i s l c used from → s₀.count ≤ i
+      → Effected (s₀.count * 9) (ticked_below s₀.count looks lags time s₀ l₀) (record { inputs = s; used = used }) l c₀ c u₀
   turn_end i {s} {l} {c} {used} turn h =
       let e : i ≡ s₀.count = omega (arith, turn.within) in
-      subst (λ (n : ℕ). Effected (n * 9) (ticked_below n looks lags time s₀ l₀) (record { inputs = s; used = used }) l c₀ c 0) e turn.effected
+      subst (λ (n : ℕ). Effected (n * 9) (ticked_below n looks lags time s₀ l₀) (record { inputs = s; used = used }) l c₀ c u₀) e turn.effected

@@ -8,8 +8,8 @@ use lib.ListN.{length, replicate}
 use lib.Seq.{sets}
 use Rattle.base.specs.Lists.{padded}
 use Rattle.base.proofs.Words.{laid}
+use Rattle.rules_record.specs.Commands.{Sent}
 use Rattle.rules_record.specs.declared.Inputs.{Inputs}
-use Rattle.rules_record.specs.declared.Sent.{Sent}
 use Rattle.rules_record.specs.Prune.{pruned}
 use Rattle.rules_record.specs.Lent.{Lists}
 use Rattle.rules_record.specs.Effects.{Effect, Effected}

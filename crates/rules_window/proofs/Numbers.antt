@@ -1,12 +1,14 @@
 -- The checks of the calls on a window: what a number says, and what a call answers and leaves. Assumes nothing.
-use Prim.Native.Nat.{ℕ, zero, suc, ◌+◌, ◌*◌, ◌<◌, ◌≤◌}
+use Prim.Native.Nat.{ℕ, zero, suc, ◌+◌, ◌-◌, ◌*◌, ◌<◌, ◌≤◌}
 use mathlib.Core.Bool.{Bool, true, false}
 use mathlib.Core.Path.{◌≡◌, refl, sym, ap, ◌∙◌}
 use mathlib.Core.List.{List}
 use native.Mathlib.Omega.{arith}
 use borrow.Author.Tests.{le-leb, lt-leb, leb-true, eqb-true}
 use lib.Ieee.{Float}
-use lib.ListN.{length}
+use lib.Dec.{leb}
+use lib.ListN.{length, take}
+use lib.Seq.{get_or-take, length-take-le}
 use Rattle.base.specs.Choice.{ask}
 use Rattle.base.proofs.Choices.{asked, yes_ask, no_ask, refused_old}
 use Rattle.base.proofs.Points.{both_true}
@@ -20,7 +22,7 @@ use Rattle.rules_window.specs.Window.{Window, windowed, fresh, cleared, pushed}
 use Rattle.rules_window.specs.WholeWindow.{Shaped, Sound}
 use Rattle.rules_window.specs.Quantile.{quantile_upto, Placeable}
 use Rattle.rules_window.specs.ColumnSums.{column_sums, as_one_second}
-use Rattle.rules_window.specs.Checks.{checked, newest, room_for, from_zero_to_one, new_number, push_number, quantile_number, replied, nothing, new_reply, push_reply, clear_reply, span_reply, answered, quantile_upto_reply}
+use Rattle.rules_window.specs.Checks.{checked, newest_of, newest, room_of, room_for, CanPush, from_zero_to_one, new_number, push_number, quantile_number, replied, nothing, new_reply, push_reply, clear_reply, span_reply, answered, quantile_upto_reply}
 use Rattle.rules_window.proofs.WholeAt.{whole_of}
 use Rattle.rules_window.proofs.Totals.{total_few}
 use Rattle.rules_window.proofs.ColumnSums.{sums_length, right_are_own}
@@ -201,13 +203,26 @@ module _ (time : ℕ) (w : Window) (sums : List ℕ) (n : ℕ) (e : n ≡ checke
   pub room_asks : n ≡ 0 → (w.seconds ≤ length w.starts) × (w.seconds ≤ length w.totals)
   room_asks z = let s = whole_of w (checked_sound w sums n e z) in (omega (arith, s.few, s.ls), omega (arith, s.few, s.lt))
 
-pub push_asks : (time : ℕ) (w : Window) (sums : List ℕ) (n : ℕ) → n ≡ push_number time w sums → n ≡ 0 → Sound w × ((sums ≡ column_sums w) × ((time ≤ time_limit) × (newest time w < 4294967295)))
+-- the newest total of the first n seconds, and whether it takes the lags
+newest_part : (time n : ℕ) (s t : List ℕ) → n ≤ length s → n ≤ length t → newest_of time (length (take n s)) (take n s) (take n t) ≡ newest_of time n s t
+unfolding newest_of
+newest_part time zero s t h l = refl
+newest_part time (suc n) s t h l = let last : suc n - 1 ≡ n = omega arith in rw (length-take-le (suc n) s h, last, get_or-take (suc n) s n 0 (omega arith), get_or-take (suc n) t n 0 (omega arith))
+
+pub room_part : (time lags n : ℕ) (s t : List ℕ) → (n ≤ length s) × (n ≤ length t) → room_of time lags (length (take n s)) (take n s) (take n t) ≡ room_of time lags n s t
+room_part time lags n s t h = ap (λ (total : ℕ). leb (total + lags) 4294967295) (newest_part time n s t h.0 h.1)
+
+pub push_asks : (time : ℕ) (w : Window) (sums : List ℕ) (n : ℕ) → n ≡ push_number time w sums → n ≡ 0 → CanPush time 1 w sums
 unfolding push_number
 push_asks time w sums n e z =
     let a = passed w sums _ (sym e ∙ z) in
     let b = asked _ _ _ a.1 in
     let c = asked _ _ _ b.1 in
-    (a.0.0, (a.0.1, (leb-true _ _ b.0, (let h : newest time w + 1 ≤ 4294967295 = leb-true _ _ c.0 in omega arith))))
+    record { sound = a.0.0; own = a.0.1; soon = leb-true _ _ b.0; room = c.0 }
+
+-- one lag has room
+pub one_room : (time : ℕ) (w : Window) (sums : List ℕ) → CanPush time 1 w sums → newest time w < 4294967295
+one_room time w sums h = let one : newest time w + 1 ≤ 4294967295 = leb-true _ _ h.room in omega arith
 
 module _ (q : Float) (w : Window) (sums : List ℕ) (n : ℕ) (e : n ≡ checked w sums 0) where
   pub quantile_stops : (n ≡ 0 → ⊥) → n ≡ quantile_number q w sums

@@ -19,7 +19,7 @@ use Rattle.rules_window.specs.Window.{Window, stale, opens, counted, pushed, pus
 use Rattle.rules_window.specs.WholeWindow.{Sound}
 use Rattle.rules_window.specs.ColumnSums.{column_sums}
 use Rattle.rules_window.specs.InPlace.{dropped_in_place, opened_in_place, pushed_in_place}
-use Rattle.rules_window.specs.Checks.{newest_of, newest, room_for, checked, push_number, push_reply}
+use Rattle.rules_window.specs.Checks.{newest_of, newest, room_for, CanPush, checked, push_number, push_reply}
 use Rattle.rules_window.proofs.WholeAt.{Whole, whole_of, of_whole}
 use Rattle.rules_window.proofs.Keeps.{dropped_whole, opened_whole, opens_dropped, open_fits, near, pushed_whole}
 use Rattle.rules_window.proofs.InUse.{in_place}
@@ -112,8 +112,8 @@ pub going_start : (time : ℕ) (lags : List ℕ) (w : Window) → Sound w → ro
 going_start time lags w s r = record { is = refl; sound = s; room = omega (arith, leb-true (newest time w + length lags) 4294967295 r) }
 
 module _ (time : ℕ) (lags : List ℕ) (last : Window) (i : ℕ) (w : Window) (soon : time ≤ time_limit) (g : Going time lags last i w) where
-  pub going_asks : i < length lags → (Sound w) × ((time ≤ time_limit) × (newest time w < 4294967295))
-  going_asks l = (g.sound, (soon, omega (arith, g.room)))
+  pub going_asks : (sums : List ℕ) → sums ≡ column_sums w → i < length lags → CanPush time 1 w sums
+  going_asks sums own l = record { sound = g.sound; own = own; soon = soon; room = le-leb _ _ (omega (arith, g.room)) }
 
   pub going_more : (v : Window) → i < length lags → v ≡ pushed (get_or lags i 0) time w → Going time lags last (i + 1) v
   unfolding pushed_all

@@ -1,15 +1,15 @@
 -- The checks of the calls on one window, in their order (document 01's, with document 02's 17 and 18), and what each call answers and leaves. Assumes nothing.
-use Rattle.std.specs.Prelude.{Result, ℕ, zero, suc, ◌+◌, ◌-◌, ◌*◌, Bool, false, List, leb, eqb, pos, Float, length, get_or}
+use Rattle.std.specs.Prelude.{Result, ℕ, zero, suc, ◌+◌, ◌-◌, ◌*◌, ◌≤◌, ◌≡◌, Bool, true, false, List, leb, eqb, pos, Float, length, get_or}
 use Rattle.std.specs.Float.{fin}
 use Rattle.std.specs.Float.Ieee.{le}
 use Rattle.base.specs.Choice.{pick, both, ask, accepted}
 use Rattle.refusals.specs.declared.Refusal.{Refusal}
 use Rattle.refusals.specs.Numbers as refusals
-use Rattle.base.specs.Limits.{timely}
+use Rattle.base.specs.Limits.{time_limit, timely}
 use Rattle.base.specs.Rows.{span_of}
 use Rattle.buckets.specs.Ranges.{width_allowed, buckets_of, buckets_allowed, ranges_number}
 use Rattle.rules_window.specs.Window.{Window, fresh, cleared, opens, pushed}
-use Rattle.rules_window.specs.WholeWindow.{whole_with_sums}
+use Rattle.rules_window.specs.WholeWindow.{whole_with_sums, Sound}
 use Rattle.rules_window.specs.Quantile.{Quantile, End, NoLags, Refused, quantile_upto, quantile_of}
 use Rattle.rules_window.specs.ColumnSums.{column_sums}
 
@@ -37,6 +37,14 @@ room_of time lags n starts totals = leb (newest_of time n starts totals + lags) 
 
 abbrev pub room_for : (time lags : ℕ) (w : Window) → Bool
 room_for time lags w = room_of time lags w.seconds w.starts w.totals
+
+-- what the inner functions ask before so many lags are pushed: the window is sound, the sums are its own, and 8 and 11 let the time and the lags through.
+-- Check 8 stands as a clause: a type for times would serve the pushes alone
+pub record CanPush (time lags : ℕ) (w : Window) (sums : List ℕ) : Type 0 where
+  pub sound : Sound w
+  pub own : sums ≡ column_sums w
+  pub soon : time ≤ time_limit
+  pub room : room_for time lags w ≡ true
 
 -- 14: "Is q from 0 to 1"; a NaN is not
 unfoldable pub from_zero_to_one : Float → Bool

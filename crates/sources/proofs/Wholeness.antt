@@ -11,7 +11,7 @@ use Rattle.base.specs.Limits.{time_limit, span_limit}
 use Rattle.base.proofs.Calls.{accepted_call, whole_call}
 use Rattle.sources.specs.Queries.{wait_limit, fresh_schedule, whole_down, whole_schedule, schedule_number, next_wait, query_failed_of}
 use Rattle.sources.specs.declared.Schedule.{Schedule}
-use Rattle.sources.proofs.Cases.{wait_short}
+use Rattle.sources.proofs.Calls.{wait_short}
 
 pub fresh_whole : whole_schedule fresh_schedule ≡ true
 unfolding whole_schedule whole_down

@@ -2,10 +2,12 @@
 #![tactic(auto)]
 
 ghost use Rattle.std.specs.Prelude.{◌≡◌};
+ghost use Rattle.base.specs.Choice.{ask};
+ghost use Rattle.refusals.specs.Numbers.{number_in};
 ghost use Rattle.sources.specs.Queries.{fresh_schedule, whole_schedule, query_up_of, next_wait, query_failed_of, told, left_failed};
 
-use base::{NANOS, RECORD_LIMIT, TIME_LIMIT};
-use refusals::Refusal;
+use base::{NANOS, RECORD_LIMIT};
+use refusals::{Refusal, check_time};
 
 // The first and the longest wait after the Query API did not answer.
 pub const BACKOFF_MIN: u64 = 5 * NANOS;
@@ -39,69 +41,54 @@ impl Schedule {
         Schedule { query_down: None }
     }
 
-    // Is the record whole (check 6)?
-    fn whole(self) -> bool
-        ensures { result ≡ whole_schedule self }
+    // The record is whole (check 6).
+    #[tactic(auto, unfolding(base::specs::Choice::ask, base::specs::Choice::both, crate::specs::Queries::whole_schedule, crate::specs::Queries::whole_down))]
+    fn check(self) -> Result<(), Refusal>
+        ensures { number_in result ≡ ask 6 (whole_schedule self) 0 }
     {
-        let down = self.query_down;
-        let Some(Down { until, wait }) = down else {
-            return true;
-        };
-        if until > RECORD_LIMIT {
-            return false;
+        if self.query_down.is_none_or(|down| down.until <= RECORD_LIMIT
+            && down.wait <= BACKOFF_MAX)
+        {
+            return Ok(());
         }
-        wait <= BACKOFF_MAX
+        Err(Refusal::NotWhole)
     }
 
     // The wait after the one before: twice as long, at most the longest.
+    #[tactic(auto, unfolding(crate::specs::Queries::next_wait))]
     fn next_wait(self) -> u64
         ensures { result ≡ next_wait self.query_down }
     {
-        let down = self.query_down;
-        let Some(Down { until: _, wait }) = down else {
-            return BACKOFF_MIN;
-        };
-        if wait > BACKOFF_MAX / 2 {
-            return BACKOFF_MAX;
-        }
-        wait * 2
+        self.query_down.map_or(
+            BACKOFF_MIN,
+            |down| down.wait.saturating_mul(2).min(BACKOFF_MAX),
+        )
     }
 
     // May the Query API be asked?
     pub fn query_up(self, time: u64) -> Result<bool, Refusal>
         ensures { told result ≡ query_up_of self time }
     {
-        if !self.whole() {
-            return Err(Refusal::NotWhole);
-        }
-        if time > TIME_LIMIT {
-            return Err(Refusal::Time);
-        }
-        let down = self.query_down;
-        match down {
-            None => Ok(true),
-            Some(Down { until, wait: _ }) => Ok(until <= time),
-        }
+        self.check()?;
+        check_time(time)?;
+        Ok(self.query_down.is_none_or(|down| down.until <= time))
     }
 
     // The Query API did not answer: wait twice as long as last time.
     pub fn query_failed(self, time: u64) -> Result<Failed, Refusal>
         ensures { left_failed self result ≡ query_failed_of self time }
     {
-        if !self.whole() {
-            return Err(Refusal::NotWhole);
-        }
-        if time > TIME_LIMIT {
-            return Err(Refusal::Time);
-        }
+        self.check()?;
+        check_time(time)?;
         let wait = self.next_wait();
+        let down = Down {
+            until: time + wait,
+            wait,
+        };
         Ok(Failed {
             wait,
             schedule: Schedule {
-                query_down: Some(Down {
-                    until: time + wait,
-                    wait,
-                }),
+                query_down: Some(down),
             },
         })
     }

@@ -2,10 +2,11 @@
 #![tactic(auto)]
 
 ghost use Rattle.std.specs.Prelude.{◌≡◌};
-ghost use Rattle.state.specs.Coalesce.{fresh_coalesce, whole_coalesce, changed_of, pending_of, take_due_of, take_of, left_change, told, left_take};
+ghost use Rattle.refusals.specs.Numbers.{number_in};
+ghost use Rattle.state.specs.Coalesce.{fresh_coalesce, record_number, changed_of, pending_of, take_due_of, take_of, left_change, told, left_take};
 
-use base::{RECORD_LIMIT, SPAN_LIMIT, TIME_LIMIT};
-use refusals::Refusal;
+use base::{RECORD_LIMIT, SPAN_LIMIT};
+use refusals::{Refusal, check_time};
 
 #[derive(Clone, Copy, Debug, PartialEq, Eq)]
 pub struct Coalesce {
@@ -27,15 +28,15 @@ impl Coalesce {
         Coalesce { due: None }
     }
 
-    // Is the record whole (check 6)?
-    fn whole(self) -> bool
-        ensures { result ≡ whole_coalesce self }
+    // The record is whole (check 6).
+    #[tactic(auto, unfolding(base::specs::Choice::ask, crate::specs::Coalesce::record_number, crate::specs::Coalesce::whole_coalesce, crate::specs::Coalesce::whole_due))]
+    fn check(self) -> Result<(), Refusal>
+        ensures { number_in result ≡ record_number self }
     {
-        let due = self.due;
-        match due {
-            None => true,
-            Some(at) => at <= RECORD_LIMIT,
+        if !self.due.is_none_or(|at| at <= RECORD_LIMIT) {
+            return Err(Refusal::NotWhole);
         }
+        Ok(())
     }
 
     // Something changed at `time`.
@@ -45,28 +46,18 @@ impl Coalesce {
         if delay > SPAN_LIMIT {
             return Err(Refusal::Pause);
         }
-        if !self.whole() {
-            return Err(Refusal::NotWhole);
-        }
-        if time > TIME_LIMIT {
-            return Err(Refusal::Time);
-        }
-        let due = self.due;
-        match due {
-            None => Ok(Coalesce {
-                due: Some(time + delay),
-            }),
-            Some(_) => Ok(self),
-        }
+        self.check()?;
+        check_time(time)?;
+        Ok(Coalesce {
+            due: self.due.or(Some(time + delay)),
+        })
     }
 
     // A write is waiting.
     pub fn pending(self) -> Result<bool, Refusal>
         ensures { told result ≡ pending_of self }
     {
-        if !self.whole() {
-            return Err(Refusal::NotWhole);
-        }
+        self.check()?;
         Ok(self.due.is_some())
     }
 
@@ -74,48 +65,21 @@ impl Coalesce {
     pub fn take_due(self, time: u64) -> Result<Taken, Refusal>
         ensures { left_take self result ≡ take_due_of self time }
     {
-        if !self.whole() {
-            return Err(Refusal::NotWhole);
-        }
-        if time > TIME_LIMIT {
-            return Err(Refusal::Time);
-        }
-        let due = self.due;
-        let Some(at) = due else {
-            return Ok(Taken {
-                write: false,
-                coalesce: self,
-            });
-        };
-        if at <= time {
-            return Ok(Taken {
-                write: true,
-                coalesce: Coalesce { due: None },
-            });
-        }
-        Ok(Taken {
-            write: false,
-            coalesce: self,
-        })
+        self.check()?;
+        check_time(time)?;
+        let write = self.due.is_some_and(|at| at <= time);
+        let coalesce = if write { Coalesce::new() } else { self };
+        Ok(Taken { write, coalesce })
     }
 
     // Write now whatever is waiting (shutdown, an operator's explicit action).
     pub fn take(self) -> Result<Taken, Refusal>
         ensures { left_take self result ≡ take_of self }
     {
-        if !self.whole() {
-            return Err(Refusal::NotWhole);
-        }
-        let due = self.due;
-        match due {
-            None => Ok(Taken {
-                write: false,
-                coalesce: self,
-            }),
-            Some(_) => Ok(Taken {
-                write: true,
-                coalesce: Coalesce { due: None },
-            }),
-        }
+        self.check()?;
+        Ok(Taken {
+            write: self.due.is_some(),
+            coalesce: Coalesce::new(),
+        })
     }
 }

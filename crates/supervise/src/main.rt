@@ -2,25 +2,22 @@
 // A line becomes a request (text_read), a request an answer (text_alone, text_called, text_crafted), an answer a line (text_shown).
 #![tactic(auto)]
 
-use rules_record::{ExtraDelay, Inputs};
-use rules_tick::Look;
+use rules_record::Inputs;
 use std::io::{Read, Write};
 use text_alone::Alone;
 use text_answers::{Answer, Left};
 use text_files::file_at;
-use text_lending::{
-    LONE_COUNTS, LONE_PEAKS, LONE_SECONDS, LONE_SUMS, Lists, buckets_in, first_u32,
-};
+use text_lending::{Lists, Places, buckets_in};
 use text_lines::{Cursor, Output};
 use text_print::Printer;
-use text_requests::lists::{kinds_at, loads_at, looks_at};
-use text_requests::{Call, Known, Lone, Request};
+use text_requests::lists::{MOST_LOADS, loads_at};
+use text_requests::{Call, Change, Known, Lone, Request};
 
 // The input buffer: the longest line, its newline, and a little more.
 type Input = [u8; 1_048_640];
 
-// The bytes of a flow.
-const FLOW_BYTES: usize = 16;
+// The bytes of as many flows as `new` loads at most.
+const LOADED: usize = MOST_LOADS * 16;
 
 // All that is kept from line to line, but for the supervisor's record and the lists.
 #[derive(Clone, Copy)]
@@ -33,11 +30,13 @@ pub struct State {
     pub alone: Alone,
 }
 
-// What a line leaves of all that is kept.
-#[derive(Clone, Copy)]
-pub struct Turn {
-    pub state: State,
-    pub inputs: Inputs,
+// All that the program keeps, and where its answers go.
+#[derive(Drop)]
+struct Program<'a, W> {
+    output: Output<'a, W>,
+    lists: Lists<'a>,
+    state: State,
+    inputs: Inputs,
 }
 
 fn begin() -> State {
@@ -61,8 +60,8 @@ fn known(inputs: Inputs, alone: Alone) -> Known {
 
 // ---- calls alone
 // How many bytes of a file a line brings: they go to the output buffer, whose answers are written out first.
-fn bring<W: Write>(output: &mut Output<'_, W>, request: Request, s: &[u8]) -> usize {
-    let Request::Alone(Lone::ReadDelays(at)) = request else {
+fn bring<W: Write>(output: &mut Output<'_, W>, request: Lone, s: &[u8]) -> usize {
+    let Lone::ReadDelays(at) = request else {
         return 0;
     };
     output.flush();
@@ -79,6 +78,14 @@ fn lone(
     lists: &mut Lists<'_>,
 ) -> Left<Alone> {
     match request {
+        Lone::Number(call) => Left {
+            left: kept,
+            answer: text_alone::number(call),
+        },
+        Lone::Window(call) => text_alone::on_window(call, kept, short, lists),
+        Lone::Hold(call) => text_alone::on_hold(call, kept, short, lists),
+        Lone::Coalesce(call) => text_alone::on_coalesce(call, kept),
+        Lone::Schedule(call) => text_alone::on_schedule(call, kept),
         Lone::ReadDelays(_) => {
             let flows = &mut *lists.bytes;
             let delays = &mut *lists.heard;
@@ -89,18 +96,7 @@ fn lone(
         }
         Lone::WindowSet(asked) => {
             let mut window = kept.window;
-            text_crafted::rows(
-                s,
-                asked.at,
-                window.buckets,
-                LONE_SECONDS,
-                LONE_COUNTS,
-                LONE_SUMS,
-                lists.starts,
-                lists.totals,
-                lists.counts,
-                lists.sums,
-            );
+            text_crafted::rows(s, asked.at, window.buckets, Places::LONE, lists);
             window.seconds = asked.seconds;
             Left {
                 left: Alone { window, ..kept },
@@ -108,7 +104,7 @@ fn lone(
             }
         }
         Lone::WindowSum(asked) => {
-            text_crafted::sum(asked, LONE_SUMS, lists.sums);
+            text_crafted::sum(asked, Places::LONE, lists.sums);
             Left {
                 left: kept,
                 answer: Answer::Done,
@@ -116,83 +112,19 @@ fn lone(
         }
         Lone::HoldSet(asked) => {
             let hold = asked.hold;
-            text_crafted::peaks(
-                s,
-                asked.at,
-                hold.peaks,
-                LONE_PEAKS,
-                lists.times,
-                lists.peaks,
-            );
+            text_crafted::peaks(s, asked.at, hold.peaks, Places::LONE, lists);
             Left {
                 left: Alone { hold, ..kept },
                 answer: Answer::Done,
             }
         }
-        _ => text_alone::answer(
-            request,
-            kept,
-            short,
-            lists.starts,
-            lists.totals,
-            lists.counts,
-            lists.sums,
-            lists.times,
-            lists.peaks,
-        ),
-    }
-}
-
-// A line that is no call on a supervisor.
-fn alone_by(
-    request: Request,
-    state: State,
-    short: bool,
-    s: &[u8],
-    file: &[u8],
-    lists: &mut Lists<'_>,
-) -> Left<State> {
-    match request {
-        Request::Full(full) => Left {
-            left: State { full, ..state },
-            answer: Answer::Done,
-        },
-        Request::Alone(call) => {
-            let done = lone(call, state.alone, short, s, file, lists);
-            let alone = done.left;
-            Left {
-                left: State { alone, ..state },
-                answer: done.answer,
-            }
-        }
-        _ => Left {
-            left: state,
-            answer: Answer::BadLine,
-        },
     }
 }
 
 // ---- calls on a supervisor
-// The kinds that `new` brings.
-fn kinds_for(call: Call, s: &[u8]) -> [ExtraDelay; 16] {
-    let Call::New(asked) = call else {
-        return kinds_at(s, 0, 0);
-    };
-    let settings = asked.settings;
-    kinds_at(s, asked.kinds, settings.count)
-}
-
-// What a tick brings for each input.
-fn looks_for(call: Call, s: &[u8], count: usize) -> [Look; 16] {
-    let Call::Tick(asked) = call else {
-        return looks_at(s, 0, 0);
-    };
-    looks_at(s, asked.looks, count)
-}
-
 // The delays that `new` loads: their flows go to the output buffer, whose answers are written out first.
-fn load<W: Write>(output: &mut Output<'_, W>, call: Call, s: &[u8], lists: &mut Lists<'_>) {
-    if let Call::New(asked) = call {
+fn load<W: Write>(output: &mut Output<'_, W>, call: Change, s: &[u8], lists: &mut Lists<'_>) {
+    if let Change::New(asked) = call {
         output.flush();
         loads_at(
             s,
@@ -204,199 +136,115 @@ fn load<W: Write>(output: &mut Output<'_, W>, call: Call, s: &[u8], lists: &mut 
     }
 }
 
-// How many numbers a call has heard: the lags of a tick, the delays that `new` loads.
-fn heard_by(call: Call) -> usize {
-    match call {
-        Call::New(asked) => asked.loaded,
-        Call::Tick(asked) => asked.lags,
-        _ => 0,
-    }
-}
-
-// A call on a supervisor, or what a line crafts of its record.
-fn called<W: Write>(
-    output: &mut Output<'_, W>,
-    call: Call,
-    inputs: Inputs,
-    short: bool,
-    s: &[u8],
-    lists: &mut Lists<'_>,
-) -> Left<Inputs> {
-    load(output, call, s, lists);
-    match call {
-        // A dry tick is read, and nothing is done.
-        Call::Tick(asked) if asked.dry => Left {
-            left: inputs,
-            answer: Answer::Dry,
-        },
-        Call::New(_) | Call::Route(_) | Call::Update(_) | Call::Confirm(_) | Call::Tick(_) => {
-            let n = heard_by(call);
-            let starts = &mut *lists.starts;
-            let totals = &mut *lists.totals;
-            let counts = &mut *lists.counts;
-            let sums = &mut *lists.sums;
-            let times = &mut *lists.times;
-            let peaks = &mut *lists.peaks;
-            let commands = &mut *lists.commands;
-            text_called::change(
-                call,
-                inputs,
-                short,
-                kinds_for(call, s),
-                looks_for(call, s, inputs.count),
-                output.printer.first(n.saturating_mul(FLOW_BYTES)),
-                first_u32(lists.heard, n),
-                starts,
-                totals,
-                counts,
-                sums,
-                times,
-                peaks,
-                commands,
-            )
-        }
-        Call::Put(asked) => Left {
-            left: text_crafted::put(
-                inputs,
-                asked,
-                buckets_in(inputs),
-                s,
-                lists.starts,
-                lists.totals,
-                lists.counts,
-                lists.sums,
-                lists.times,
-                lists.peaks,
-            ),
-            answer: Answer::Done,
-        },
-        _ => {
-            let file = &mut *lists.bytes;
-            let answer = text_called::ask(
-                call,
-                inputs,
-                short,
-                lists.starts,
-                lists.totals,
-                lists.counts,
-                lists.sums,
-                lists.times,
-                lists.peaks,
-                file,
-            );
-            Left {
-                left: inputs,
-                answer,
+impl<W: Write> Program<'_, W> {
+    // A call on a supervisor, or what a line crafts of its record.
+    fn called(&mut self, call: Call, short: bool, s: &[u8]) -> Answer {
+        let inputs = self.inputs;
+        match call {
+            // A dry tick is read, and nothing is done.
+            Call::Change(Change::Tick(asked)) if asked.dry => Answer::Dry,
+            Call::Change(change) => {
+                load(&mut self.output, change, s, &mut self.lists);
+                let flows = self.output.printer.first(LOADED);
+                let done = text_called::change(change, inputs, short, s, flows, &mut self.lists);
+                self.inputs = done.left;
+                done.answer
+            }
+            Call::Ask(ask) => text_called::ask(ask, inputs, short, &mut self.lists),
+            Call::Put(asked) => {
+                let buckets = buckets_in(inputs);
+                self.inputs = text_crafted::put(inputs, asked, buckets, s, &mut self.lists);
+                Answer::Done
             }
         }
     }
-}
 
-// ---- lines
-fn flushed<W: Write>(output: &mut Output<'_, W>, state: State) -> State {
-    output.room();
-    output.printer.put_text(b"flushed\n");
-    let more = output.flush();
-    State { more, ..state }
-}
+    // ---- lines
+    fn flushed(&mut self) {
+        self.output.room();
+        self.output.printer.put_text(b"flushed\n");
+        self.state.more = self.output.flush();
+    }
 
-// What a line leaves, with its answer shown.
-fn shown<W: Write>(
-    output: &mut Output<'_, W>,
-    state: State,
-    inputs: Inputs,
-    answer: Answer,
-    lists: &Lists<'_>,
-) -> Turn {
-    let alone = state.alone;
-    text_shown::show(
-        output,
-        answer,
-        state.full,
-        inputs,
-        buckets_in(inputs),
-        alone.window,
-        alone.hold,
-        lists,
-    );
-    Turn { state, inputs }
-}
+    fn show(&mut self, answer: Answer) {
+        let state = self.state;
+        let alone = state.alone;
+        text_shown::show(
+            &mut self.output,
+            answer,
+            state.full,
+            self.inputs,
+            buckets_in(self.inputs),
+            alone.window,
+            alone.hold,
+            &self.lists,
+        );
+    }
 
-// A line becomes a request, the request an answer, the answer a line.
-fn answered<W: Write>(
-    output: &mut Output<'_, W>,
-    state: State,
-    s: &[u8],
-    inputs: Inputs,
-    lists: &mut Lists<'_>,
-) -> Turn {
-    let read = text_read::read(s, known(inputs, state.alone), lists.heard);
-    match read.request {
-        Request::Flush => Turn {
-            state: flushed(output, state),
-            inputs,
-        },
-        Request::On(call) => {
-            let done = called(output, call, inputs, read.short, s, lists);
-            shown(output, state, done.left, done.answer, lists)
-        }
-        request => {
-            let length = bring(output, request, s);
-            let file = output.printer.first(length);
-            let done = alone_by(request, state, read.short, s, file, lists);
-            shown(output, done.left, inputs, done.answer, lists)
+    // A line becomes a request, the request an answer, the answer a line.
+    fn answer(&mut self, s: &[u8]) {
+        let state = self.state;
+        let read = text_read::read(s, known(self.inputs, state.alone), self.lists.heard);
+        match read.request {
+            Request::Bad => self.show(Answer::BadLine),
+            Request::Flush => self.flushed(),
+            Request::Full(full) => {
+                self.state = State { full, ..state };
+                self.show(Answer::Done);
+            }
+            Request::Alone(request) => {
+                let length = bring(&mut self.output, request, s);
+                let file = self.output.printer.first(length);
+                let done = lone(request, state.alone, read.short, s, file, &mut self.lists);
+                let alone = done.left;
+                self.state = State { alone, ..state };
+                self.show(done.answer);
+            }
+            Request::On(call) => {
+                let answer = self.called(call, read.short, s);
+                self.show(answer);
+            }
         }
     }
-}
 
-// No line was found: what was answered is written, and more is read, unless there is none.
-fn unfound<R: Read, W: Write>(
-    reader: &mut R,
-    output: &mut Output<'_, W>,
-    state: State,
-    input: &mut Input,
-) -> State {
-    let written = output.flush();
-    let mut cursor = state.cursor;
-    if cursor.ended {
-        return State {
-            more: false,
+    // No line was found: what was answered is written, and more is read, unless there is none.
+    fn unfound<R: Read>(&mut self, reader: &mut R, input: &mut Input) {
+        let written = self.output.flush();
+        let state = self.state;
+        let mut cursor = state.cursor;
+        if cursor.ended {
+            self.state = State {
+                more: false,
+                ..state
+            };
+            return;
+        }
+        cursor.more(reader, input);
+        self.state = State {
+            more: written,
+            cursor,
             ..state
         };
     }
-    cursor.more(reader, input);
-    State {
-        more: written,
-        cursor,
-        ..state
-    }
-}
 
-// Answers line after line.
-fn run<R: Read, W: Write>(
-    reader: &mut R,
-    output: &mut Output<'_, W>,
-    input: &mut Input,
-    lists: &mut Lists<'_>,
-) {
-    let mut state = begin();
-    let mut inputs = text_called::begin();
-    for _turn in 0..u64::MAX {
-        if !state.more {
-            return;
-        }
-        let mut cursor = state.cursor;
-        let found = cursor.look(input);
-        if let Some(found) = found {
-            let s = cursor.line(input, found);
-            cursor.pass(found);
-            state.cursor = cursor;
-            let done = answered(output, state, s, inputs, lists);
-            state = done.state;
-            inputs = done.inputs;
-        } else {
-            state.cursor = cursor;
-            state = unfound(reader, output, state, input);
+    // Answers line after line.
+    fn run<R: Read>(&mut self, reader: &mut R, input: &mut Input) {
+        for _turn in 0..u64::MAX {
+            let state = self.state;
+            if !state.more {
+                return;
+            }
+            let mut cursor = state.cursor;
+            let found = cursor.look(input);
+            if let Some(found) = found {
+                let s = cursor.line(input, found);
+                cursor.pass(found);
+                self.state = State { cursor, ..state };
+                self.answer(s);
+            } else {
+                self.state = State { cursor, ..state };
+                self.unfound(reader, input);
+            }
         }
     }
 }
@@ -419,11 +267,11 @@ fn main(rt: HostRuntime) {
         out: &mut out,
         place: 0,
     };
-    let mut output = Output {
+    let output = Output {
         writer: &mut writer,
         printer,
     };
-    let mut lists = Lists {
+    let lists = Lists {
         starts: &mut starts,
         totals: &mut totals,
         counts: &mut counts,
@@ -434,5 +282,11 @@ fn main(rt: HostRuntime) {
         bytes: &mut bytes,
         heard: &mut heard,
     };
-    run(&mut reader, &mut output, &mut input, &mut lists);
+    let mut program = Program {
+        output,
+        lists,
+        state: begin(),
+        inputs: text_called::begin(),
+    };
+    program.run(&mut reader, &mut input);
 }

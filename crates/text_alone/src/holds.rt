@@ -1,17 +1,13 @@
 // A hold alone, over two lists.
 use crate::numbers::share;
-use delay_hold::DelayHold;
+use delay_hold::{DelayHold, HoldLists};
 use policy::DelayPolicy;
+use text_answers::inner::left_with;
 use text_answers::{Answer, Left, left_by};
-use text_requests::{Lone, NextAsked};
+use text_requests::{HoldCall, NextAsked};
 
 // A refusal shows no hold.
-fn next(
-    kept: DelayHold,
-    asked: NextAsked,
-    times: &mut [u64],
-    peaks: &mut [u32],
-) -> Left<DelayHold> {
+fn next(kept: DelayHold, asked: NextAsked, lists: &mut HoldLists<'_>) -> Left<DelayHold> {
     let policy = DelayPolicy {
         read_offset: asked.offset,
         delay_max: asked.most,
@@ -20,39 +16,32 @@ fn next(
         margin: asked.margin,
         margin_share: share(asked.percent),
     };
-    match kept.decide_next(
-        times,
-        peaks,
+    let given = kept.decide_next(
+        lists,
         asked.p999,
         asked.largest,
         asked.current,
         policy,
         asked.width,
         asked.time,
-    ) {
-        Ok(next) => Left {
+    );
+    left_with(
+        kept,
+        given,
+        |next| Left {
             left: next.hold,
             answer: Answer::Next(next.change),
         },
-        Err(refusal) => Left {
-            left: kept,
-            answer: Answer::Refused(refusal),
-        },
-    }
+    )
 }
 
 pub(crate) fn answer(
-    request: Lone,
+    call: HoldCall,
     kept: DelayHold,
-    times: &mut [u64],
-    peaks: &mut [u32],
+    lists: &mut HoldLists<'_>,
 ) -> Left<DelayHold> {
-    match request {
-        Lone::HoldNew => left_by(kept, DelayHold::new(times, peaks), Answer::Done),
-        Lone::Next(asked) => next(kept, asked, times, peaks),
-        _ => Left {
-            left: kept,
-            answer: Answer::BadLine,
-        },
+    match call {
+        HoldCall::HoldNew => left_by(kept, DelayHold::new(lists), Answer::Done),
+        HoldCall::Next(asked) => next(kept, asked, lists),
     }
 }

@@ -1,7 +1,8 @@
 // Milliseconds, samples, needs, and the block clock.
 use policy::{DelayPolicy, share_of};
-use text_answers::{Answer, answer_of};
-use text_requests::{Lone, NeedAsked};
+use text_answers::Answer;
+use text_answers::inner::answer_of;
+use text_requests::{NeedAsked, NumberCall};
 
 // A share that check 4 refuses.
 const NO_SHARE: f64 = -1.0;
@@ -26,13 +27,15 @@ fn need(asked: NeedAsked) -> Answer {
     })
 }
 
-pub(crate) fn answer(request: Lone) -> Answer {
-    match request {
-        Lone::Ms(n) => Answer::Double(doubles::ms(n)),
-        Lone::Samples(m) => Answer::Number(u64::from(doubles::samples(m))),
-        Lone::Need(asked) => need(asked),
-        Lone::IndexAt(time) => answer_of(timing::index_at(time), |index| Answer::Number(index)),
-        Lone::TimeOf(index) => answer_of(timing::time_of(index), |time| Answer::Number(time)),
-        _ => Answer::BadLine,
+pub(crate) fn answer(call: NumberCall) -> Answer {
+    match call {
+        NumberCall::Ms(n) => Answer::Double(doubles::ms(n)),
+        NumberCall::Samples(m) => Answer::Number(u64::from(doubles::samples(m))),
+        NumberCall::Need(asked) => need(asked),
+        NumberCall::IndexAt(time) => answer_of(
+            timing::index_at(time),
+            |index| Answer::Number(index),
+        ),
+        NumberCall::TimeOf(index) => answer_of(timing::time_of(index), |time| Answer::Number(time)),
     }
 }

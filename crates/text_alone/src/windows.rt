@@ -1,69 +1,46 @@
 // A window alone, over four lists.
 use lag_window::LagWindow;
-use text_answers::{Answer, Left, answer_of, left_by};
-use text_requests::{Lone, WindowAsked};
+use rules_window::WindowLists;
+use text_answers::inner::{answer_of, left_with};
+use text_answers::{Answer, Left, left_by};
+use text_requests::{WindowAsked, WindowCall};
 
 // A refused `new` leaves the window that was there.
-fn new(
-    kept: LagWindow,
-    asked: WindowAsked,
-    starts: &mut [u64],
-    totals: &mut [u64],
-    counts: &mut [u32],
-    sums: &mut [u64],
-) -> Left<LagWindow> {
-    match LagWindow::new(
-        asked.offset,
-        asked.most,
-        asked.width,
-        starts,
-        totals,
-        counts,
-        sums,
-    ) {
-        Ok(left) => Left {
+fn new(kept: LagWindow, asked: WindowAsked, lists: &mut WindowLists<'_>) -> Left<LagWindow> {
+    let given = LagWindow::new(asked.offset, asked.most, asked.width, lists);
+    left_with(
+        kept,
+        given,
+        |left| Left {
             left,
             answer: Answer::Number(left.buckets as u64),
         },
-        Err(refusal) => Left {
-            left: kept,
-            answer: Answer::Refused(refusal),
-        },
-    }
+    )
 }
 
 pub(crate) fn answer(
-    request: Lone,
+    call: WindowCall,
     kept: LagWindow,
-    starts: &mut [u64],
-    totals: &mut [u64],
-    counts: &mut [u32],
-    sums: &mut [u64],
+    lists: &mut WindowLists<'_>,
 ) -> Left<LagWindow> {
-    match request {
-        Lone::WindowNew(asked) => new(kept, asked, starts, totals, counts, sums),
-        Lone::Push(asked) => left_by(
+    match call {
+        WindowCall::WindowNew(asked) => new(kept, asked, lists),
+        WindowCall::Push(asked) => left_by(
             kept,
-            kept.push(asked.lag, asked.time, starts, totals, counts, sums),
+            kept.push(asked.lag, asked.time, lists),
             Answer::Window,
         ),
-        Lone::Clear => left_by(kept, kept.clear(starts, totals, counts, sums), Answer::Done),
-        Lone::Span => Left {
+        WindowCall::Clear => left_by(kept, kept.clear(lists), Answer::Done),
+        WindowCall::Span => Left {
             left: kept,
-            answer: answer_of(kept.span(starts, totals, counts, sums), |span| {
-                Answer::Number(span)
-            }),
+            answer: answer_of(kept.span(lists.view()), |span| Answer::Number(span)),
         },
-        Lone::Quantile(asked) => Left {
+        WindowCall::Quantile(asked) => Left {
             left: kept,
             answer: answer_of(
-                kept.quantile_upto(asked.q, asked.limit, starts, totals, counts, sums),
+                kept.quantile_upto(asked.q, asked.limit, lists.view()),
                 |end| Answer::Maybe(end),
             ),
-        },
-        _ => Left {
-            left: kept,
-            answer: Answer::BadLine,
         },
     }
 }

@@ -8,6 +8,9 @@ use refusals::Refusal;
 use rules_calls::InputStatus;
 use sources::Down;
 
+// Functions that ask something of their caller.
+pub mod inner;
+
 #[derive(Clone, Copy)]
 pub enum Answer {
     BadLine,
@@ -52,28 +55,9 @@ pub struct Left<T> {
     pub answer: Answer,
 }
 
-// What is shown of the value of an accepted call, or the check that said no.
-pub fn answer_of<T, F: FnOnce(T) -> Answer>(given: Result<T, Refusal>, shown: F) -> Answer
-where
-    F: Drop,
-    requires { F.IsAlwaysCallable shown }
-    ensures { MatchResult given (λ value. F.post shown value result) (λ refusal. result ≡ Answer.Refused refusal) }
-{
-    match given {
-        Ok(value) => shown(value),
-        Err(refusal) => Answer::Refused(refusal),
-    }
-}
-
-// The same of a call that leaves a new value: refused, what was kept stays.
+// The answer to a call that leaves a new value, and what is kept after it: refused, what was kept stays.
 pub fn left_by<T: Copy>(kept: T, given: Result<T, Refusal>, answer: Answer) -> Left<T>
     ensures { MatchResult given (λ value. result ≡ record { left = value; answer = answer }) (λ refusal. result ≡ record { left = kept; answer = Answer.Refused refusal }) }
 {
-    match given {
-        Ok(left) => Left { left, answer },
-        Err(refusal) => Left {
-            left: kept,
-            answer: Answer::Refused(refusal),
-        },
-    }
+    inner::left_with(kept, given, |left| Left { left, answer })
 }

@@ -3,23 +3,18 @@
 #![tactic(auto)]
 
 use policy::DelayPolicy;
-use refusals::Refusal;
-use rules_record::{ExtraDelay, Flow, FlowEntry, Inputs, Instance};
-use rules_tick::{Look, Ticked};
-use text_answers::{Answer, Left, answer_of, left_by};
-use text_lending::{file_sizes, sizes_for};
-use text_requests::Call;
+use rules_record::{AllLists, AllView, Inputs};
+use text_answers::inner::{answer_of, left_with};
+use text_answers::{Answer, Left, left_by};
+use text_lending::{Lists, file_sizes, first, sizes_for};
+use text_requests::lists::{kinds_at, looks_at};
+use text_requests::{Ask, Call, Change};
+
+// The bytes of a flow.
+const FLOW_BYTES: usize = 16;
 
 // Before the first `new`: a record of no inputs.
 pub fn begin() -> Inputs {
-    let slot = inputs_slots::empty_slot();
-    let slots = [slot; 16];
-    let flow = Flow { high: 0, low: 0 };
-    let remembered = None;
-    let entry = FlowEntry { flow, remembered };
-    let flows = [entry; 64];
-    let key = Instance { flow: 0, inode: 0 };
-    let instances = [key; 18];
     let policy = DelayPolicy {
         read_offset: 0,
         delay_max: 0,
@@ -28,64 +23,38 @@ pub fn begin() -> Inputs {
         margin: 0,
         margin_share: 0.0,
     };
-    Inputs {
-        count: 0,
-        policy,
-        width: 0,
-        stall: 0,
-        confirm: false,
-        slots,
-        flows,
-        flow_count: 0,
-        unsaved: false,
-        instances,
-        instance_count: 0,
-    }
-}
-
-// What a tick leaves.
-fn ticked(kept: Inputs, given: Result<Ticked, Refusal>) -> Left<Inputs> {
-    match given {
-        Ok(ticked) => Left {
-            left: ticked.inputs,
-            answer: Answer::Ticked(ticked.unsaved),
-        },
-        Err(refusal) => Left {
-            left: kept,
-            answer: Answer::Refused(refusal),
-        },
-    }
+    inputs_new::blank(0, policy, 0, 0, false)
 }
 
 // The calls that change the record, on lists of the lengths that they ask for.
 fn changing(
-    call: Call,
+    call: Change,
     kept: Inputs,
-    kinds: [ExtraDelay; 16],
-    looks: [Look; 16],
+    s: &[u8],
     flows: &[u8],
     heard: &[u32],
-    starts: &mut [u64],
-    totals: &mut [u64],
-    counts: &mut [u32],
-    sums: &mut [u64],
-    times: &mut [u64],
-    peaks: &mut [u32],
+    lists: &mut AllLists<'_>,
     commands: &mut [u32],
 ) -> Left<Inputs> {
     match call {
-        Call::New(asked) => {
+        Change::New(asked) => {
             let settings = asked.settings;
+            let bytes = asked.loaded.saturating_mul(FLOW_BYTES);
             left_by(
                 kept,
                 inputs_new::new(
-                    settings, kinds, flows, heard, asked.time, starts, totals, counts, sums, times,
-                    peaks, commands,
+                    settings,
+                    kinds_at(s, asked.kinds, settings.count),
+                    first(flows, bytes),
+                    first(heard, asked.loaded),
+                    asked.time,
+                    lists,
+                    commands,
                 ),
                 Answer::All,
             )
         }
-        Call::Route(asked) => {
+        Change::Route(asked) => {
             let wanted = asked.wanted;
             let world = asked.world;
             left_by(
@@ -96,216 +65,144 @@ fn changing(
                     wanted,
                     asked.time,
                     world,
-                    starts,
-                    totals,
-                    counts,
-                    sums,
-                    times,
-                    peaks,
+                    lists,
                     commands,
                 ),
                 Answer::Input(asked.input),
             )
         }
-        Call::Update(asked) => {
+        Change::Update(asked) => {
             let setting = asked.setting;
             left_by(
                 kept,
-                inputs_update::update(
-                    kept,
-                    asked.input,
-                    setting,
-                    asked.time,
-                    starts,
-                    totals,
-                    counts,
-                    sums,
-                    times,
-                    peaks,
-                    commands,
-                ),
+                inputs_update::update(kept, asked.input, setting, asked.time, lists, commands),
                 Answer::Input(asked.input),
             )
         }
-        Call::Confirm(asked) => left_by(
+        Change::Confirm(asked) => left_by(
             kept,
-            inputs_update::confirm_delay(
-                kept,
-                asked.input,
-                asked.time,
-                starts,
-                totals,
-                counts,
-                sums,
-                times,
-                peaks,
-                commands,
-            ),
+            inputs_update::confirm_delay(kept, asked.input, asked.time, lists.view(), commands),
             Answer::Input(asked.input),
         ),
-        Call::Tick(asked) => {
-            ticked(
+        Change::Tick(asked) => {
+            let looks = looks_at(s, asked.looks, kept.count);
+            let lags = first(heard, asked.lags);
+            let given = inputs_tick::tick(kept, looks, lags, asked.time, lists, commands);
+            left_with(
                 kept,
-                inputs_tick::tick(
-                    kept, looks, heard, asked.time, starts, totals, counts, sums, times, peaks,
-                    commands,
-                ),
+                given,
+                |ticked| Left {
+                    left: ticked.inputs,
+                    answer: Answer::Ticked(ticked.unsaved),
+                },
             )
         }
-        _ => Left {
-            left: kept,
-            answer: Answer::BadLine,
-        },
     }
 }
 
 // The calls that change nothing of the record. A delay file goes to `file`.
-fn asking(
-    call: Call,
-    kept: Inputs,
-    starts: &[u64],
-    totals: &[u64],
-    counts: &[u32],
-    sums: &[u64],
-    times: &[u64],
-    peaks: &[u32],
-    file: &mut [u8],
-) -> Answer {
+fn asking(call: Ask, kept: Inputs, lists: AllView<'_>, file: &mut [u8]) -> Answer {
     match call {
-        Call::Status(asked) => {
+        Ask::Status(asked) => {
             answer_of(
-                inputs_status::status(
-                    kept,
-                    asked.input,
-                    asked.first,
-                    asked.second,
-                    starts,
-                    totals,
-                    counts,
-                    sums,
-                    times,
-                    peaks,
-                ),
+                inputs_status::status(kept, asked.input, asked.applied, asked.channels, lists),
                 |status| Answer::Status(status),
             )
         }
-        Call::Has(asked) => {
+        Ask::Has(asked) => {
             answer_of(
                 inputs_status::has_channels(
                     kept,
                     asked.input,
-                    asked.first,
-                    asked.second as usize,
-                    starts,
-                    totals,
-                    counts,
-                    sums,
-                    times,
-                    peaks,
+                    asked.channels,
+                    asked.wanted as usize,
+                    lists,
                 ),
                 |bit| Answer::Bit(bit),
             )
         }
-        Call::Settled(asked) => {
+        Ask::Settled(asked) => {
             answer_of(
-                inputs_status::settled(
-                    kept,
-                    asked.input,
-                    asked.time,
-                    starts,
-                    totals,
-                    counts,
-                    sums,
-                    times,
-                    peaks,
-                ),
+                inputs_status::settled(kept, asked.input, asked.time, lists),
                 |bit| Answer::Bit(bit),
             )
         }
-        Call::WriteDelays => {
+        Ask::WriteDelays => {
             answer_of(
-                delay_files::write_delays(kept, starts, totals, counts, sums, times, peaks, file),
+                delay_files::write_delays(kept, lists, file),
                 |length| Answer::File(length),
             )
         }
-        Call::Dump => Answer::Dump,
-        _ => Answer::BadLine,
+        Ask::Dump => Answer::Dump,
     }
 }
 
-// A call that changes the record, lent as much of each list as it asks for.
+// A call that changes the record, lent as much of each list as it asks for. Its lists of the line are read here; the delays that `new` loads, and
+// the lags of a tick, are the first that were heard, and the flows of those delays the first bytes of `flows`.
 pub fn change(
-    call: Call,
+    call: Change,
     kept: Inputs,
     short: bool,
-    kinds: [ExtraDelay; 16],
-    looks: [Look; 16],
+    s: &[u8],
     flows: &[u8],
-    heard: &[u32],
-    starts: &mut [u64],
-    totals: &mut [u64],
-    counts: &mut [u32],
-    sums: &mut [u64],
-    times: &mut [u64],
-    peaks: &mut [u32],
-    commands: &mut [u32],
+    lists: &mut Lists<'_>,
 ) -> Left<Inputs> {
-    let z = sizes_for(call, kept, short);
-    let a = z.seconds.min(starts.len());
-    let b = z.seconds.min(totals.len());
-    let c = z.counts.min(counts.len());
-    let d = z.sums.min(sums.len());
-    let e = z.peaks.min(times.len());
-    let f = z.peaks.min(peaks.len());
-    let g = z.words.min(commands.len());
+    let sizes = sizes_for(Call::Change(call), kept, short);
+    let seconds = sizes.seconds.min(lists.starts.len());
+    let cells = sizes.counts.min(lists.counts.len());
+    let buckets = sizes.sums.min(lists.sums.len());
+    let held = sizes.peaks.min(lists.times.len());
+    let words = sizes.words.min(lists.commands.len());
+    // The borrow checker covers parts of a list that stands alone, so each is taken first.
+    let starts = &mut *lists.starts;
+    let totals = &mut *lists.totals;
+    let counts = &mut *lists.counts;
+    let sums = &mut *lists.sums;
+    let times = &mut *lists.times;
+    let peaks = &mut *lists.peaks;
+    let commands = &mut *lists.commands;
+    let mut lent = AllLists {
+        starts: &mut starts[..seconds],
+        totals: &mut totals[..seconds],
+        counts: &mut counts[..cells],
+        sums: &mut sums[..buckets],
+        times: &mut times[..held],
+        peaks: &mut peaks[..held],
+    };
     changing(
         call,
         kept,
-        kinds,
-        looks,
+        s,
         flows,
-        heard,
-        &mut starts[..a],
-        &mut totals[..b],
-        &mut counts[..c],
-        &mut sums[..d],
-        &mut times[..e],
-        &mut peaks[..f],
-        &mut commands[..g],
+        lists.heard,
+        &mut lent,
+        &mut commands[0..words],
     )
 }
 
-// A call that changes nothing of the record, lent as much of each list as it asks for.
-pub fn ask(
-    call: Call,
-    kept: Inputs,
-    short: bool,
-    starts: &[u64],
-    totals: &[u64],
-    counts: &[u32],
-    sums: &[u64],
-    times: &[u64],
-    peaks: &[u32],
-    file: &mut [u8],
-) -> Answer {
-    let z = sizes_for(call, kept, short);
-    let y = file_sizes(short);
-    let a = z.seconds.min(starts.len());
-    let b = z.seconds.min(totals.len());
-    let c = z.counts.min(counts.len());
-    let d = z.sums.min(sums.len());
-    let e = z.peaks.min(times.len());
-    let f = z.peaks.min(peaks.len());
-    let g = y.file.min(file.len());
-    asking(
-        call,
-        kept,
-        &starts[..a],
-        &totals[..b],
-        &counts[..c],
-        &sums[..d],
-        &times[..e],
-        &peaks[..f],
-        &mut file[..g],
-    )
+// A call that changes nothing of the record, lent as much of each list as it asks for. A delay file goes to the bytes.
+pub fn ask(call: Ask, kept: Inputs, short: bool, lists: &mut Lists<'_>) -> Answer {
+    let sizes = sizes_for(Call::Ask(call), kept, short);
+    let files = file_sizes(short);
+    let seconds = sizes.seconds.min(lists.starts.len());
+    let cells = sizes.counts.min(lists.counts.len());
+    let buckets = sizes.sums.min(lists.sums.len());
+    let held = sizes.peaks.min(lists.times.len());
+    let length = files.file.min(lists.bytes.len());
+    let starts = &*lists.starts;
+    let totals = &*lists.totals;
+    let counts = &*lists.counts;
+    let sums = &*lists.sums;
+    let times = &*lists.times;
+    let peaks = &*lists.peaks;
+    let file = &mut *lists.bytes;
+    let seen = AllView {
+        starts: &starts[..seconds],
+        totals: &totals[..seconds],
+        counts: &counts[..cells],
+        sums: &sums[..buckets],
+        times: &times[..held],
+        peaks: &peaks[..held],
+    };
+    asking(call, kept, seen, &mut file[0..length])
 }

@@ -5,16 +5,16 @@
 use delay_hold::DelayHold;
 use lag_window::LagWindow;
 use rules_record::{Inputs, Slot};
-use text_lending::{Counts, Peaks, Seconds, Sums, Times};
+use text_lending::{Lists, Places, Sums};
 use text_requests::lists::{Cell, Listed, Peak, Row};
-use text_requests::{CountersAsked, DelaysAsked, Part, PutAsked, SumAsked};
+use text_requests::{Part, PutAsked, SumAsked};
 use text_scan::{ends, is_at};
 use text_words::Reader;
 
 // ---- stores at any place: what does not exist is left out
 fn put_at<T: Copy>(s: &mut [T], i: usize, value: T) {
-    if i < s.len() {
-        s[i] = value;
+    if let Some(place) = s.get_mut(i) {
+        *place = value;
     }
 }
 
@@ -39,22 +39,14 @@ fn store_cells(r: &mut Reader<'_>, counts: &mut [u32], first: usize) {
     }
 }
 
-// The rows from place `at` of the line on, as the seconds from `second` and the counts from `count` on.
-fn store_rows(
-    s: &[u8],
-    at: usize,
-    buckets: usize,
-    second: usize,
-    count: usize,
-    starts: &mut Seconds,
-    totals: &mut Seconds,
-    counts: &mut Counts,
-) {
-    fill(starts, second, LagWindow::SECONDS, 0);
-    fill(totals, second, LagWindow::SECONDS, 0);
-    fill(counts, count, LagWindow::SECONDS.saturating_mul(buckets), 0);
+// The rows from place `at` of the line on. No heap: each is stored as it is read, where `collect` would gather them first.
+fn store_rows(s: &[u8], at: usize, buckets: usize, places: Places, lists: &mut Lists<'_>) {
+    let cells = LagWindow::SECONDS.saturating_mul(buckets);
+    fill(lists.starts, places.seconds, LagWindow::SECONDS, 0);
+    fill(lists.totals, places.seconds, LagWindow::SECONDS, 0);
+    fill(lists.counts, places.counts, cells, 0);
     let mut r = Reader { s, at };
-    let mut first = count;
+    let mut first = places.counts;
     for i in 0..LagWindow::SECONDS {
         if ends(r.s, r.at) {
             return;
@@ -62,14 +54,15 @@ fn store_rows(
         let Some(row) = Row::read(&mut r) else {
             return;
         };
-        put_at(starts, second.saturating_add(i), row.start);
-        put_at(totals, second.saturating_add(i), row.total);
-        store_cells(&mut r, counts, first);
+        let second = places.seconds.saturating_add(i);
+        put_at(lists.starts, second, row.start);
+        put_at(lists.totals, second, row.total);
+        store_cells(&mut r, lists.counts, first);
         first = first.saturating_add(buckets);
     }
 }
 
-// The lags of one bucket in all seconds: its count in the first is at `first`, the next one so many buckets on.
+// The lags of one bucket in all seconds: its count in the first is at `first`, the next one so many buckets on, so it is no slice.
 fn column(counts: &[u32], first: usize, buckets: usize) -> u64 {
     let mut sum: u64 = 0;
     let mut at = first;
@@ -80,70 +73,41 @@ fn column(counts: &[u32], first: usize, buckets: usize) -> u64 {
     sum
 }
 
-// The sums from `first` on, of the counts from `count` on.
-fn sum_rows(buckets: usize, count: usize, first: usize, counts: &[u32], sums: &mut [u64]) {
+// The sums of the rows that are stored.
+fn sum_rows(buckets: usize, places: Places, lists: &mut Lists<'_>) {
     for b in 0..buckets {
-        put_at(
-            sums,
-            first.saturating_add(b),
-            column(counts, count.saturating_add(b), buckets),
-        );
+        let sum = column(lists.counts, places.counts.saturating_add(b), buckets);
+        put_at(lists.sums, places.sums.saturating_add(b), sum);
     }
 }
 
-// The rows from place `at` of the line on, as the seconds from `second` and the counts from `count` on, with their sums, from `first` on.
-pub fn rows(
-    s: &[u8],
-    at: usize,
-    buckets: usize,
-    second: usize,
-    count: usize,
-    first: usize,
-    starts: &mut Seconds,
-    totals: &mut Seconds,
-    counts: &mut Counts,
-    sums: &mut Sums,
-) {
-    store_rows(s, at, buckets, second, count, starts, totals, counts);
-    sum_rows(buckets, count, first, counts, sums);
+// The rows from place `at` of the line on, with their sums.
+pub fn rows(s: &[u8], at: usize, buckets: usize, places: Places, lists: &mut Lists<'_>) {
+    store_rows(s, at, buckets, places, lists);
+    sum_rows(buckets, places, lists);
 }
 
-// One sum, right or not, of a window whose sums begin at `first`.
-pub fn sum(asked: SumAsked, first: usize, sums: &mut Sums) {
-    put_at(sums, first.saturating_add(asked.bucket), asked.sum);
+// One sum, right or not.
+pub fn sum(asked: SumAsked, places: Places, sums: &mut Sums) {
+    put_at(sums, places.sums.saturating_add(asked.bucket), asked.sum);
 }
 
 // ---- a hold
-// n peaks from place `at` of the line on, as the peaks from `first` on.
-pub fn peaks(s: &[u8], at: usize, n: usize, first: usize, times: &mut Times, lags: &mut Peaks) {
-    fill(times, first, DelayHold::PLACES, 0);
-    fill(lags, first, DelayHold::PLACES, 0);
+// n peaks from place `at` of the line on.
+pub fn peaks(s: &[u8], at: usize, n: usize, places: Places, lists: &mut Lists<'_>) {
+    fill(lists.times, places.peaks, DelayHold::PLACES, 0);
+    fill(lists.peaks, places.peaks, DelayHold::PLACES, 0);
     let mut r = Reader { s, at };
     for i in 0..n.min(DelayHold::PLACES) {
         let Some(peak) = Peak::read(&mut r) else {
             return;
         };
-        put_at(times, first.saturating_add(i), peak.time);
-        put_at(lags, first.saturating_add(i), peak.lag);
+        put_at(lists.times, places.peaks.saturating_add(i), peak.time);
+        put_at(lists.peaks, places.peaks.saturating_add(i), peak.lag);
     }
 }
 
 // ---- a part of an input's record
-fn with_counters(slot: Slot, asked: CountersAsked) -> Slot {
-    let mut changed = slot;
-    changed.reopens = asked.reopens;
-    changed.delay_changes = asked.delay_changes;
-    changed.late_events = asked.late_events;
-    changed
-}
-
-fn with_delays(slot: Slot, asked: DelaysAsked) -> Slot {
-    let mut changed = slot;
-    changed.delay = asked.delay;
-    let proposed = asked.proposed;
-    inputs_slots::with_proposed(changed, proposed)
-}
-
 // An input's slot with a part crafted.
 fn crafted(slot: Slot, part: Part) -> Slot {
     match part {
@@ -152,41 +116,32 @@ fn crafted(slot: Slot, part: Part) -> Slot {
             let hold = h.hold;
             inputs_slots::with_hold(slot, hold)
         }
-        Part::Counters(c) => with_counters(slot, c),
-        Part::Delays(d) => with_delays(slot, d),
+        Part::Counters(c) => Slot {
+            reopens: c.reopens,
+            delay_changes: c.delay_changes,
+            late_events: c.late_events,
+            ..slot
+        },
+        Part::Delays(d) => Slot {
+            delay: d.delay,
+            proposed: d.proposed,
+            ..slot
+        },
         Part::Sum(_) => slot,
     }
 }
 
 // The part's rows, its peaks or its sum, in the places of input i, whose window has so many buckets a second.
-fn store(
-    part: Part,
-    i: usize,
-    buckets: usize,
-    s: &[u8],
-    starts: &mut Seconds,
-    totals: &mut Seconds,
-    counts: &mut Counts,
-    sums: &mut Sums,
-    times: &mut Times,
-    lags: &mut Peaks,
-) {
+fn store(part: Part, i: usize, buckets: usize, s: &[u8], lists: &mut Lists<'_>) {
+    let places = Places::of(i, buckets);
     match part {
-        Part::Window(w) => {
-            let second = i.saturating_mul(LagWindow::SECONDS);
-            let count = second.saturating_mul(buckets);
-            let first = i.saturating_mul(buckets);
-            rows(
-                s, w.at, buckets, second, count, first, starts, totals, counts, sums,
-            );
-        }
-        Part::Sum(asked) => sum(asked, i.saturating_mul(buckets), sums),
+        Part::Window(w) => rows(s, w.at, buckets, places, lists),
+        Part::Sum(asked) => sum(asked, places, lists.sums),
         Part::Hold(h) => {
             let hold = h.hold;
-            let first = i.saturating_mul(DelayHold::PLACES);
-            peaks(s, h.at, hold.peaks, first, times, lags);
+            peaks(s, h.at, hold.peaks, places, lists);
         }
-        _ => {}
+        Part::Counters(_) | Part::Delays(_) => {}
     }
 }
 
@@ -196,18 +151,11 @@ pub fn put(
     asked: PutAsked,
     buckets: usize,
     s: &[u8],
-    starts: &mut Seconds,
-    totals: &mut Seconds,
-    counts: &mut Counts,
-    sums: &mut Sums,
-    times: &mut Times,
-    lags: &mut Peaks,
+    lists: &mut Lists<'_>,
 ) -> Inputs {
     let i = asked.input;
     let part = asked.part;
-    store(
-        part, i, buckets, s, starts, totals, counts, sums, times, lags,
-    );
+    store(part, i, buckets, s, lists);
     let slot = inputs_slots::slot_at(inputs, i);
     inputs_slots::put_slot(inputs, i, crafted(slot, part))
 }

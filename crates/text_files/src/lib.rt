@@ -25,7 +25,7 @@ fn pair(s: &[u8], at: usize) -> Option<u8>
     Some(high * 16 + low)
 }
 
-// The place after the digits.
+// The place after the digits. A byte that is no digit ends them, and any place is taken, as in the rule.
 #[tactic(auto, using(crate::proofs::Pairs::end_stop), unfolding(crate::specs::Files::digits_end))]
 fn digits_end(s: &[u8], from: usize) -> usize
     ensures { result ≡ digits_end s.now from }
@@ -43,7 +43,7 @@ pub fn file_word(r: &mut Reader<'_>, sep: u8) -> Option<usize>
     ensures read { read_as r.new.at result ≡ file_at r.old.s.now r.old.at sep }
     ensures same { r.new.s.now ≡ r.old.s.now }
 {
-    if let Some(()) = r.mark(sep, b'-') {
+    if r.mark(sep, b'-') {
         return Some(r.at);
     }
     let from = after(r.s, r.at, sep)?;
@@ -55,7 +55,8 @@ pub fn file_word(r: &mut Reader<'_>, sep: u8) -> Option<usize>
     Some(from)
 }
 
-// The bytes whose digits begin at this place, in a list that has room for them: how many are kept.
+// The bytes whose digits begin at this place, in a list that has room for them: how many are kept. By index: of `iter_mut().take(n)` no contract tells
+// what the list then holds.
 #[tactic(auto, using(crate::proofs::Pairs::kept_stop, crate::proofs::Pairs::kept_more), unfolding(crate::specs::Files::kept_from))]
 fn store(s: &[u8], at: usize, file: &mut [u8]) -> usize
     requires { 1292 ≤ length file.old }
@@ -72,7 +73,7 @@ fn store(s: &[u8], at: usize, file: &mut [u8]) -> usize
     MOST_FILE
 }
 
-// The bytes whose digits begin at this place, at most 1,292: how many there are.
+// The bytes whose digits begin at this place, at most 1,292: how many there are. The line and a place, as of a request: who calls this holds no reader.
 pub fn file_at(s: &[u8], at: usize, file: &mut [u8; 262_144]) -> usize
     ensures { take result file.new ≡ kept_from s.now at }
 {

@@ -3,6 +3,7 @@ use Rattle.std.specs.Prelude.{ℕ, ◌+◌, ◌-◌, ◌*◌, ◌^◌, min, Bool
 use Rattle.base.specs.Choice.{pick}
 use Rattle.buckets.specs.Ranges.{reaches_allowed, buckets_of}
 use Rattle.text_lending.specs.declared.FileSizes.{FileSizes}
+use Rattle.text_lending.specs.declared.Places.{Places}
 use Rattle.text_lending.specs.declared.Sizes.{Sizes}
 use Rattle.text_lending.specs.declared.Span.{Span}
 
@@ -33,6 +34,16 @@ lengths_for n buckets short =
 -- document 02: "The reader fills 1,024 flow bytes and 64 delays", "The writer's list is 1,287 bytes"
 unfoldable pub files_lent : (short : Bool) → FileSizes
 files_lent short = record { file = cut_to 1287 short; flows = cut_to 1024 short; delays = cut_to 64 short }
+
+-- the places of input i begin after those of the inputs before it
+unfoldable pub places_of : (i buckets : ℕ) → Places
+places_of i buckets =
+    record {
+      seconds = countable (i * 11);
+      counts = countable (countable (i * 11) * buckets);
+      sums = countable (i * buckets);
+      peaks = countable (i * 600);
+    }
 
 -- `count` places from `first` on, as far as the list has them
 unfoldable pub places_from : (first count most : ℕ) → Span

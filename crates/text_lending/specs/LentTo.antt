@@ -5,7 +5,8 @@ use Rattle.rules_record.specs.declared.Inputs.{Inputs}
 use Rattle.text_lending.specs.declared.Sizes.{Sizes}
 use Rattle.text_lending.specs.Lengths.{buckets_lent, lengths_for}
 use Rattle.text_requests.specs.declared.Call.{Call}
-use Rattle.text_requests.specs.declared.Call.TheVariants.{New, Route, Update, Confirm, Tick, Status, Has, Settled, WriteDelays, Dump, Put}
+use Rattle.text_requests.specs.declared.Call.TheVariants.{Change, Ask, Put}
+use Rattle.text_requests.specs.declared.Change.TheVariants.{New, Route, Update, Confirm, Tick}
 
 -- the buckets a second of a record's windows
 unfoldable pub buckets_held : (inputs : Inputs) → ℕ
@@ -19,14 +20,10 @@ unfoldable pub by_record : (inputs : Inputs) (short : Bool) → Sizes
 by_record inputs short = lengths_for inputs.count (buckets_held inputs) short
 
 abbrev pub lent_to : (call : Call) (inputs : Inputs) (short : Bool) → Sizes
-lent_to (New asked) inputs short = by_settings asked.settings short
-lent_to (Route asked) inputs short = by_record inputs short
-lent_to (Update asked) inputs short = by_record inputs short
-lent_to (Confirm asked) inputs short = by_record inputs short
-lent_to (Tick asked) inputs short = by_record inputs short
-lent_to (Status asked) inputs short = by_record inputs short
-lent_to (Has asked) inputs short = by_record inputs short
-lent_to (Settled asked) inputs short = by_record inputs short
-lent_to WriteDelays inputs short = by_record inputs short
-lent_to Dump inputs short = by_record inputs short
+lent_to (Change (New asked)) inputs short = by_settings asked.settings short
+lent_to (Change (Route asked)) inputs short = by_record inputs short
+lent_to (Change (Update asked)) inputs short = by_record inputs short
+lent_to (Change (Confirm asked)) inputs short = by_record inputs short
+lent_to (Change (Tick asked)) inputs short = by_record inputs short
+lent_to (Ask asked) inputs short = by_record inputs short
 lent_to (Put asked) inputs short = by_record inputs short

@@ -4,19 +4,10 @@
 
 ghost use Rattle.std.specs.Prelude.{◌≡◌, ◌≤◌, take};
 ghost use Rattle.text_lending.specs.LentTo.{buckets_held, lent_to};
-ghost use Rattle.text_lending.specs.Lengths.{buckets_lent, cut_to, lengths_for, files_lent, places_from};
+ghost use Rattle.text_lending.specs.Lengths.{buckets_lent, cut_to, lengths_for, files_lent, places_from, places_of};
 
 use rules_record::Inputs;
-use text_requests::Call;
-
-// Where the places of the window and the hold alone begin.
-pub const LONE_SECONDS: usize = 176;
-
-pub const LONE_COUNTS: usize = 720_896;
-
-pub const LONE_SUMS: usize = 65_536;
-
-pub const LONE_PEAKS: usize = 9_600;
+use text_requests::{Call, Change};
 
 // The starts and the totals of seconds, the counts of their rows, and the sums over the rows.
 pub type Seconds = [u64; 187];
@@ -53,6 +44,39 @@ pub struct Lists<'a> {
     pub heard: &'a mut Heard,
 }
 
+// Where in the lists the places of a window and a hold begin: the starts and totals of its seconds, the counts of their rows, the sums, the peaks.
+#[derive(Clone, Copy)]
+pub struct Places {
+    pub seconds: usize,
+    pub counts: usize,
+    pub sums: usize,
+    pub peaks: usize,
+}
+
+impl Places {
+    // Of the window and the hold alone: after those of 16 inputs.
+    pub const LONE: Places = Places {
+        seconds: 176,
+        counts: 720_896,
+        sums: 65_536,
+        peaks: 9_600,
+    };
+
+    // Of input i, whose window has so many buckets a second.
+    #[tactic(auto, unfolding(crate::specs::Lengths::places_of))]
+    pub fn of(i: usize, buckets: usize) -> Places
+        ensures { result ≡ places_of i buckets }
+    {
+        let seconds = i.saturating_mul(11);
+        Places {
+            seconds,
+            counts: seconds.saturating_mul(buckets),
+            sums: i.saturating_mul(buckets),
+            peaks: i.saturating_mul(600),
+        }
+    }
+}
+
 // The lengths that a call asks for.
 #[derive(Clone, Copy)]
 pub struct Sizes {
@@ -71,7 +95,7 @@ pub struct FileSizes {
     pub delays: usize,
 }
 
-// From `from` up to `to`.
+// From `from` up to `to`. A part is cut only at two written ends.
 #[derive(Clone, Copy)]
 pub struct Span {
     pub from: usize,
@@ -132,7 +156,7 @@ pub fn buckets_in(inputs: Inputs) -> usize
 pub fn sizes_for(call: Call, inputs: Inputs, short: bool) -> Sizes
     ensures { result ≡ lent_to call inputs short }
 {
-    let Call::New(asked) = call else {
+    let Call::Change(Change::New(asked)) = call else {
         return lengths(inputs.count, buckets_in(inputs), short);
     };
     let settings = asked.settings;
@@ -152,8 +176,8 @@ pub fn file_sizes(short: bool) -> FileSizes
     }
 }
 
-// The first n numbers, as far as there are any.
-pub fn first_u32(s: &[u32], n: usize) -> &[u32]
+// The first n of them, as far as there are any.
+pub fn first<T>(s: &[T], n: usize) -> &[T]
     ensures { result.now ≡ take n s.now }
 {
     let end = n.min(s.len());
@@ -162,7 +186,7 @@ pub fn first_u32(s: &[u32], n: usize) -> &[u32]
 
 // So many places from `first` on, of at most `most`.
 #[tactic(auto, unfolding(crate::specs::Lengths::places_from))]
-pub fn places(first: usize, count: usize, most: usize) -> Span
+pub fn places_from(first: usize, count: usize, most: usize) -> Span
     ensures value { result ≡ places_from first count most }
     ensures from_le_to { (result.from ≤ result.to) × (result.to ≤ most) }
 {

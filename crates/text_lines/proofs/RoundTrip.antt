@@ -10,8 +10,7 @@ use borrow.Author.Tests.{eqb-true, eqb-false, lt-ltb, le-ltb, le-leb}
 use lib.Dec.{eqb}
 use lib.ListN.{length}
 use Rattle.base.proofs.Choices.{by_le, by_bool}
-use Rattle.std.specs.Prelude.{Option, Some}
-use Rattle.text_scan.specs.declared.Word.{Word}
+use Rattle.std.specs.Prelude.{Some}
 use Rattle.text_scan.specs.Scan.{word, digit_of, digits_of, number_from}
 use Rattle.text_print.specs.Print.{glyph_of, spells, spelled, digits_text, decimal_text, hex_text}
 use Rattle.text_scan.proofs.Scanning.{digit_decimal, digit_letter, closed_some}

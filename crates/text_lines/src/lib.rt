@@ -15,7 +15,7 @@ pub const LONGEST: usize = 1_048_576;
 // What is kept free of the output buffer, so that the next few words fit.
 const SPARE: usize = 1_024;
 
-// Where reading stands in the input buffer.
+// Where reading stands in the input buffer: apart from the buffer, so that a line is lent while the cursor goes on.
 #[derive(Clone, Copy)]
 pub struct Cursor {
     // The next line begins here, no newline stands before `seen`, and what was read ends at `to`.
@@ -159,10 +159,7 @@ fn read_after<R: Read>(reader: &mut R, input: &mut [u8], to: usize) -> usize
         return 0;
     }
     let room = &mut input[to..];
-    match reader.read(room) {
-        Ok(got) => got,
-        Err(_) => 0,
-    }
+    reader.read(room).unwrap_or(0)
 }
 
 // Where answers go: a printer, and the writer to which its buffer is written out.
@@ -184,7 +181,8 @@ impl<W: Write> Output<'_, W> {
         done
     }
 
-    // Makes room for the next words: where few places are left, the answers so far are written and the buffer begins anew.
+    // Makes room for the next words: where few places are left, the answers so far are written and the buffer begins anew. Whether
+    // they were written is not asked here: a writer that goes on failing is found at the next flush, which ends the program.
     #[tactic(auto, unfolding(crate::specs::Lines::room_at))]
     pub fn room(&mut self)
         ensures place { self.new.printer.place ≡ room_at 262_144 self.old.printer.place }

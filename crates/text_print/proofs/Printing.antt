@@ -104,6 +104,7 @@ module _ (rest count least : ℕ) where
   unfolding spells
   spells_more h = rw (ne_eqb rest 0 h)
 
+-- std's `drop-set`, where the place after k is `suc k`, as digits are spelled
 drop_set : (bytes : List ℕ) (k g : ℕ) → k < length bytes → drop k (set bytes k g) ≡ g ∷ drop (suc k) bytes
 drop_set bytes k g h =
     let l : k < length (set bytes k g) = simp length-set (omega arith) in

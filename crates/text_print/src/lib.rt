@@ -11,7 +11,7 @@ ghost use Rattle.text_print.specs.Printers.{on};
 // The buffer that answers are printed into.
 pub type Out = [u8; 262_144];
 
-// A lent buffer, and the place where the next text goes.
+// A lent buffer, and the place where the next text goes: as io::Cursor, with a place that contracts can speak of.
 #[derive(Drop)]
 pub struct Printer<'a> {
     pub out: &'a mut Out,
@@ -24,10 +24,7 @@ fn glyph(d: u64) -> u8
     requires { d < 16 }
     ensures { result ≡ glyph_of d }
 {
-    if d < 10 {
-        return (48 + d) as u8;
-    }
-    (87 + d) as u8
+    b"0123456789abcdef"[d as usize]
 }
 
 // Nothing is left of the number, and it has its least number of digits.
@@ -95,7 +92,8 @@ impl Printer<'_> {
         self.put_text(&digits);
     }
 
-    // A number in decimal, without leading zeros.
+    // A number in decimal, without leading zeros. This and the three after it name a base and a least number of digits for `put_digits`, which asks that the base
+    // is from 2 to 16: their callers owe nothing.
     pub fn put_decimal(&mut self, n: u64)
         ensures text { on self.new ≡ printed (decimal_text n) (on self.old) }
         ensures same { self.new.out.ghost_name ≡ self.old.out.ghost_name }

@@ -66,11 +66,9 @@ module _ (s : List ℕ) (at : ℕ) where
   settled_silent = search silent
 
   dump_silent : Silent (dump_line s at)
-  unfolding dump_line
   dump_silent = search silent
 
   dwrite1_silent : Silent (dwrite1_line s at)
-  unfolding dwrite1_line
   dwrite1_silent = search silent
 
   new_silent : Silent (new_line s at)

@@ -12,16 +12,20 @@ use Rattle.rules_calls.specs.declared.Source.{Source}
 use Rattle.rules_routing.specs.declared.World.{World}
 use Rattle.text_scan.specs.declared.Word.{Word}
 use Rattle.text_scan.specs.Scan.{word, ◌>>=◌}
+use Rattle.text_scan.specs.Text.{text}
 use Rattle.text_words.specs.Words.{mark_after, or_none, u64_at, hex_at, u32_at, bit_at, maybe_u64_at, maybe_u32_at, flow_at, kind_at}
 use Rattle.text_requests.specs.declared.Call.{Call}
-use Rattle.text_requests.specs.declared.Call.TheVariants.{New, Route, Update, Confirm, Tick, Status, Has, Settled, WriteDelays, Dump, Put}
+use Rattle.text_requests.specs.declared.Ask.TheVariants.{Status, Has, Settled, WriteDelays, Dump}
+use Rattle.text_requests.specs.declared.Call.TheVariants.{Change, Ask, Put}
+use Rattle.text_requests.specs.declared.Change.TheVariants.{New, Route, Update, Confirm, Tick}
 use Rattle.text_requests.specs.declared.Known.{Known}
 use Rattle.text_requests.specs.declared.Part.{Part}
 use Rattle.text_requests.specs.declared.Part.TheVariants.{Window, Hold, Counters, Delays, Sum}
+use Rattle.text_requests.specs.declared.TimeAsked.{TimeAsked}
 use Rattle.text_requests.specs.Forms.{space, slash, text_end, word_end}
 use Rattle.text_requests.specs.Lists.{kinds_end, looks_end, loads_end, lags_at, rows_at}
 use Rattle.text_requests.specs.Parts.{flow_of, setting_of}
-use Rattle.text_read_alone.specs.Alone.{hold_at, sum_at}
+use Rattle.text_read_alone.specs.Alone.{bare_line, hold_at, sum_at}
 
 -- ---- `new`: now u64, n u32, offset u32, max u32, W u32, hold u64, window u64, stall u64, margin u32, percent hex64, confirm bit, n kinds,
 -- k u32 (at most 16,384), k times flow=delay
@@ -59,7 +63,7 @@ new_line s at = do
   after ← kinds_end s settings.next settings.value.count
   loaded ← u32_at s after space
   end ← loads_end s loaded.next loaded.value
-  let call : Call = New (record { time = time.value; settings = settings.value; kinds = settings.next; loads = loaded.next; loaded = loaded.value })
+  let call : Call = Change (New (record { time = time.value; settings = settings.value; kinds = settings.next; loads = loaded.next; loaded = loaded.value }))
   pick (leb loaded.value 16384) (Some (word call end)) None
 
 -- ---- `route`: now u64, input u64, (flow/domain u64)|-, inode u64|-, make bit, channels u32|-, head u64
@@ -83,7 +87,7 @@ route_line s at = do
   channels ← maybe_u32_at s make.next space
   head ← u64_at s channels.next space
   let world : World = record { inode = inode.value; made = make.value; reader = channels.value; head = head.value }
-  Some (word (Route (record { time = time.value; input = input.value; wanted = wanted.value; world = world })) head.next)
+  Some (word (Change (Route (record { time = time.value; input = input.value; wanted = wanted.value; world = world }))) head.next)
 
 -- ---- `update`: now u64, input u64, kind; or in its place `D` (68) with a hex64: Ms, sent by the desk
 unfoldable pub desk_at : (s : List ℕ) (at : ℕ) → Option (Word DelaySetting)
@@ -106,23 +110,28 @@ update_line s at = do
   time ← u64_at s name space
   input ← u64_at s time.next space
   setting ← setting_at s input.next
-  Some (word (Update (record { time = time.value; input = input.value; setting = setting.value })) setting.next)
+  Some (word (Change (Update (record { time = time.value; input = input.value; setting = setting.value }))) setting.next)
+
+-- now u64, input u64
+unfoldable pub time_at : (s : List ℕ) (at : ℕ) → Option (Word TimeAsked)
+time_at s at = do
+  time ← u64_at s at space
+  input ← u64_at s time.next space
+  Some (word (record { time = time.value; input = input.value }) input.next)
 
 -- `confirm`: now u64, input u64
 unfoldable pub confirm_line : (s : List ℕ) (at : ℕ) → Option (Word Call)
 confirm_line s at = do
   name ← word_end s at "confirm"
-  time ← u64_at s name space
-  input ← u64_at s time.next space
-  Some (word (Confirm (record { time = time.value; input = input.value })) input.next)
+  words ← time_at s name
+  Some (word (Change (Confirm words.value)) words.next)
 
 -- `settled`: now u64, input u64
 unfoldable pub settled_line : (s : List ℕ) (at : ℕ) → Option (Word Call)
 settled_line s at = do
   name ← word_end s at "settled"
-  time ← u64_at s name space
-  input ← u64_at s time.next space
-  Some (word (Settled (record { time = time.value; input = input.value })) input.next)
+  words ← time_at s name
+  Some (word (Ask (Settled words.value)) words.next)
 
 -- ---- `tick`, or `dry tick`: now u64, a look for each input, `L`, lags u32; of a supervisor that was made
 unfoldable pub tick_name : (s : List ℕ) (at : ℕ) → Option (Word Bool)
@@ -139,21 +148,17 @@ tick_line s at inputs room = do
   time ← u64_at s name.next space
   end ← looks_end s time.next inputs
   heard ← lags_at s end room
-  let call : Call = Tick (record { dry = name.value; time = time.value; looks = time.next; lags = heard.value.count })
+  let call : Call = Change (Tick (record { dry = name.value; time = time.value; looks = time.next; lags = heard.value.count }))
   pick (eqb inputs 0) None (Some (record { line = word call heard.next; lags = heard.value.list }))
 
 -- how many lags a call has stored
 abbrev pub lags_of : Call → ℕ
-lags_of (Tick asked) = asked.lags
-lags_of (New asked) = 0
-lags_of (Route asked) = 0
-lags_of (Update asked) = 0
-lags_of (Confirm asked) = 0
-lags_of (Status asked) = 0
-lags_of (Has asked) = 0
-lags_of (Settled asked) = 0
-lags_of WriteDelays = 0
-lags_of Dump = 0
+lags_of (Change (Tick asked)) = asked.lags
+lags_of (Change (New asked)) = 0
+lags_of (Change (Route asked)) = 0
+lags_of (Change (Update asked)) = 0
+lags_of (Change (Confirm asked)) = 0
+lags_of (Ask asked) = 0
 lags_of (Put asked) = 0
 
 abbrev pub tick_said : (line : Option (Word Call)) (heard : List ℕ) → Option TickLine
@@ -166,7 +171,7 @@ status_line s at = do
   input ← u64_at s name space
   applied ← u32_at s input.next space
   channels ← u32_at s applied.next space
-  Some (word (Status (record { input = input.value; first = applied.value; second = channels.value })) channels.next)
+  Some (word (Ask (Status (record { input = input.value; applied = applied.value; channels = channels.value }))) channels.next)
 
 -- `has`: input u64, channels u32, wanted u32
 unfoldable pub has_line : (s : List ℕ) (at : ℕ) → Option (Word Call)
@@ -175,19 +180,15 @@ has_line s at = do
   input ← u64_at s name space
   channels ← u32_at s input.next space
   wanted ← u32_at s channels.next space
-  Some (word (Has (record { input = input.value; first = channels.value; second = wanted.value })) wanted.next)
+  Some (word (Ask (Has (record { input = input.value; channels = channels.value; wanted = wanted.value }))) wanted.next)
 
 -- `dump`: nothing
-unfoldable pub dump_line : (s : List ℕ) (at : ℕ) → Option (Word Call)
-dump_line s at = do
-  name ← word_end s at "dump"
-  Some (word Dump name)
+abbrev pub dump_line : (s : List ℕ) (at : ℕ) → Option (Word Call)
+dump_line s at = bare_line s at (text "dump") (Ask Dump)
 
 -- `dwrite1`: nothing
-unfoldable pub dwrite1_line : (s : List ℕ) (at : ℕ) → Option (Word Call)
-dwrite1_line s at = do
-  name ← word_end s at "dwrite1"
-  Some (word WriteDelays name)
+abbrev pub dwrite1_line : (s : List ℕ) (at : ℕ) → Option (Word Call)
+dwrite1_line s at = bare_line s at (text "dwrite1") (Ask WriteDelays)
 
 -- ---- `put`: input u64 that exists, then one of five parts
 -- `window`: rows

@@ -1,5 +1,5 @@
 // The request of a line (compare/README.md, "The protocol"). A line more is one definition in specs/, one function that reads it, and one
-// entry in its group of lines.
+// entry in its group of lines; a line of a name alone has the function `bare`.
 #![tactic(auto)]
 
 ghost use Rattle.std.specs.Prelude.{◌≡◌, length};
@@ -40,7 +40,7 @@ fn whole<T: Copy>(s: &[u8], read: Option<Word<T>>) -> Option<T>
     ensures { result ≡ whole s.now read }
 {
     let w = read?;
-    if ends(s, w.next) { Some(w.value) } else { None }
+    ends(s, w.next).then_some(w.value)
 }
 
 // What stands at this place: a line that ends where its words end.

@@ -2,19 +2,19 @@
 // name is another, or a word is missing or of another form.
 ghost use Rattle.std.specs.Prelude.{◌≡◌, length};
 ghost use Rattle.text_words.specs.Words.{read_as};
-ghost use Rattle.text_read.specs.Supervisor.{settings_at, new_line, source_at, wanted_at, route_line, desk_at, scored_at, setting_at, update_line, confirm_line, settled_line, tick_name, tick_said, tick_line, status_line, has_line, dump_line, dwrite1_line, window_part, hold_part, counters_part, delays_part, sum_part, put_line, change_lines, ask_lines, call_line};
+ghost use Rattle.text_read.specs.Supervisor.{settings_at, new_line, source_at, wanted_at, route_line, desk_at, scored_at, setting_at, update_line, time_at, confirm_line, settled_line, tick_name, tick_said, tick_line, status_line, has_line, window_part, hold_part, counters_part, delays_part, sum_part, put_line, change_lines, ask_lines, call_line};
 
 use rules_calls::{DelaySetting, Settings, Source};
 use rules_record::ExtraDelay;
 use rules_routing::World;
 use rules_tick::Look;
 use text_print::bits::double;
-use text_read_alone::{hold_at, sum_at};
+use text_read_alone::{bare, hold_at, sum_at};
 use text_requests::lists::{Load, MOST_LOADS, lags_at, pass, rows_at};
 use text_requests::parts::{flow_of, setting_of};
 use text_requests::{
-    Call, CountersAsked, DelaysAsked, Known, NewAsked, Part, PutAsked, RouteAsked, RowsAsked,
-    StatusAsked, TickAsked, TimeAsked, UpdateAsked,
+    Ask, Call, Change, CountersAsked, DelaysAsked, HasAsked, Known, NewAsked, Part, PutAsked,
+    RouteAsked, RowsAsked, StatusAsked, TickAsked, TimeAsked, UpdateAsked,
 };
 use text_scan::Word;
 use text_words::Reader;
@@ -61,7 +61,7 @@ fn new(mut r: Reader<'_>) -> Option<Word<Call>>
         loads,
         loaded,
     };
-    Some(r.found(Call::New(asked)))
+    Some(r.found(Call::Change(Change::New(asked))))
 }
 
 // ---- route
@@ -83,9 +83,9 @@ fn wanted_at(r: &mut Reader<'_>) -> Option<Option<Source>>
     ensures read { read_as r.new.at result ≡ wanted_at r.old.s.now r.old.at }
     ensures same { r.new.s.now ≡ r.old.s.now }
 {
-    let Some(()) = r.mark(b' ', b'-') else {
+    if !r.mark(b' ', b'-') {
         return Some(Some(source_at(r)?));
-    };
+    }
     Some(None)
 }
 
@@ -109,7 +109,7 @@ fn route(mut r: Reader<'_>) -> Option<Word<Call>>
         wanted,
         world,
     };
-    Some(r.found(Call::Route(asked)))
+    Some(r.found(Call::Change(Change::Route(asked))))
 }
 
 // ---- update, confirm, settled
@@ -152,7 +152,18 @@ fn update(mut r: Reader<'_>) -> Option<Word<Call>>
         input: r.u64(b' ')? as usize,
         setting: setting_at(&mut r)?,
     };
-    Some(r.found(Call::Update(asked)))
+    Some(r.found(Call::Change(Change::Update(asked))))
+}
+
+#[tactic(auto, unfolding(crate::specs::Supervisor::time_at))]
+fn time_at(r: &mut Reader<'_>) -> Option<TimeAsked>
+    ensures read { read_as r.new.at result ≡ time_at r.old.s.now r.old.at }
+    ensures same { r.new.s.now ≡ r.old.s.now }
+{
+    Some(TimeAsked {
+        time: r.u64(b' ')?,
+        input: r.u64(b' ')? as usize,
+    })
 }
 
 #[tactic(auto, unfolding(crate::specs::Supervisor::confirm_line))]
@@ -160,11 +171,8 @@ fn confirm(mut r: Reader<'_>) -> Option<Word<Call>>
     ensures { result ≡ confirm_line r.entry.s.now r.entry.at }
 {
     r.word(b"confirm")?;
-    let asked = TimeAsked {
-        time: r.u64(b' ')?,
-        input: r.u64(b' ')? as usize,
-    };
-    Some(r.found(Call::Confirm(asked)))
+    let asked = time_at(&mut r)?;
+    Some(r.found(Call::Change(Change::Confirm(asked))))
 }
 
 #[tactic(auto, unfolding(crate::specs::Supervisor::settled_line))]
@@ -172,11 +180,8 @@ fn settled(mut r: Reader<'_>) -> Option<Word<Call>>
     ensures { result ≡ settled_line r.entry.s.now r.entry.at }
 {
     r.word(b"settled")?;
-    let asked = TimeAsked {
-        time: r.u64(b' ')?,
-        input: r.u64(b' ')? as usize,
-    };
-    Some(r.found(Call::Settled(asked)))
+    let asked = time_at(&mut r)?;
+    Some(r.found(Call::Ask(Ask::Settled(asked))))
 }
 
 // ---- tick
@@ -214,10 +219,10 @@ pub(crate) fn tick(mut r: Reader<'_>, inputs: usize, heard: &mut [u32]) -> Optio
         looks,
         lags,
     };
-    Some(r.found(Call::Tick(asked)))
+    Some(r.found(Call::Change(Change::Tick(asked))))
 }
 
-// ---- status, has, dump, dwrite1
+// ---- status, has
 #[tactic(auto, unfolding(crate::specs::Supervisor::status_line))]
 fn status(mut r: Reader<'_>) -> Option<Word<Call>>
     ensures { result ≡ status_line r.entry.s.now r.entry.at }
@@ -225,10 +230,10 @@ fn status(mut r: Reader<'_>) -> Option<Word<Call>>
     r.word(b"status")?;
     let asked = StatusAsked {
         input: r.u64(b' ')? as usize,
-        first: r.u32(b' ')?,
-        second: r.u32(b' ')?,
+        applied: r.u32(b' ')?,
+        channels: r.u32(b' ')?,
     };
-    Some(r.found(Call::Status(asked)))
+    Some(r.found(Call::Ask(Ask::Status(asked))))
 }
 
 #[tactic(auto, unfolding(crate::specs::Supervisor::has_line))]
@@ -236,28 +241,12 @@ fn has(mut r: Reader<'_>) -> Option<Word<Call>>
     ensures { result ≡ has_line r.entry.s.now r.entry.at }
 {
     r.word(b"has")?;
-    let asked = StatusAsked {
+    let asked = HasAsked {
         input: r.u64(b' ')? as usize,
-        first: r.u32(b' ')?,
-        second: r.u32(b' ')?,
+        channels: r.u32(b' ')?,
+        wanted: r.u32(b' ')?,
     };
-    Some(r.found(Call::Has(asked)))
-}
-
-#[tactic(auto, unfolding(crate::specs::Supervisor::dump_line))]
-fn dump(mut r: Reader<'_>) -> Option<Word<Call>>
-    ensures { result ≡ dump_line r.entry.s.now r.entry.at }
-{
-    r.word(b"dump")?;
-    Some(r.found(Call::Dump))
-}
-
-#[tactic(auto, unfolding(crate::specs::Supervisor::dwrite1_line))]
-fn dwrite1(mut r: Reader<'_>) -> Option<Word<Call>>
-    ensures { result ≡ dwrite1_line r.entry.s.now r.entry.at }
-{
-    r.word(b"dwrite1")?;
-    Some(r.found(Call::WriteDelays))
+    Some(r.found(Call::Ask(Ask::Has(asked))))
 }
 
 // ---- put
@@ -341,7 +330,7 @@ fn put(mut r: Reader<'_>, inputs: usize, buckets: usize) -> Option<Word<Call>>
     })
 }
 
-// ---- all but a tick
+// ---- all but a tick, in groups: each form is read, as in text_read_alone
 #[tactic(auto, unfolding(crate::specs::Supervisor::change_lines))]
 fn change_lines(r: Reader<'_>) -> Option<Word<Call>>
     ensures { result ≡ change_lines r.entry.s.now r.entry.at }
@@ -356,8 +345,8 @@ fn ask_lines(r: Reader<'_>) -> Option<Word<Call>>
     status(r)
         .or(has(r))
         .or(settled(r))
-        .or(dump(r))
-        .or(dwrite1(r))
+        .or(bare(r, b"dump", Call::Ask(Ask::Dump)))
+        .or(bare(r, b"dwrite1", Call::Ask(Ask::WriteDelays)))
 }
 
 // The line that stands at this place, of the calls on a supervisor; before the first `new` there is no other.

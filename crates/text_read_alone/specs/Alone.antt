@@ -7,16 +7,28 @@ use Rattle.std.specs.Float.Ieee.{of_bits}
 use Rattle.base.specs.Choice.{pick}
 use Rattle.delay_hold.specs.declared.DelayHold.{DelayHold}
 use Rattle.text_scan.specs.declared.Word.{Word}
-use Rattle.text_scan.specs.Scan.{word, ◌>>=◌}
+use Rattle.text_scan.specs.Scan.{word, ◌>>=◌, after_word}
+use Rattle.text_scan.specs.Text.{text}
 use Rattle.text_words.specs.Words.{u64_at, hex_at, u32_at, u8_at, bit_at, maybe_u64_at, maybe_u32_at, maybe_pair_at}
 use Rattle.text_files.specs.Files.{file_at}
 use Rattle.text_requests.specs.declared.HoldAsked.{HoldAsked}
 use Rattle.text_requests.specs.declared.Lone.{Lone}
-use Rattle.text_requests.specs.declared.Lone.TheVariants.{Ms, Samples, Need, IndexAt, TimeOf, WindowNew, WindowSet, WindowSum, Push, Clear, Span, Quantile, HoldNew, HoldSet, Next, CoalesceSet, Changed, Pending, Take, TakeDue, QuerySet, QueryUp, QueryFailed, ReadDelays}
+use Rattle.text_requests.specs.declared.Lone.TheVariants.{Number, Window, WindowSet, WindowSum, Hold, HoldSet, Coalesce, Schedule, ReadDelays}
+use Rattle.text_requests.specs.declared.NumberCall.TheVariants.{Ms, Samples, Need, IndexAt, TimeOf}
+use Rattle.text_requests.specs.declared.WindowCall.TheVariants.{WindowNew, Push, Clear, Span, Quantile}
+use Rattle.text_requests.specs.declared.HoldCall.TheVariants.{HoldNew, Next}
+use Rattle.text_requests.specs.declared.CoalesceCall.TheVariants.{CoalesceSet, Changed, Pending, Take, TakeDue}
+use Rattle.text_requests.specs.declared.ScheduleCall.TheVariants.{QuerySet, QueryUp, QueryFailed}
 use Rattle.text_requests.specs.declared.SumAsked.{SumAsked}
 use Rattle.text_requests.specs.Forms.{space, word_end}
 use Rattle.text_requests.specs.Lists.{peaks_end, rows_at}
 use Rattle.text_requests.specs.Parts.{down_of, timer_of, seed_of}
+
+-- a line that is its name alone, which says this value
+abbrev pub bare_line : {A : Type 0} → (s : List ℕ) (at : ℕ) (name : List ℕ) (value : A) → Option (Word A)
+bare_line s at name value = do
+  end ← after_word s at name
+  Some (word value end)
 
 -- ---- numbers
 
@@ -25,14 +37,14 @@ unfoldable pub ms_line : (s : List ℕ) (at : ℕ) → Option (Word Lone)
 ms_line s at = do
   name ← word_end s at "ms"
   n ← u32_at s name space
-  Some (word (Ms n.value) n.next)
+  Some (word (Number (Ms n.value)) n.next)
 
 -- `samples`: hex64
 unfoldable pub samples_line : (s : List ℕ) (at : ℕ) → Option (Word Lone)
 samples_line s at = do
   name ← word_end s at "samples"
   m ← hex_at s name space
-  Some (word (Samples (of_bits binary64 m.value)) m.next)
+  Some (word (Number (Samples (of_bits binary64 m.value))) m.next)
 
 -- `need`: offset u32, max u32, margin u32, percent hex64, lag u32
 unfoldable pub need_line : (s : List ℕ) (at : ℕ) → Option (Word Lone)
@@ -43,21 +55,21 @@ need_line s at = do
   margin ← u32_at s most.next space
   percent ← hex_at s margin.next space
   lag ← u32_at s percent.next space
-  Some (word (Need (record { offset = offset.value; most = most.value; margin = margin.value; percent = of_bits binary64 percent.value; lag = lag.value })) lag.next)
+  Some (word (Number (Need (record { offset = offset.value; most = most.value; margin = margin.value; percent = of_bits binary64 percent.value; lag = lag.value }))) lag.next)
 
 -- `index_at`: u64
 unfoldable pub index_at_line : (s : List ℕ) (at : ℕ) → Option (Word Lone)
 index_at_line s at = do
   name ← word_end s at "index_at"
   time ← u64_at s name space
-  Some (word (IndexAt time.value) time.next)
+  Some (word (Number (IndexAt time.value)) time.next)
 
 -- `time_of`: u64
 unfoldable pub time_of_line : (s : List ℕ) (at : ℕ) → Option (Word Lone)
 time_of_line s at = do
   name ← word_end s at "time_of"
   index ← u64_at s name space
-  Some (word (TimeOf index.value) index.next)
+  Some (word (Number (TimeOf index.value)) index.next)
 
 -- ---- the window
 
@@ -68,7 +80,7 @@ wnew_line s at = do
   offset ← u32_at s name space
   most ← u32_at s offset.next space
   width ← u32_at s most.next space
-  Some (word (WindowNew (record { offset = offset.value; most = most.value; width = width.value })) width.next)
+  Some (word (Window (WindowNew (record { offset = offset.value; most = most.value; width = width.value }))) width.next)
 
 -- `wset`: rows
 unfoldable pub wset_line : (s : List ℕ) (at buckets : ℕ) → Option (Word Lone)
@@ -97,19 +109,15 @@ wpush_line s at = do
   name ← word_end s at "wpush"
   lag ← u32_at s name space
   time ← u64_at s lag.next space
-  Some (word (Push (record { lag = lag.value; time = time.value })) time.next)
+  Some (word (Window (Push (record { lag = lag.value; time = time.value }))) time.next)
 
 -- `wclear`: nothing
-unfoldable pub wclear_line : (s : List ℕ) (at : ℕ) → Option (Word Lone)
-wclear_line s at = do
-  name ← word_end s at "wclear"
-  Some (word Clear name)
+abbrev pub wclear_line : (s : List ℕ) (at : ℕ) → Option (Word Lone)
+wclear_line s at = bare_line s at (text "wclear") (Window Clear)
 
 -- `wspan`: nothing
-unfoldable pub wspan_line : (s : List ℕ) (at : ℕ) → Option (Word Lone)
-wspan_line s at = do
-  name ← word_end s at "wspan"
-  Some (word Span name)
+abbrev pub wspan_line : (s : List ℕ) (at : ℕ) → Option (Word Lone)
+wspan_line s at = bare_line s at (text "wspan") (Window Span)
 
 -- `wquant`: q hex64, limit u32
 unfoldable pub wquant_line : (s : List ℕ) (at : ℕ) → Option (Word Lone)
@@ -117,7 +125,7 @@ wquant_line s at = do
   name ← word_end s at "wquant"
   q ← hex_at s name space
   limit ← u32_at s q.next space
-  Some (word (Quantile (record { q = of_bits binary64 q.value; limit = limit.value })) limit.next)
+  Some (word (Window (Quantile (record { q = of_bits binary64 q.value; limit = limit.value }))) limit.next)
 
 -- ---- the hold
 
@@ -145,10 +153,8 @@ hold_at s at = do
   Some (word (record { at = n.next; hold = hold }) seeded.next)
 
 -- `hnew`: nothing
-unfoldable pub hnew_line : (s : List ℕ) (at : ℕ) → Option (Word Lone)
-hnew_line s at = do
-  name ← word_end s at "hnew"
-  Some (word HoldNew name)
+abbrev pub hnew_line : (s : List ℕ) (at : ℕ) → Option (Word Lone)
+hnew_line s at = bare_line s at (text "hnew") (Hold HoldNew)
 
 -- `hset`: fields
 unfoldable pub hset_line : (s : List ℕ) (at : ℕ) → Option (Word Lone)
@@ -172,7 +178,7 @@ next_line s at = do
   largest ← maybe_u32_at s p999.next space
   current ← u32_at s largest.next space
   time ← u64_at s current.next space
-  Some (word (Next (record { offset = offset.value; most = most.value; width = width.value; hold = hold.value; window = window.value; margin = margin.value; percent = of_bits binary64 percent.value; p999 = p999.value; largest = largest.value; current = current.value; time = time.value })) time.next)
+  Some (word (Hold (Next (record { offset = offset.value; most = most.value; width = width.value; hold = hold.value; window = window.value; margin = margin.value; percent = of_bits binary64 percent.value; p999 = p999.value; largest = largest.value; current = current.value; time = time.value }))) time.next)
 
 -- ---- the clocks
 
@@ -181,7 +187,7 @@ unfoldable pub co_set_line : (s : List ℕ) (at : ℕ) → Option (Word Lone)
 co_set_line s at = do
   name ← word_end s at "co_set"
   due ← maybe_u64_at s name space
-  Some (word (CoalesceSet due.value) due.next)
+  Some (word (Coalesce (CoalesceSet due.value)) due.next)
 
 -- `co_changed`: now u64, delay u64
 unfoldable pub co_changed_line : (s : List ℕ) (at : ℕ) → Option (Word Lone)
@@ -189,47 +195,43 @@ co_changed_line s at = do
   name ← word_end s at "co_changed"
   time ← u64_at s name space
   delay ← u64_at s time.next space
-  Some (word (Changed (record { time = time.value; delay = delay.value })) delay.next)
+  Some (word (Coalesce (Changed (record { time = time.value; delay = delay.value }))) delay.next)
 
 -- `co_pending`: nothing
-unfoldable pub co_pending_line : (s : List ℕ) (at : ℕ) → Option (Word Lone)
-co_pending_line s at = do
-  name ← word_end s at "co_pending"
-  Some (word Pending name)
+abbrev pub co_pending_line : (s : List ℕ) (at : ℕ) → Option (Word Lone)
+co_pending_line s at = bare_line s at (text "co_pending") (Coalesce Pending)
 
 -- `co_take`: nothing
-unfoldable pub co_take_line : (s : List ℕ) (at : ℕ) → Option (Word Lone)
-co_take_line s at = do
-  name ← word_end s at "co_take"
-  Some (word Take name)
+abbrev pub co_take_line : (s : List ℕ) (at : ℕ) → Option (Word Lone)
+co_take_line s at = bare_line s at (text "co_take") (Coalesce Take)
 
 -- `co_take_due`: now u64
 unfoldable pub co_take_due_line : (s : List ℕ) (at : ℕ) → Option (Word Lone)
 co_take_due_line s at = do
   name ← word_end s at "co_take_due"
   time ← u64_at s name space
-  Some (word (TakeDue time.value) time.next)
+  Some (word (Coalesce (TakeDue time.value)) time.next)
 
 -- `q_set`: (until u64:wait u64)|-
 unfoldable pub q_set_line : (s : List ℕ) (at : ℕ) → Option (Word Lone)
 q_set_line s at = do
   name ← word_end s at "q_set"
   down ← maybe_pair_at s name space 18446744073709551615
-  Some (word (QuerySet (down_of down.value)) down.next)
+  Some (word (Schedule (QuerySet (down_of down.value))) down.next)
 
 -- `q_up`: now u64
 unfoldable pub q_up_line : (s : List ℕ) (at : ℕ) → Option (Word Lone)
 q_up_line s at = do
   name ← word_end s at "q_up"
   time ← u64_at s name space
-  Some (word (QueryUp time.value) time.next)
+  Some (word (Schedule (QueryUp time.value)) time.next)
 
 -- `q_failed`: now u64
 unfoldable pub q_failed_line : (s : List ℕ) (at : ℕ) → Option (Word Lone)
 q_failed_line s at = do
   name ← word_end s at "q_failed"
   time ← u64_at s name space
-  Some (word (QueryFailed time.value) time.next)
+  Some (word (Schedule (QueryFailed time.value)) time.next)
 
 -- ---- a delay file
 

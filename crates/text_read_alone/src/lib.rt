@@ -4,7 +4,7 @@
 
 ghost use Rattle.std.specs.Prelude.{◌≡◌};
 ghost use Rattle.text_words.specs.Words.{read_as};
-ghost use Rattle.text_read_alone.specs.Alone.{hold_at, ms_line, samples_line, need_line, index_at_line, time_of_line, wnew_line, wset_line, sum_at, wsum_line, wpush_line, wclear_line, wspan_line, wquant_line, hnew_line, hset_line, next_line, co_set_line, co_changed_line, co_pending_line, co_take_line, co_take_due_line, q_set_line, q_up_line, q_failed_line, dread1_line, number_lines, window_lines, hold_lines, clock_lines, lone_line};
+ghost use Rattle.text_read_alone.specs.Alone.{bare_line, hold_at, ms_line, samples_line, need_line, index_at_line, time_of_line, wnew_line, wset_line, sum_at, wsum_line, wpush_line, wquant_line, hset_line, next_line, co_set_line, co_changed_line, co_take_due_line, q_set_line, q_up_line, q_failed_line, dread1_line, number_lines, window_lines, hold_lines, clock_lines, lone_line};
 
 use delay_hold::DelayHold;
 use text_files::file_word;
@@ -12,11 +12,19 @@ use text_print::bits::double;
 use text_requests::lists::{Peak, pass, rows_at};
 use text_requests::parts::{MOST_LAG, down_of, seed_of, timer_of};
 use text_requests::{
-    ChangedAsked, HoldAsked, Lone, NeedAsked, NextAsked, PushAsked, QuantileAsked, RowsAsked,
-    SumAsked, WindowAsked,
+    ChangedAsked, CoalesceCall, HoldAsked, HoldCall, Lone, NeedAsked, NextAsked, NumberCall,
+    PushAsked, QuantileAsked, RowsAsked, ScheduleCall, SumAsked, WindowAsked, WindowCall,
 };
 use text_scan::Word;
 use text_words::Reader;
+
+// A line is one definition and one function, as compare/README.md lists them; the lines of a name alone share one.
+pub fn bare<T: Copy>(mut r: Reader<'_>, name: &[u8], value: T) -> Option<Word<T>>
+    ensures { result ≡ bare_line r.entry.s.now r.entry.at name.now value }
+{
+    r.word(name)?;
+    Some(r.found(value))
+}
 
 // ---- numbers
 
@@ -26,7 +34,7 @@ fn ms(mut r: Reader<'_>) -> Option<Word<Lone>>
 {
     r.word(b"ms")?;
     let n = r.u32(b' ')?;
-    Some(r.found(Lone::Ms(n)))
+    Some(r.found(Lone::Number(NumberCall::Ms(n))))
 }
 
 #[tactic(auto, unfolding(crate::specs::Alone::samples_line))]
@@ -35,7 +43,7 @@ fn samples(mut r: Reader<'_>) -> Option<Word<Lone>>
 {
     r.word(b"samples")?;
     let ms = double(r.hex(b' ')?);
-    Some(r.found(Lone::Samples(ms)))
+    Some(r.found(Lone::Number(NumberCall::Samples(ms))))
 }
 
 #[tactic(auto, unfolding(crate::specs::Alone::need_line))]
@@ -50,7 +58,7 @@ fn need(mut r: Reader<'_>) -> Option<Word<Lone>>
         percent: double(r.hex(b' ')?),
         lag: r.u32(b' ')?,
     };
-    Some(r.found(Lone::Need(asked)))
+    Some(r.found(Lone::Number(NumberCall::Need(asked))))
 }
 
 #[tactic(auto, unfolding(crate::specs::Alone::index_at_line))]
@@ -59,7 +67,7 @@ fn index_at(mut r: Reader<'_>) -> Option<Word<Lone>>
 {
     r.word(b"index_at")?;
     let time = r.u64(b' ')?;
-    Some(r.found(Lone::IndexAt(time)))
+    Some(r.found(Lone::Number(NumberCall::IndexAt(time))))
 }
 
 #[tactic(auto, unfolding(crate::specs::Alone::time_of_line))]
@@ -68,7 +76,7 @@ fn time_of(mut r: Reader<'_>) -> Option<Word<Lone>>
 {
     r.word(b"time_of")?;
     let index = r.u64(b' ')?;
-    Some(r.found(Lone::TimeOf(index)))
+    Some(r.found(Lone::Number(NumberCall::TimeOf(index))))
 }
 
 // ---- the window
@@ -83,7 +91,7 @@ fn wnew(mut r: Reader<'_>) -> Option<Word<Lone>>
         most: r.u32(b' ')?,
         width: r.u32(b' ')?,
     };
-    Some(r.found(Lone::WindowNew(asked)))
+    Some(r.found(Lone::Window(WindowCall::WindowNew(asked))))
 }
 
 #[tactic(auto, unfolding(crate::specs::Alone::wset_line))]
@@ -130,23 +138,7 @@ fn wpush(mut r: Reader<'_>) -> Option<Word<Lone>>
         lag: r.u32(b' ')?,
         time: r.u64(b' ')?,
     };
-    Some(r.found(Lone::Push(asked)))
-}
-
-#[tactic(auto, unfolding(crate::specs::Alone::wclear_line))]
-fn wclear(mut r: Reader<'_>) -> Option<Word<Lone>>
-    ensures { result ≡ wclear_line r.entry.s.now r.entry.at }
-{
-    r.word(b"wclear")?;
-    Some(r.found(Lone::Clear))
-}
-
-#[tactic(auto, unfolding(crate::specs::Alone::wspan_line))]
-fn wspan(mut r: Reader<'_>) -> Option<Word<Lone>>
-    ensures { result ≡ wspan_line r.entry.s.now r.entry.at }
-{
-    r.word(b"wspan")?;
-    Some(r.found(Lone::Span))
+    Some(r.found(Lone::Window(WindowCall::Push(asked))))
 }
 
 #[tactic(auto, unfolding(crate::specs::Alone::wquant_line))]
@@ -158,7 +150,7 @@ fn wquant(mut r: Reader<'_>) -> Option<Word<Lone>>
         q: double(r.hex(b' ')?),
         limit: r.u32(b' ')?,
     };
-    Some(r.found(Lone::Quantile(asked)))
+    Some(r.found(Lone::Window(WindowCall::Quantile(asked))))
 }
 
 // ---- the hold
@@ -182,14 +174,6 @@ pub fn hold_at(r: &mut Reader<'_>) -> Option<HoldAsked>
         seeded: seed_of(r.maybe_pair(b' ', MOST_LAG)?),
     };
     Some(HoldAsked { at, hold })
-}
-
-#[tactic(auto, unfolding(crate::specs::Alone::hnew_line))]
-fn hnew(mut r: Reader<'_>) -> Option<Word<Lone>>
-    ensures { result ≡ hnew_line r.entry.s.now r.entry.at }
-{
-    r.word(b"hnew")?;
-    Some(r.found(Lone::HoldNew))
 }
 
 #[tactic(auto, unfolding(crate::specs::Alone::hset_line))]
@@ -219,7 +203,7 @@ fn next(mut r: Reader<'_>) -> Option<Word<Lone>>
         current: r.u32(b' ')?,
         time: r.u64(b' ')?,
     };
-    Some(r.found(Lone::Next(asked)))
+    Some(r.found(Lone::Hold(HoldCall::Next(asked))))
 }
 
 // ---- the clocks
@@ -230,7 +214,7 @@ fn co_set(mut r: Reader<'_>) -> Option<Word<Lone>>
 {
     r.word(b"co_set")?;
     let due = r.maybe_u64(b' ')?;
-    Some(r.found(Lone::CoalesceSet(due)))
+    Some(r.found(Lone::Coalesce(CoalesceCall::CoalesceSet(due))))
 }
 
 #[tactic(auto, unfolding(crate::specs::Alone::co_changed_line))]
@@ -242,23 +226,7 @@ fn co_changed(mut r: Reader<'_>) -> Option<Word<Lone>>
         time: r.u64(b' ')?,
         delay: r.u64(b' ')?,
     };
-    Some(r.found(Lone::Changed(asked)))
-}
-
-#[tactic(auto, unfolding(crate::specs::Alone::co_pending_line))]
-fn co_pending(mut r: Reader<'_>) -> Option<Word<Lone>>
-    ensures { result ≡ co_pending_line r.entry.s.now r.entry.at }
-{
-    r.word(b"co_pending")?;
-    Some(r.found(Lone::Pending))
-}
-
-#[tactic(auto, unfolding(crate::specs::Alone::co_take_line))]
-fn co_take(mut r: Reader<'_>) -> Option<Word<Lone>>
-    ensures { result ≡ co_take_line r.entry.s.now r.entry.at }
-{
-    r.word(b"co_take")?;
-    Some(r.found(Lone::Take))
+    Some(r.found(Lone::Coalesce(CoalesceCall::Changed(asked))))
 }
 
 #[tactic(auto, unfolding(crate::specs::Alone::co_take_due_line))]
@@ -267,7 +235,7 @@ fn co_take_due(mut r: Reader<'_>) -> Option<Word<Lone>>
 {
     r.word(b"co_take_due")?;
     let time = r.u64(b' ')?;
-    Some(r.found(Lone::TakeDue(time)))
+    Some(r.found(Lone::Coalesce(CoalesceCall::TakeDue(time))))
 }
 
 #[tactic(auto, unfolding(crate::specs::Alone::q_set_line))]
@@ -276,7 +244,7 @@ fn q_set(mut r: Reader<'_>) -> Option<Word<Lone>>
 {
     r.word(b"q_set")?;
     let down = down_of(r.maybe_pair(b' ', u64::MAX)?);
-    Some(r.found(Lone::QuerySet(down)))
+    Some(r.found(Lone::Schedule(ScheduleCall::QuerySet(down))))
 }
 
 #[tactic(auto, unfolding(crate::specs::Alone::q_up_line))]
@@ -285,7 +253,7 @@ fn q_up(mut r: Reader<'_>) -> Option<Word<Lone>>
 {
     r.word(b"q_up")?;
     let time = r.u64(b' ')?;
-    Some(r.found(Lone::QueryUp(time)))
+    Some(r.found(Lone::Schedule(ScheduleCall::QueryUp(time))))
 }
 
 #[tactic(auto, unfolding(crate::specs::Alone::q_failed_line))]
@@ -294,7 +262,7 @@ fn q_failed(mut r: Reader<'_>) -> Option<Word<Lone>>
 {
     r.word(b"q_failed")?;
     let time = r.u64(b' ')?;
-    Some(r.found(Lone::QueryFailed(time)))
+    Some(r.found(Lone::Schedule(ScheduleCall::QueryFailed(time))))
 }
 
 // ---- a delay file
@@ -309,6 +277,7 @@ fn dread1(mut r: Reader<'_>) -> Option<Word<Lone>>
 }
 
 // ---- the lines in groups, and all
+// `or` reads each form, whichever is there: under `or_else` each closure would state again what its function ensures.
 
 #[tactic(auto, unfolding(crate::specs::Alone::number_lines))]
 fn number_lines(r: Reader<'_>) -> Option<Word<Lone>>
@@ -329,8 +298,8 @@ fn window_lines(r: Reader<'_>, buckets: usize) -> Option<Word<Lone>>
         .or(wset(r, buckets))
         .or(wsum(r, buckets))
         .or(wpush(r))
-        .or(wclear(r))
-        .or(wspan(r))
+        .or(bare(r, b"wclear", Lone::Window(WindowCall::Clear)))
+        .or(bare(r, b"wspan", Lone::Window(WindowCall::Span)))
         .or(wquant(r))
 }
 
@@ -338,7 +307,9 @@ fn window_lines(r: Reader<'_>, buckets: usize) -> Option<Word<Lone>>
 fn hold_lines(r: Reader<'_>) -> Option<Word<Lone>>
     ensures { result ≡ hold_lines r.entry.s.now r.entry.at }
 {
-    hnew(r).or(hset(r)).or(next(r))
+    bare(r, b"hnew", Lone::Hold(HoldCall::HoldNew))
+        .or(hset(r))
+        .or(next(r))
 }
 
 #[tactic(auto, unfolding(crate::specs::Alone::clock_lines))]
@@ -347,8 +318,8 @@ fn clock_lines(r: Reader<'_>) -> Option<Word<Lone>>
 {
     co_set(r)
         .or(co_changed(r))
-        .or(co_pending(r))
-        .or(co_take(r))
+        .or(bare(r, b"co_pending", Lone::Coalesce(CoalesceCall::Pending)))
+        .or(bare(r, b"co_take", Lone::Coalesce(CoalesceCall::Take)))
         .or(co_take_due(r))
         .or(q_set(r))
         .or(q_up(r))

@@ -1,62 +1,36 @@
 -- Loaded delays, stored one after the other as `new` reads them: 16 bytes to each flow, the first weighing most. Assumes nothing.
-use Prim.Native.Nat.{ℕ, zero, suc, ◌+◌, ◌-◌, ◌*◌, ◌/◌, ◌%◌, ◌^◌, ◌<◌, ◌≤◌, min}
-use mathlib.Core.Path.{◌≡◌, refl, ap, ◌∙◌}
+use Prim.Native.Nat.{ℕ, zero, suc, ◌+◌, ◌-◌, ◌*◌, ◌<◌, ◌≤◌, min}
+use mathlib.Core.Path.{◌≡◌, refl, sym, ap, ◌∙◌}
 use mathlib.Core.List.{List, [], ◌∷◌, ◌++◌}
-use native.Mathlib.Nat.{div-add-mod'}
 use native.Mathlib.Numerals.{add-one}
 use native.Mathlib.Omega.{arith}
-use lib.ListN.{length, get_or, take, set, length-set}
-use lib.Seq.{get_or-set_same, get_or-set_other}
+use lib.ListN.{length, get_or, take, drop, set, length-set}
+use lib.Seq.{get_or-take, length-take-le}
+use Rattle.std.specs.Int.{w64, to_be_bytes}
+use Rattle.std.proofs.lemmas.List.{get_or_append_left, take_at, drop_at}
+use Rattle.std.proofs.lemmas.Nat.{from_be_bytes-to_be_bytes_8}
 use Rattle.byte_order.specs.Bytes.{bytes_at}
+use Rattle.byte_order.proofs.Written.{eight_bytes}
 use Rattle.rules_calls.specs.NewLoading.{loaded_flow}
 use Rattle.text_scan.specs.declared.Word.{Word}
 use Rattle.text_requests.specs.declared.lists.Load.{Load}
 use Rattle.text_requests.specs.Lists.{HalfPut, Loads, or_blank, no_load, load_at, loads_at, loaded_flows, loaded_as}
 use Rattle.text_requests.proofs.Loops.{stored, Listing, listing_none, listing_more, listing_done}
 
--- ---- the bytes of a number
--- the list with n bytes of a number from a place on, the last of them stored first
-abbrev pub laid : (place n value : ℕ) (bytes : List ℕ) → List ℕ
-laid place zero value bytes = bytes
-laid place (suc n) value bytes = laid place n (value / 256) (set bytes (place + n) (value % 256))
+-- ---- the bytes of a number, the first weighing most, put from a place on
+pub half_put : (place value : ℕ) (flows rest : List ℕ) → place ≤ length flows → value < 18446744073709551616 → HalfPut place value flows (take place flows ++ (to_be_bytes w64 value ++ rest))
+half_put place value flows rest h small = record {
+  there = sym (eight_bytes (take place flows ++ (eight ++ rest)) place stands (sym (from_be_bytes-to_be_bytes_8 value small)));
+  below = λ k l. get_or_append_left (take place flows) (eight ++ rest) 0 k (omega (arith, length-take-le place flows h)) ∙ get_or-take place flows k 0 l;
+}
+  where
+    eight : List ℕ
+    eight = to_be_bytes w64 value
 
-module _ (place : ℕ) where
-  laid_below : (n value : ℕ) (bytes : List ℕ) (k : ℕ) → k < place → get_or (laid place n value bytes) k 0 ≡ get_or bytes k 0
-  laid_below zero value bytes k h = refl
-  laid_below (suc n) value bytes k h = laid_below n (value / 256) (set bytes (place + n) (value % 256)) k h ∙ get_or-set_other bytes (place + n) k (value % 256) 0 (λ (e : k ≡ place + n). omega arith)
-
-  laid_above : (n value : ℕ) (bytes : List ℕ) (k : ℕ) → place + n ≤ k → get_or (laid place n value bytes) k 0 ≡ get_or bytes k 0
-  laid_above zero value bytes k h = refl
-  laid_above (suc n) value bytes k h = laid_above n (value / 256) (set bytes (place + n) (value % 256)) k (omega arith) ∙ get_or-set_other bytes (place + n) k (value % 256) 0 (λ (e : k ≡ place + n). omega arith)
-
-  laid_there : (n value : ℕ) (bytes : List ℕ) → place + n ≤ length bytes → value < 256 ^ n → bytes_at (laid place n value bytes) place n ≡ value
-  unfolding bytes_at
-  laid_there zero value bytes h k = omega arith
-  laid_there (suc n) value bytes h k =
-      let more : List ℕ = set bytes (place + n) (value % 256) in
-      let high : bytes_at (laid place n (value / 256) more) place n ≡ value / 256 = laid_there n (value / 256) more (omega (arith, length-set bytes (place + n) (value % 256))) (omega (arith, k)) in
-      let low : get_or (laid place n (value / 256) more) (place + n) 0 ≡ value % 256 = laid_above n (value / 256) more (place + n) (omega arith) ∙ get_or-set_same bytes (place + n) (value % 256) 0 (omega arith) in
-      rw (high, low) (div-add-mod' value 256)
-
--- what is left of a number, laid into what is stored, is the whole number laid into what was there before
-pub record Laying (place value : ℕ) (before bytes : List ℕ) (rest n : ℕ) : Type 0 where
-  pub within : n ≤ 8
-  pub long : length bytes ≡ length before
-  pub same : laid place n rest bytes ≡ laid place 8 value before
-
-module _ {place value : ℕ} {before : List ℕ} where
-  pub laying_none : Laying place value before before value 8
-  laying_none = record { within = omega arith; long = refl; same = refl }
-
-  module _ {bytes : List ℕ} {rest n : ℕ} (inv : Laying place value before bytes rest n) where
-    pub laying_more : 0 < n → Laying place value before (set bytes (place + (n - 1)) (rest % 256)) (rest / 256) (n - 1)
-    laying_more h = record { within = omega (arith, inv.within); long = length-set bytes (place + (n - 1)) (rest % 256) ∙ inv.long; same = let e : n ≡ suc (n - 1) = omega arith in rw e at inv.same }
-
-    pub laying_end : n ≤ 0 → place + 8 ≤ length before → value < 18446744073709551616 → HalfPut place value before bytes
-    laying_end h room small = rw is_laid (record { there = laid_there place 8 value before room small; below = laid_below place 8 value before })
-      where
-        is_laid : bytes ≡ laid place 8 value before
-        is_laid = let e : n ≡ 0 = omega arith in rw e at inv.same
+    stands : eight ≡ take (place + 8 - place) (drop place (take place flows ++ (eight ++ rest)))
+    stands =
+        let n : place + 8 - place ≡ 8 = omega arith in
+        sym (rw (drop_at (take place flows) (eight ++ rest) place (length-take-le place flows h), n, take_at eight rest 8 refl))
 
 -- ---- flows that are read from the same bytes
 module _ (a b : List ℕ) where

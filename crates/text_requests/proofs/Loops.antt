@@ -5,6 +5,7 @@ use mathlib.Core.Path.{◌≡◌, sym, ◌∙◌}
 use mathlib.Core.List.{List, [], ◌∷◌, ◌++◌, append_assoc, append-nil}
 use native.Mathlib.Numerals.{add-one}
 use native.Mathlib.Omega.{arith}
+use Rattle.std.proofs.Math.Nat.{sub-zero}
 use lib.ListN.{length, take, set}
 use lib.Seq.{take-suc-set}
 use Rattle.base.specs.Choice.{pick}
@@ -12,16 +13,13 @@ use Rattle.text_scan.specs.declared.Word.{Word}
 use Rattle.text_scan.specs.Scan.{word, has_byte, ends_at}
 use Rattle.text_words.specs.Words.{u32_at}
 use Rattle.text_requests.specs.Forms.{space, comma}
-use Rattle.text_requests.specs.Lists.{times, listed, Lags, lags_after, cell_at, cells_after, cells_end, row_at, rows_after}
+use Rattle.text_requests.specs.Lists.{times, listed, lags_after, cell_at, cells_after, cells_end, row_at, rows_after}
 
 left_suc : (n i : ℕ) → i < n → n - i ≡ suc (n - (i + 1))
 left_suc n i h = omega arith
 
 left_none : (n i : ℕ) → n ≤ i → n - i ≡ 0
 left_none n i h = omega arith
-
-pub left_all : (n : ℕ) → n - 0 ≡ n
-left_all n = omega arith
 
 -- ---- so many
 module _ {A : Type 0} (one : ℕ → Option (Word A)) (n i at : ℕ) where
@@ -44,7 +42,7 @@ pub record Listing {A : Type 0} (one : ℕ → A) (after : ℕ → ℕ) (m start
 
 module _ {A : Type 0} {one : ℕ → A} {after : ℕ → ℕ} {m start : ℕ} where
   pub listing_none : Listing one after m start [] start 0
-  listing_none = record { within = omega arith; gives = rw (left_all m) }
+  listing_none = record { within = omega arith; gives = rw (sub-zero m) }
 
   module _ {read : List A} {at i : ℕ} (inv : Listing one after m start read at i) where
     pub listing_more : i < m → {value : A} {next : ℕ} → value ≡ one at → next ≡ after at → {more : List A} → more ≡ read ++ (value ∷ []) → Listing one after m start more next (i + 1)

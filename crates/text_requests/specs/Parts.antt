@@ -1,5 +1,5 @@
 -- What the calls take a word for. Assumes nothing.
-use Rattle.std.specs.Prelude.{ℕ, ◌/◌, ◌%◌, leb, true, false, None, Option, Some}
+use Rattle.std.specs.Prelude.{ℕ, ◌/◌, ◌%◌, leb, None, Option, Some}
 use Rattle.std.specs.Float.{binary64}
 use Rattle.std.specs.Float.Ieee.{of_bits}
 use Rattle.base.specs.Choice.{pick}
@@ -35,9 +35,9 @@ down_of (Some (until, wait)) = Some (record { until = until; wait = wait })
 unfoldable pub low_of : ℕ → ℕ
 low_of n = pick (leb n 4294967295) n 0
 
-unfoldable pub timer_of : Option (ℕ × ℕ) → LowerTimer
-timer_of None = record { on = false; since = 0; highest = 0 }
-timer_of (Some (since, highest)) = record { on = true; since = since; highest = low_of highest }
+unfoldable pub timer_of : Option (ℕ × ℕ) → Option LowerTimer
+timer_of None = None
+timer_of (Some (since, highest)) = Some (record { since = since; highest = low_of highest })
 
 unfoldable pub seed_of : Option (ℕ × ℕ) → Option Seed
 seed_of None = None

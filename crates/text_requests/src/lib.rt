@@ -1,4 +1,6 @@
-// What a line of the text protocol asks, by value (compare/README.md, "The protocol"); which words give which request is text_read's. Where a request has a list (kinds, looks, loaded delays, rows, peaks), it holds the place of the line where the list begins.
+// What a line of the text protocol asks, by value (compare/README.md, "The protocol"); which words give which request is text_read's. Where a request
+// has a list (kinds, looks, loaded delays, rows, peaks), it holds the place of the line where the list
+// begins, and not a part of the line: the rules speak of a request by numbers.
 #![tactic(auto)]
 
 use delay_hold::DelayHold;
@@ -90,32 +92,61 @@ pub struct HoldAsked {
     pub hold: DelayHold,
 }
 
-// A call that needs no supervisor.
+// Milliseconds, samples, needs, and the block clock.
 #[derive(Clone, Copy)]
-pub enum Lone {
+pub enum NumberCall {
     Ms(u32),
     Samples(f64),
     Need(NeedAsked),
     IndexAt(u64),
     TimeOf(u64),
+}
+
+// A call on the window alone.
+#[derive(Clone, Copy)]
+pub enum WindowCall {
     WindowNew(WindowAsked),
-    WindowSet(RowsAsked),
-    WindowSum(SumAsked),
     Push(PushAsked),
     Clear,
     Span,
     Quantile(QuantileAsked),
+}
+
+// A call on the hold alone.
+#[derive(Clone, Copy)]
+pub enum HoldCall {
     HoldNew,
-    HoldSet(HoldAsked),
     Next(NextAsked),
+}
+
+#[derive(Clone, Copy)]
+pub enum CoalesceCall {
     CoalesceSet(Option<u64>),
     Changed(ChangedAsked),
     Pending,
     Take,
     TakeDue(u64),
+}
+
+// A call on the schedule of the Query API.
+#[derive(Clone, Copy)]
+pub enum ScheduleCall {
     QuerySet(Option<Down>),
     QueryUp(u64),
     QueryFailed(u64),
+}
+
+// A call that needs no supervisor, or what a line crafts of the window and the hold alone.
+#[derive(Clone, Copy)]
+pub enum Lone {
+    Number(NumberCall),
+    Window(WindowCall),
+    WindowSet(RowsAsked),
+    WindowSum(SumAsked),
+    Hold(HoldCall),
+    HoldSet(HoldAsked),
+    Coalesce(CoalesceCall),
+    Schedule(ScheduleCall),
     // A delay file, by the place of its bytes.
     ReadDelays(usize),
 }
@@ -161,12 +192,18 @@ pub struct TickAsked {
     pub lags: usize,
 }
 
-// An input, and two numbers.
 #[derive(Clone, Copy)]
 pub struct StatusAsked {
     pub input: usize,
-    pub first: u32,
-    pub second: u32,
+    pub applied: u32,
+    pub channels: u32,
+}
+
+#[derive(Clone, Copy)]
+pub struct HasAsked {
+    pub input: usize,
+    pub channels: u32,
+    pub wanted: u32,
 }
 
 #[derive(Clone, Copy)]
@@ -198,20 +235,32 @@ pub struct PutAsked {
     pub part: Part,
 }
 
-// A call on a supervisor.
+// A call that changes the record.
 #[derive(Clone, Copy)]
-pub enum Call {
+pub enum Change {
     New(NewAsked),
     Route(RouteAsked),
     Update(UpdateAsked),
     Confirm(TimeAsked),
     Tick(TickAsked),
+}
+
+// A call that changes nothing of the record.
+#[derive(Clone, Copy)]
+pub enum Ask {
     Status(StatusAsked),
-    Has(StatusAsked),
+    Has(HasAsked),
     Settled(TimeAsked),
     // The remembered delays as a file.
     WriteDelays,
     Dump,
+}
+
+// A call on a supervisor, or what a line crafts of its record.
+#[derive(Clone, Copy)]
+pub enum Call {
+    Change(Change),
+    Ask(Ask),
     Put(PutAsked),
 }
 

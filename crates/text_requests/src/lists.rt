@@ -157,7 +157,7 @@ fn read_or<T: Listed>(r: &mut Reader<'_>, blank: T) -> T
     one
 }
 
-// The first n, at most 16, and blanks after them.
+// The first n, at most 16, and blanks after them. By index: of `iter_mut().take(n)` no contract tells what the list then holds.
 #[tactic(auto, using(crate::proofs::Sixteen::filling_more, crate::proofs::Sixteen::all_filled), unfolding(crate::specs::Lists::sixteen))]
 fn sixteen<T: Listed>(mut r: Reader<'_>, n: usize, blank: T) -> [T; 16]
     ensures { result ≡ sixteen (T.one_at r.entry.s.now) blank n r.entry.at }
@@ -169,7 +169,7 @@ fn sixteen<T: Listed>(mut r: Reader<'_>, n: usize, blank: T) -> [T; 16]
     all
 }
 
-// The first n kinds, at most 16.
+// The first n kinds, at most 16. The line and a place, as of a request: who calls this, `looks_at` and `loads_at` holds no reader.
 #[tactic(auto, unfolding(crate::specs::Lists::kinds_at))]
 pub fn kinds_at(s: &[u8], at: usize, n: usize) -> [ExtraDelay; 16]
     ensures { result ≡ kinds_at s.now at n }
@@ -198,7 +198,8 @@ pub fn looks_at(s: &[u8], at: usize, n: usize) -> [Look; 16]
 }
 
 // ---- lags
-// `L`, and the lags up to the end of the line: how many. A line of at most 1 MiB has fewer than the list has places.
+// `L`, and the lags up to the end of the line: how many. A line of at most 1 MiB has fewer than the list has places. By index: the
+// index is the answer, and the contract speaks of the first so many.
 #[tactic(auto, using(crate::proofs::Loops::lags_step, crate::proofs::Loops::lags_end), unfolding(crate::specs::Lists::lags_at))]
 pub fn lags_at(r: &mut Reader<'_>, heard: &mut [u32]) -> Option<usize>
     ensures read { heard_as r.new.at result heard.new ≡ lags_at r.old.s.now r.old.at (length heard.old) }
@@ -220,16 +221,10 @@ fn put_half(flows: &mut [u8], i: usize, value: u64)
     requires { i * 8 + 8 ≤ length flows.old }
     ensures { HalfPut (i * 8) value flows.old flows.new }
 {
-    let mut rest = value;
-    let mut j: usize = 8;
-    while 0 < j {
-        j -= 1;
-        flows[i * 8 + j] = (rest % 256) as u8;
-        rest = rest / 256;
-    }
+    flows[i * 8..i * 8 + 8].copy_from_slice(&value.to_be_bytes());
 }
 
-// n loaded delays, at most 16,384, into lists that have room for so many.
+// n loaded delays, at most 16,384, into lists that have room for so many. By index: each goes to three places of two lists.
 #[tactic(auto, using(crate::proofs::Loads::loading_more, crate::proofs::Loads::all_loaded))]
 fn store_loads(mut r: Reader<'_>, n: usize, flows: &mut [u8], delays: &mut [u32])
     requires { (262144 ≤ length flows.old) × (16384 ≤ length delays.old) }
@@ -259,7 +254,7 @@ pub fn loads_at(
 
 // ---- rows
 // The cells of a row, of buckets that exist.
-#[tactic(auto, using(crate::proofs::Loops::cells_step, crate::proofs::Loops::cells_last, crate::proofs::Loops::left_all), unfolding(crate::specs::Lists::cells_end))]
+#[tactic(auto, using(crate::proofs::Loops::cells_step, crate::proofs::Loops::cells_last), unfolding(crate::specs::Lists::cells_end))]
 fn cells_end(r: &mut Reader<'_>, buckets: usize) -> Option<()>
     ensures read { passed_as r.new.at result ≡ cells_end r.old.s.now r.old.at buckets }
     ensures same { r.new.s.now ≡ r.old.s.now }
@@ -277,7 +272,7 @@ fn cells_end(r: &mut Reader<'_>, buckets: usize) -> Option<()>
 }
 
 // The rows up to the end of the line: how many.
-#[tactic(auto, using(crate::proofs::Loops::rows_step, crate::proofs::Loops::rows_end, crate::proofs::Loops::left_all), unfolding(crate::specs::Lists::rows_at))]
+#[tactic(auto, using(crate::proofs::Loops::rows_step, crate::proofs::Loops::rows_end), unfolding(crate::specs::Lists::rows_at))]
 pub fn rows_at(r: &mut Reader<'_>, buckets: usize) -> Option<usize>
     ensures read { read_as r.new.at result ≡ rows_at r.old.s.now r.old.at buckets }
     ensures same { r.new.s.now ≡ r.old.s.now }

@@ -1,4 +1,4 @@
-// What a word gives: as the calls take it.
+// What a word gives: as the calls take it. No impl From: each would stand beside the type that it makes, in crates that know no line.
 ghost use Rattle.std.specs.Prelude.{◌≡◌};
 ghost use Rattle.text_requests.specs.Parts.{flow_of, kind_of, setting_of, down_of, low_of, timer_of, seed_of};
 
@@ -9,10 +9,10 @@ use sources::Down;
 use text_print::bits::double;
 
 // The largest lag that a word can say.
-pub const MOST_LAG: u64 = 4_294_967_295;
+pub const MOST_LAG: u64 = u32::MAX as u64;
 
 // How many values 64 bits have.
-const WORDS: u128 = 18_446_744_073_709_551_616;
+const WORDS: u128 = u64::MAX as u128 + 1;
 
 // Of a flow's 128 bits.
 #[tactic(auto, unfolding(crate::specs::Parts::flow_of))]
@@ -35,7 +35,7 @@ pub fn kind_of(manual: Option<u64>) -> ExtraDelay
     }
 }
 
-// A kind that is not the desk's.
+// A kind that is not the desk's. It differs from `kind_of` in the type that its call takes; from one type to the other it is no shorter.
 #[tactic(auto, unfolding(crate::specs::Parts::setting_of))]
 pub fn setting_of(manual: Option<u64>) -> DelaySetting
     ensures { result ≡ setting_of manual }
@@ -54,7 +54,7 @@ pub fn down_of(pair: Option<(u64, u64)>) -> Option<Down>
     Some(Down { until, wait })
 }
 
-// Of a number that has 32 bits.
+// Of a number that has 32 bits. `maybe_pair` bounded it (MOST_LAG); that bound does not come along in a request by value.
 #[tactic(auto, unfolding(crate::specs::Parts::low_of))]
 fn low(n: u64) -> u32
     ensures { result ≡ low_of n }
@@ -63,21 +63,14 @@ fn low(n: u64) -> u32
 }
 
 #[tactic(auto, unfolding(crate::specs::Parts::timer_of))]
-pub fn timer_of(pair: Option<(u64, u64)>) -> LowerTimer
+pub fn timer_of(pair: Option<(u64, u64)>) -> Option<LowerTimer>
     ensures { result ≡ timer_of pair }
 {
-    match pair {
-        Some((since, highest)) => LowerTimer {
-            on: true,
-            since,
-            highest: low(highest),
-        },
-        None => LowerTimer {
-            on: false,
-            since: 0,
-            highest: 0,
-        },
-    }
+    let (since, highest) = pair?;
+    Some(LowerTimer {
+        since,
+        highest: low(highest),
+    })
 }
 
 #[tactic(auto, unfolding(crate::specs::Parts::seed_of))]

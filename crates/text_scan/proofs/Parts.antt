@@ -1,27 +1,22 @@
 -- The bounds of what scanning answers. Assumes nothing.
-use Rattle.std.specs.Prelude.{◌≡◌, ℕ, zero, suc, ◌+◌, ◌-◌, ◌<◌, ◌≤◌, eqb, leb, List, [], ◌∷◌, length, get_or, drop, Option, None, Some, unwrap_or}
+use Rattle.std.specs.Prelude.{◌≡◌, ℕ, zero, suc, ◌+◌, ◌-◌, ◌<◌, ◌≤◌, eqb, leb, List, [], ◌∷◌, length, get_or, drop, Option, Some, unwrap_or}
 use mathlib.Core.Path.{ap, ◌∙◌}
 use native.Mathlib.Omega.{arith}
 use borrow.Author.Tests.{leb-true, leb-false, eqb-false}
 use lib.ListN.{length-drop}
 use lib.Seq.{get_or-drop}
+use Rattle.std.proofs.lemmas.Option.{none-some, same_Some}
 use Rattle.base.proofs.Choices.{by_bool}
 use Rattle.text_scan.specs.Scan.{first_of, first_from}
 
 -- the place that `first` answers holds a byte of the list, from `at` on and before `to`
-never : (i : ℕ) → None ≡ Some i → ⊥
-never i q = let z : ◌≡◌ {A = ℕ} 0 1 = cc in omega arith
-
-same_place : (k i : ℕ) → Some k ≡ Some i → k ≡ i
-same_place k i q = cc
-
 found : (to b i : ℕ) (xs : List ℕ) (k : ℕ) → first_of to b k xs ≡ Some i → (k ≤ i) × (i < to) × (i < k + length xs)
-found to b i [] k q = absurd (never i q)
+found to b i [] k q = absurd (none-some i q)
 found to b i (x ∷ xs) k q =
     by_bool
     (leb to k)
-    (λ h. absurd (never i (rw h at q)))
-    (λ h. by_bool (eqb x b) (λ g. here (leb-false to k h) (same_place k i (rw (h, g) at q))) (λ g. there (found to b i xs (suc k) (rw (h, g) at q))))
+    (λ h. absurd (none-some i (rw h at q)))
+    (λ h. by_bool (eqb x b) (λ g. here (leb-false to k h) (same_Some k i (rw (h, g) at q))) (λ g. there (found to b i xs (suc k) (rw (h, g) at q))))
   where
     here : k < to → k ≡ i → (k ≤ i) × (i < to) × (i < k + suc (length xs))
     here h e = (omega arith, omega arith, omega arith)

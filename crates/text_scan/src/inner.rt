@@ -12,7 +12,7 @@ fn close(from: usize, value: u128, to: usize) -> Option<Word<u128>>
     (from < to).then_some(Word { value, next: to })
 }
 
-// The number of at most `most` whose digits in the base stand from `at` on.
+// The number of at most `most` whose digits in the base stand from `at` on. By index: the place after them is part of the answer.
 #[tactic(auto, unfolding(crate::specs::Scan::number_from))]
 pub fn number(s: &[u8], at: usize, base: u64, most: u128) -> Option<Word<u128>>
     ensures value { result ≡ number_from s.now at base most }

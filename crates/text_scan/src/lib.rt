@@ -24,15 +24,11 @@ pub fn is_at(s: &[u8], at: usize, b: u8) -> bool
 }
 
 // The place after the byte b, which stands at this place.
-#[tactic(auto, unfolding(crate::specs::Scan::after_byte))]
+#[tactic(auto, unfolding(crate::specs::Scan::after_byte, crate::specs::Scan::has_byte))]
 pub fn after(s: &[u8], at: usize, b: u8) -> Option<usize>
     ensures { result ≡ after_byte s.now at b }
 {
-    if at < s.len() && s[at] == b {
-        Some(at + 1)
-    } else {
-        None
-    }
+    is_at(s, at, b).then(|| at + 1)
 }
 
 // Does the line end at this place?
@@ -43,7 +39,8 @@ pub fn ends(s: &[u8], at: usize) -> bool
     at == s.len()
 }
 
-// The first place from `at` on, and before `to`, that holds the byte b.
+// The first place from `at` on, and before `to`, that holds the byte b. By index: the place is the answer, and an iterator over a part of the line
+// would count from the part's begin.
 #[tactic(auto, unfolding(crate::specs::Scan::first_from))]
 pub fn first(s: &[u8], at: usize, to: usize, b: u8) -> Option<usize>
     ensures { result ≡ first_from s.now at to b }
@@ -56,7 +53,7 @@ pub fn first(s: &[u8], at: usize, to: usize, b: u8) -> Option<usize>
     None
 }
 
-// The value of a digit of the base; those above 9 are in lower case. What is no digit in base 16 counts as 16.
+// The value of a digit of the base; those above 9 are in lower case. What is no digit in base 16 counts as 16, as in the rule, which is of any base.
 #[tactic(auto, unfolding(crate::specs::Scan::digit_of))]
 pub fn digit(b: u8, base: u64) -> Option<u8>
     ensures value { result ≡ digit_of b base }
@@ -88,9 +85,5 @@ pub fn after_word(s: &[u8], at: usize, text: &[u8]) -> Option<usize>
     ensures { result ≡ after_word s.now at text.now }
 {
     let next = after_text(s, at, text)?;
-    if ends(s, next) || is_at(s, next, b' ') {
-        Some(next)
-    } else {
-        None
-    }
+    (ends(s, next) || is_at(s, next, b' ')).then_some(next)
 }

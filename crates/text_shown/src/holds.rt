@@ -1,8 +1,8 @@
-// A hold: its peaks, which begin at place `from` of the lists, and its fields from the last change on.
+// A hold: its peaks, and its fields from the last change on.
 use crate::words::{Word, put_words};
 use delay_hold::DelayHold;
 use std::io::Write;
-use text_lending::Lists;
+use text_lending::{Lists, Places};
 use text_lines::Output;
 
 // Peak i: past the places that a hold has there are zeros.
@@ -56,17 +56,17 @@ pub(crate) fn show<W: Write>(
     output: &mut Output<'_, W>,
     full: bool,
     hold: DelayHold,
-    from: usize,
+    places: Places,
     lists: &Lists<'_>,
 ) {
     let n = hold.peaks;
     Word::Head(b'H', n as u64).put(output);
     if full {
         for i in 0..n {
-            peak(i, from, lists).put(output);
+            peak(i, places.peaks, lists).put(output);
         }
     } else {
-        put_words(output, &ends(n, from, lists));
+        put_words(output, &ends(n, places.peaks, lists));
     }
     put_words(output, &fields(hold));
 }

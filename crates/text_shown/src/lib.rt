@@ -1,5 +1,5 @@
 // An answer as a line of the text protocol (compare/README.md): `bad line`, `refused` or `ok`, the answer's words, and the window, the hold or
-// the record that it shows. An answer more is an arm of `first_of` and `second_of`, and where it shows a list an arm of `show`.
+// the record that it shows. An answer more is an arm of `show_words`, and where it shows a list an arm of `show`.
 #![tactic(auto)]
 
 use delay_hold::DelayHold;
@@ -8,7 +8,7 @@ use rules_record::Inputs;
 use std::io::Write;
 use std::ops::Range;
 use text_answers::Answer;
-use text_lending::{LONE_COUNTS, LONE_PEAKS, LONE_SECONDS, Lists};
+use text_lending::{Lists, Places};
 use text_lines::Output;
 use words::{Word, put_words};
 
@@ -21,28 +21,6 @@ mod windows;
 mod words;
 
 // ---- the words of an answer
-fn first_of(answer: Answer) -> Option<Word> {
-    match answer {
-        Answer::Refused(refusal) => Some(refusal.number().into()),
-        Answer::Number(value) | Answer::Failed(value, _) => Some(value.into()),
-        Answer::Delays(n) | Answer::File(n) => Some(n.into()),
-        Answer::Maybe(lag) | Answer::Next(lag) => Some(lag.into()),
-        Answer::Double(x) => Some(x.into()),
-        Answer::Bit(bit) | Answer::Taken(bit, _) | Answer::Ticked(bit) => Some(bit.into()),
-        Answer::Dry => Some(Word::Number(0)),
-        Answer::Due(due) => Some(due.into()),
-        _ => None,
-    }
-}
-
-fn second_of(answer: Answer) -> Option<Word> {
-    match answer {
-        Answer::Taken(_, due) => Some(due.into()),
-        Answer::Failed(_, down) => Some(down.into()),
-        _ => None,
-    }
-}
-
 // What a line begins with, and the words.
 fn show_words<W: Write>(output: &mut Output<'_, W>, answer: Answer) {
     output.room();
@@ -51,11 +29,18 @@ fn show_words<W: Write>(output: &mut Output<'_, W>, answer: Answer) {
         Answer::Refused(_) => output.printer.put_text(b"refused"),
         _ => output.printer.put_text(b"ok"),
     }
-    if let Some(word) = first_of(answer) {
-        word.put(output);
-    }
-    if let Some(word) = second_of(answer) {
-        word.put(output);
+    match answer {
+        Answer::Refused(refusal) => put_words(output, &[refusal.number().into()]),
+        Answer::Number(value) => put_words(output, &[value.into()]),
+        Answer::Delays(n) | Answer::File(n) => put_words(output, &[n.into()]),
+        Answer::Maybe(lag) | Answer::Next(lag) => put_words(output, &[lag.into()]),
+        Answer::Double(x) => put_words(output, &[x.into()]),
+        Answer::Bit(bit) | Answer::Ticked(bit) => put_words(output, &[bit.into()]),
+        Answer::Dry => put_words(output, &[Word::Number(0)]),
+        Answer::Due(due) => put_words(output, &[due.into()]),
+        Answer::Taken(bit, due) => put_words(output, &[bit.into(), due.into()]),
+        Answer::Failed(wait, down) => put_words(output, &[wait.into(), down.into()]),
+        _ => {}
     }
 }
 
@@ -68,25 +53,27 @@ struct Part {
     inputs: Range<usize>,
 }
 
-// A call sends at most four commands an input; `dump` and a dry tick send none.
-fn part_of(answer: Answer, full: bool, count: usize) -> Part {
-    let all = Part {
-        full,
-        commands: count.saturating_mul(4),
-        inputs: 0..count,
-    };
-    match answer {
-        Answer::Input(i) => Part {
-            inputs: i..i.saturating_add(1),
-            ..all
-        },
-        Answer::Dump => Part {
-            full: true,
-            commands: 0,
-            ..all
-        },
-        Answer::Dry => Part { commands: 0, ..all },
-        _ => all,
+impl Part {
+    // A call sends at most four commands an input; `dump` and a dry tick send none.
+    fn new(answer: Answer, full: bool, count: usize) -> Part {
+        let all = Part {
+            full,
+            commands: count.saturating_mul(4),
+            inputs: 0..count,
+        };
+        match answer {
+            Answer::Input(i) => Part {
+                inputs: i..i.saturating_add(1),
+                ..all
+            },
+            Answer::Dump => Part {
+                full: true,
+                commands: 0,
+                ..all
+            },
+            Answer::Dry => Part { commands: 0, ..all },
+            _ => all,
+        }
     }
 }
 
@@ -104,13 +91,13 @@ pub fn show<W: Write>(
 ) {
     show_words(output, answer);
     match answer {
-        Answer::Status(status) => put_words(output, &status::words_of(status)),
+        Answer::Status(status) => status::show(output, status),
         Answer::Delays(n) => files::show_delays(output, n, lists.bytes, lists.heard),
         Answer::File(n) => files::show_file(output, n, lists.bytes),
-        Answer::Window => windows::show(output, true, window, LONE_SECONDS, LONE_COUNTS, lists),
-        Answer::Next(_) => holds::show(output, true, hold, LONE_PEAKS, lists),
+        Answer::Window => windows::show(output, true, window, Places::LONE, lists),
+        Answer::Next(_) => holds::show(output, true, hold, Places::LONE, lists),
         Answer::Input(_) | Answer::All | Answer::Ticked(_) | Answer::Dump | Answer::Dry => {
-            let part = part_of(answer, full, inputs.count);
+            let part = Part::new(answer, full, inputs.count);
             record::show(output, part, inputs, buckets, lists);
         }
         _ => {}

@@ -1,16 +1,15 @@
 // The record of a supervisor: the commands, the tables and the inputs.
 use crate::words::{Word, put_words};
 use crate::{Part, holds, tables, windows};
-use delay_hold::DelayHold;
 use inputs_flows::flow_at;
 use lag_window::LagWindow;
 use rules_record::{Inputs, Route, Slot};
 use std::io::Write;
-use text_lending::Lists;
+use text_lending::{Lists, Places};
 use text_lines::Output;
 
 // ---- the commands
-// ` C`, and of the first n commands each that was sent, in sending order.
+// ` C`, and of the first n commands each that was sent, in sending order. Document 01 numbers the kinds, and leaves unused words 0.
 fn show_commands<W: Write>(output: &mut Output<'_, W>, n: usize, commands: &[u32]) {
     Word::Mark(b'C').put(output);
     for command in commands.chunks_exact(3).take(n) {
@@ -35,7 +34,7 @@ fn numbers(inputs: Inputs, i: usize, slot: Slot) -> [Word; 14] {
     let config = slot.config;
     [
         Word::Head(b'|', i as u64),
-        inputs_slots::code(slot.state).into(),
+        u32::from(slot.state).into(),
         config.extra_delay.into(),
         route(inputs, slot.route),
         slot.inode.into(),
@@ -62,27 +61,14 @@ fn show_input<W: Write>(
 ) {
     let slot = inputs_slots::slot_at(inputs, i);
     put_words(output, &numbers(inputs, i, slot));
-    holds::show(
-        output,
-        full,
-        slot.hold,
-        i.saturating_mul(DelayHold::PLACES),
-        lists,
-    );
+    let places = Places::of(i, buckets);
+    holds::show(output, full, slot.hold, places, lists);
     let window = LagWindow {
         seconds: slot.lag_seconds,
         buckets,
         width: inputs.width,
     };
-    let from = i.saturating_mul(LagWindow::SECONDS);
-    windows::show(
-        output,
-        full,
-        window,
-        from,
-        from.saturating_mul(buckets),
-        lists,
-    );
+    windows::show(output, full, window, places, lists);
 }
 
 // The commands, the tables, and the inputs of the part.

@@ -1,8 +1,8 @@
-// A window: its seconds, which begin at place `from` of the starts and the totals, each with its row, the first at place `first` of the counts.
+// A window: its seconds, each with its row. Of a hold (`holds`) other lists and another end each are shown.
 use crate::words::{Word, put_words};
 use lag_window::LagWindow;
 use std::io::Write;
-use text_lending::Lists;
+use text_lending::{Lists, Places};
 use text_lines::Output;
 
 // The start and the total of second i: past the places that a window has there are zeros.
@@ -32,13 +32,12 @@ fn show_row<W: Write>(output: &mut Output<'_, W>, buckets: usize, counts: &[u32]
 fn show_rows<W: Write>(
     output: &mut Output<'_, W>,
     window: LagWindow,
-    from: usize,
-    first: usize,
+    places: Places,
     lists: &Lists<'_>,
 ) {
-    let mut cell = first;
+    let mut cell = places.counts;
     for i in 0..window.seconds {
-        second(i, from, lists).put(output);
+        second(i, places.seconds, lists).put(output);
         if i < LagWindow::SECONDS {
             show_row(output, window.buckets, lists.counts, cell);
         }
@@ -72,15 +71,14 @@ pub(crate) fn show<W: Write>(
     output: &mut Output<'_, W>,
     full: bool,
     window: LagWindow,
-    from: usize,
-    first: usize,
+    places: Places,
     lists: &Lists<'_>,
 ) {
     let n = window.seconds;
     Word::Head(b'L', n as u64).put(output);
     if full {
-        show_rows(output, window, from, first, lists);
+        show_rows(output, window, places, lists);
     } else {
-        put_words(output, &ends(n, from, lists));
+        put_words(output, &ends(n, places.seconds, lists));
     }
 }

@@ -88,6 +88,7 @@ pub(crate) fn put_words<W: Write>(output: &mut Output<'_, W>, words: &[Word]) {
 }
 
 // ---- what is shown as which word
+// Each type its own impl: a macro of the repository may write none.
 impl From<u64> for Word {
     fn from(n: u64) -> Word {
         Word::Number(n)
@@ -138,10 +139,7 @@ impl From<Seed> for Word {
 
 impl From<LowerTimer> for Word {
     fn from(timer: LowerTimer) -> Word {
-        if timer.on {
-            return Word::Two(b' ', timer.since, b':', timer.highest as u64);
-        }
-        Word::None
+        Word::Two(b' ', timer.since, b':', timer.highest as u64)
     }
 }
 

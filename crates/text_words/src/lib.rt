@@ -3,14 +3,16 @@
 // that nothing but the protocol's own text is taken.
 #![tactic(auto)]
 
-ghost use Rattle.std.specs.Prelude.{◌≡◌, ◌≤◌, IfSome, IfNone};
+ghost use Rattle.std.specs.Prelude.{◌≡◌, ◌≤◌, IfSome, false, Some, None};
+ghost use Rattle.base.specs.Choice.{pick};
 ghost use Rattle.text_scan.specs.Scan.{word, after_text, after_word};
 ghost use Rattle.text_words.specs.Words.{read_as, passed_as, number_after, mark_after, u64_in, u64_at, hex_at, u32_at, u8_at, bit_at, maybe_u64_at, maybe_u32_at, pair_at, maybe_pair_at, flow_at, manual_at, kind_at};
 
 use text_scan::inner::number;
 use text_scan::{Word, after, after_text, after_word};
 
-// A place of a line, from which its words are read. Where a word is not there, the place is not told.
+// A place of a line, from which its words are read. Where a word is not there, the place is not told. That its line stays is told beside its place:
+// a reader is one value.
 #[derive(Clone, Copy)]
 pub struct Reader<'a> {
     pub s: &'a [u8],
@@ -88,6 +90,8 @@ impl<'a> Reader<'a> {
         self.u64_in(sep, 16)
     }
 
+    // A u32 and a u8 are `number` with the bound of their type; a trait for that bound and the cast, with an impl for each, is longer than both. std's
+    // `TryFrom` would serve for the cast, but the rule bounds the number while it is read (number_after).
     #[tactic(auto, unfolding(crate::specs::Words::u32_at))]
     pub fn u32(&mut self, sep: u8) -> Option<u32>
         ensures read { read_as self.new.at result ≡ u32_at self.old.s.now self.old.at sep }
@@ -127,26 +131,32 @@ impl<'a> Reader<'a> {
 
     // ---- a value, or a mark for none
 
-    // The byte b after the byte sep. Where it is not there, the reader stays.
+    // Does the byte b stand after the byte sep? Where it does not, the reader stays.
     #[tactic(auto, unfolding(crate::specs::Words::mark_after))]
-    pub fn mark(&mut self, sep: u8, b: u8) -> Option<()>
-        ensures read { passed_as self.new.at result ≡ mark_after self.old.s.now self.old.at sep b }
-        ensures stays { IfNone result (self.new.at ≡ self.old.at) }
+    pub fn mark(&mut self, sep: u8, b: u8) -> bool
+        ensures read { pick result (Some self.new.at) None ≡ mark_after self.old.s.now self.old.at sep b }
+        ensures stays { result ≡ false → self.new.at ≡ self.old.at }
         ensures same { self.new.s.now ≡ self.old.s.now }
     {
-        let from = after(self.s, self.at, sep)?;
-        self.at = after(self.s, from, b)?;
-        Some(())
+        let Some(from) = after(self.s, self.at, sep) else {
+            return false;
+        };
+        let Some(next) = after(self.s, from, b) else {
+            return false;
+        };
+        self.at = next;
+        true
     }
 
+    // Five words are read so (the fifth is text_read's `wanted_at`), in four lines each; one function over a closure would owe each its law.
     #[tactic(auto, unfolding(crate::specs::Words::maybe_u64_at, crate::specs::Words::or_none))]
     pub fn maybe_u64(&mut self, sep: u8) -> Option<Option<u64>>
         ensures read { read_as self.new.at result ≡ maybe_u64_at self.old.s.now self.old.at sep }
         ensures same { self.new.s.now ≡ self.old.s.now }
     {
-        let Some(()) = self.mark(sep, b'-') else {
+        if !self.mark(sep, b'-') {
             return Some(Some(self.u64(sep)?));
-        };
+        }
         Some(None)
     }
 
@@ -155,9 +165,9 @@ impl<'a> Reader<'a> {
         ensures read { read_as self.new.at result ≡ maybe_u32_at self.old.s.now self.old.at sep }
         ensures same { self.new.s.now ≡ self.old.s.now }
     {
-        let Some(()) = self.mark(sep, b'-') else {
+        if !self.mark(sep, b'-') {
             return Some(Some(self.u32(sep)?));
-        };
+        }
         Some(None)
     }
 
@@ -177,9 +187,9 @@ impl<'a> Reader<'a> {
         ensures read { read_as self.new.at result ≡ maybe_pair_at self.old.s.now self.old.at sep most }
         ensures same { self.new.s.now ≡ self.old.s.now }
     {
-        let Some(()) = self.mark(sep, b'-') else {
+        if !self.mark(sep, b'-') {
             return Some(Some(self.pair(sep, most)?));
-        };
+        }
         Some(None)
     }
 
@@ -199,9 +209,9 @@ impl<'a> Reader<'a> {
         ensures read { read_as self.new.at result ≡ kind_at self.old.s.now self.old.at sep }
         ensures same { self.new.s.now ≡ self.old.s.now }
     {
-        let Some(()) = self.mark(sep, b'A') else {
+        if !self.mark(sep, b'A') {
             return Some(Some(self.manual(sep)?));
-        };
+        }
         Some(None)
     }
 }

@@ -22,7 +22,7 @@ use Rattle.delay_hold.specs.Steps5To8.{lowering, weighed, decide_at, decide}
 use Rattle.delay_hold.specs.Next.{next_of}
 use Rattle.delay_hold.specs.Step4Peaks.{join_times, join_lags, old_count, times_after, lags_after}
 use Rattle.delay_hold.specs.Steps1To3.{noted}
-use Rattle.delay_hold.specs.Whole.{timer_fits, whole_peaks, whole_times, whole_hold}
+use Rattle.delay_hold.specs.Whole.{whole_peaks, whole_times, whole_hold}
 use Rattle.rules_record.specs.Checks.{inputs_allowed, pauses_allowed, lists_fit, record_number, input_number, timed_number}
 use Rattle.rules_record.specs.Commands.{quiet, send_first}
 use Rattle.rules_record.specs.Effects.{followed_by}
@@ -31,7 +31,7 @@ use Rattle.rules_record.specs.Inputs.{slot_at, put_slot}
 use Rattle.rules_record.specs.Instances.{same_key, no_key, key_at, keys_held, key_below, found_key, distinct_keys, made}
 use Rattle.rules_record.specs.Prune.{uses_key, any_uses, wanted_key, keep_one, kept_keys, with_keys, pruned}
 use Rattle.rules_record.specs.Lent.{buckets_in}
-use Rattle.rules_record.specs.WholePlaces.{route_fits, whole_slot, unused_timer, unused_hold, unused_parts, unused_numbers, unused_slot, unused_entry, entries_fit, whole_flows, unused_key, keys_fit, whole_instances}
+use Rattle.rules_record.specs.WholePlaces.{route_fits, whole_slot, unused_hold, unused_parts, unused_numbers, unused_slot, unused_entry, entries_fit, whole_flows, unused_key, keys_fit, whole_instances}
 use Rattle.rules_record.specs.WholeRecord.{whole_input, whole_inputs, whole_record}
 use Rattle.rules_record.specs.Slots.{empty_slot}
 use Rattle.rules_routing.specs.Clear.{cleared}
@@ -68,12 +68,12 @@ window_opened = 0
 
 -- of a hold
 unfoldable pub hold_opened : ℕ
-unfolding lowering weighed decide_at decide next_of join_times join_lags old_count times_after lags_after noted timer_fits whole_peaks whole_times whole_hold
+unfolding lowering weighed decide_at decide next_of join_times join_lags old_count times_after lags_after noted whole_peaks whole_times whole_hold
 hold_opened = 0
 
 -- of the record, its tables and its checks
 unfoldable pub record_opened : ℕ
-unfolding inputs_allowed pauses_allowed lists_fit record_number input_number timed_number quiet send_first followed_by same_flow empty_entry entry_at flow_at known place_below flow_place distinct_flows admits enrolled_at enrolled recalled kept remembered remembered_by remembered_for slot_at put_slot same_key no_key key_at keys_held key_below found_key distinct_keys made uses_key any_uses wanted_key keep_one kept_keys with_keys pruned buckets_in route_fits whole_slot unused_timer unused_hold unused_parts unused_numbers unused_slot unused_entry entries_fit whole_flows unused_key keys_fit whole_instances whole_input whole_inputs whole_record empty_slot
+unfolding inputs_allowed pauses_allowed lists_fit record_number input_number timed_number quiet send_first followed_by same_flow empty_entry entry_at flow_at known place_below flow_place distinct_flows admits enrolled_at enrolled recalled kept remembered remembered_by remembered_for slot_at put_slot same_key no_key key_at keys_held key_below found_key distinct_keys made uses_key any_uses wanted_key keep_one kept_keys with_keys pruned buckets_in route_fits whole_slot unused_hold unused_parts unused_numbers unused_slot unused_entry entries_fit whole_flows unused_key keys_fit whole_instances whole_input whole_inputs whole_record empty_slot
 record_opened = 0
 
 -- of routing

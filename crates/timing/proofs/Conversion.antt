@@ -3,10 +3,15 @@ use Prim.Native.Nat.{ℕ, ◌+◌, ◌-◌, ◌*◌, ◌/◌, ◌%◌, ◌≤◌
 use mathlib.Core.Path.{◌≡◌, sym, ap, ◌∙◌}
 use native.Mathlib.Nat.{div-add-mod', div-mul-le_self, lt-div-mul-add, div-eq_of_lt-le, div-lt_iff_lt-mul, le-div_iff_mul-le, mul-add-div_right, mul-le-mul_right, add-mul, mul_assoc, mul_comm, suc-mul, le_of_suc-le-suc}
 use native.Mathlib.Omega.{arith}
-use borrow.Author.Tests.{le-leb, lt-leb, lt-ltb, le-ltb}
+use borrow.Author.Tests.{le-leb, lt-ltb, le-ltb}
+use Rattle.std.specs.Prelude.{Err}
+use Rattle.base.specs.Choice.{ask}
+use Rattle.refusals.specs.declared.Refusal.{Refusal}
+use Rattle.refusals.specs.Numbers.{number_of}
+use Rattle.refusals.proofs.Answers.{refused_keeps}
 use Rattle.base.proofs.Choices.{yes_ask, no_ask}
-use Rattle.base.specs.Limits.{nanos, time_limit}
-use Rattle.timing.specs.Clock.{index_at, time_of, index_number, time_number, answer_of, index_answer, time_answer}
+use Rattle.base.specs.Limits.{nanos, time_limit, timely}
+use Rattle.timing.specs.Clock.{index_at, time_of, index_number, time_number, told, answer_of, index_answer, time_answer}
 
 -- the whole seconds and the rest, each converted
 pub index_by_seconds : (rate ns : ℕ) → ns / nanos * rate + ns % nanos * rate / nanos ≡ index_at rate ns
@@ -31,13 +36,13 @@ time_by_seconds rate index positive =
 
 -- the two cases of each answer
 module _ (rate : ℕ) where
-  pub index_answered : (ns : ℕ) → ns ≤ time_limit → index_answer rate ns ≡ answer_of 0 (index_at rate ns)
+  pub index_answered : (ns : ℕ) → 0 ≡ ask 8 (timely ns) 0 → index_answer rate ns ≡ answer_of 0 (index_at rate ns)
   unfolding index_answer index_number
-  index_answered ns h = rw (yes_ask 8 0 (le-leb ns time_limit h))
+  index_answered ns e = rw (← e)
 
-  pub index_refused : (ns : ℕ) → time_limit < ns → index_answer rate ns ≡ answer_of 8 0
+  pub index_refused : (ns : ℕ) (refusal : Refusal) → number_of refusal ≡ ask 8 (timely ns) 0 → told (Err refusal) ≡ index_answer rate ns
   unfolding index_answer index_number
-  index_refused ns h = rw (no_ask 8 0 (lt-leb ns time_limit h))
+  index_refused ns refusal e = rw (← e, refused_keeps refusal 0 (index_at rate ns))
 
   pub time_answered : (index : ℕ) → time_of rate index < 2 ^ 64 → time_answer rate index ≡ answer_of 0 (time_of rate index)
   unfolding time_answer time_number
@@ -86,7 +91,7 @@ pub answers_come_back :
     (rate index : ℕ) → 0 < rate → rate ≤ nanos → time_of rate index ≤ time_limit
     → index_answer rate (time_answer rate index).value ≡ answer_of 0 index
 answers_come_back rate index positive slow soon =
-    rw (time_answered rate index (omega arith), index_answered rate (time_of rate index) soon, index_of_time rate index positive slow)
+    rw (time_answered rate index (omega arith), index_answered rate (time_of rate index) (sym (yes_ask 8 0 (le-leb (time_of rate index) time_limit soon))), index_of_time rate index positive slow)
 
 -- the time of an index is the first time with that index
 pub time_is_first : (rate index ns : ℕ) → 0 < rate → index ≤ index_at rate ns → time_of rate index ≤ ns

@@ -1,40 +1,23 @@
 -- `inputs_instances::distinct` meets its contract. Assumes nothing.
-use mathlib.Core.Path.{refl}
-use native.Mathlib.Omega.{arith}
-use Rattle.base.proofs.All.{all_none, all_more, all_stop, all_end}
-use Rattle.rules_record.proofs.InstanceCases.{held_most, told_new, told_twice}
-use Rattle.rules_record.specs.Instances.{no_key, distinct_keys}
+use Rattle.std.proofs.Common.{rules}
+use Rattle.base.proofs.All.{all_none}
+use Rattle.rules_record.specs.Instances.{no_key}
+use Rattle.rules_record.proofs.InstanceCases.{held_most, told_new, told_twice, told_distinct}
 use Rattle.inputs_instances.proofs.distinct.Goals as goal
 
-pub places-n-requires : goal.places-n-requires
-places-n-requires c = tt
+pub shared_ref_as_front-table : goal.shared_ref_as_front-table
+shared_ref_as_front-table c = rw c.places-n.ensures (held_most _)
 
 pub loop-i-init : goal.loop-i-init
-loop-i-init c = (omega arith, all_none _)
+loop-i-init c = all_none _
 
-pub offset_bounds-inputs-i : goal.offset_bounds-inputs-i
-offset_bounds-inputs-i c = omega (arith, held_most c.args.inputs, c.places-n.ensures, c.loop-i-test.true)
-
-pub bounds-inputs-i : goal.bounds-inputs-i
-bounds-inputs-i c = omega (arith, held_most c.args.inputs, c.places-n.ensures, c.loop-i-test.true)
-
-pub find_below-requires : goal.find_below-requires
-find_below-requires c = omega (arith, held_most c.args.inputs, c.places-n.ensures, c.loop-i-test.true)
-
-pub returns-then-find_below-i : goal.returns-then-find_below-i
-unfolding distinct_keys no_key
-returns-then-find_below-i c = all_stop _ _ _ (omega (arith, c.places-n.ensures, c.loop-i-test.true)) (told_twice _ _ (omega (arith, held_most c.args.inputs, c.places-n.ensures, c.loop-i-test.true)) refl c.find_below.ensures c.if-find_below-i.true)
-
-pub overflow_add-i : goal.overflow_add-i
-overflow_add-i c = omega (arith, held_most c.args.inputs, c.places-n.ensures, c.loop-i-test.true)
-
-pub loop-i-smaller : goal.loop-i-smaller
-loop-i-smaller c = omega (arith, c.loop-i-test.true)
+pub returns-then-contains : goal.returns-then-contains
+unfolding no_key
+returns-then-contains c = told_twice c.args.inputs (search (rules, c.well_formed)) c.places-n.ensures c.loop-i-test.true c.contains.ensures.value c.if-contains.true
 
 pub loop-i-preserved : goal.loop-i-preserved
 unfolding no_key
-loop-i-preserved c = (omega (arith, c.loop-i-test.true), all_more _ _ c.loop-i.invariant.1 (told_new _ _ (omega (arith, held_most c.args.inputs, c.places-n.ensures, c.loop-i-test.true)) refl c.find_below.ensures c.if-find_below-i.false))
+loop-i-preserved c = told_new c.args.inputs (search (rules, c.well_formed)) c.places-n.ensures c.loop-i-test.true c.contains.ensures.value c.if-contains.false c.loop-i.invariant
 
 pub returns : goal.returns
-unfolding distinct_keys
-returns c = all_end _ _ _ c.loop-i.invariant.1 (omega (arith, c.places-n.ensures, c.loop-i.invariant.0)) (omega (arith, c.places-n.ensures, c.loop-i-test.false))
+returns c = told_distinct c.args.inputs (search (rules, c.well_formed)) c.places-n.ensures c.loop-i.invariant c.loop-i.auto.i-end c.loop-i-test.false

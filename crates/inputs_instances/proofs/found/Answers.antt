@@ -1,11 +1,10 @@
 -- `inputs_instances::found` meets its contract. Assumes nothing.
-use Rattle.rules_record.proofs.InstanceCases.{held_most, table_below}
-use Rattle.rules_record.specs.Instances.{found_key}
+use Rattle.std.proofs.Common.{rules}
+use Rattle.rules_record.proofs.InstanceCases.{held_most, found_by}
 use Rattle.inputs_instances.proofs.found.Goals as goal
 
-pub find_below-requires : goal.find_below-requires
-find_below-requires c = rw c.places-n.ensures (held_most _)
+pub shared_ref_as_front-contains : goal.shared_ref_as_front-contains
+shared_ref_as_front-contains c = rw c.places-n.ensures (held_most _)
 
 pub returns : goal.returns
-unfolding found_key
-returns c = rw (c.find_below.ensures, c.places-n.ensures, table_below c.args.inputs c.args.key _ (held_most c.args.inputs))
+returns c = found_by c.args.inputs (search (rules, c.well_formed)) c.places-n.ensures c.args.key c.contains.ensures.value

@@ -1,32 +1,33 @@
 -- `inputs_instances::read_by` meets its contract. Assumes nothing.
--- Unrouted and Waiting read nothing, Running and Stalled may
-use Prim.Native.Nat.{ℕ, ◌<◌, ◌≤◌}
-use mathlib.Core.Bool.{true, false}
-use mathlib.Core.Path.{◌≡◌}
-use native.Mathlib.Omega.{arith}
-use lib.Dec.{ltb}
-use borrow.Author.Tests.{lt-ltb, le-ltb}
+use Rattle.std.proofs.Common.{rules, None, Some, ◌≡◌}
+use mathlib.Core.Path.{sym, ◌∙◌}
+use Rattle.rules_record.specs.declared.State.TheVariants.{Running}
+use Rattle.rules_record.proofs.Derived.{state_lt}
 use Rattle.rules_record.specs.Prune.{uses_key}
 use Rattle.inputs_instances.proofs.read_by.Goals as goal
 
-reads_nothing : {code state : ℕ} (k : ℕ) → code ≡ state → code < k → k ≤ 2 → ltb state 2 ≡ true
-reads_nothing {code} {state} k e h few = lt-ltb state 2 (omega (arith, e, h, few))
-
-may_read : {code state : ℕ} → code ≡ state → 2 ≤ code → ltb state 2 ≡ false
-may_read {code} {state} e h = le-ltb state 2 (omega (arith, e, h))
-
-pub returns-then-code-lt-RUNNING : goal.returns-then-code-lt-RUNNING
+pub returns-then-lt : goal.returns-then-lt
 unfolding uses_key
-returns-then-code-lt-RUNNING c key = rw (reads_nothing _ c.code.ensures c.if-code-lt-RUNNING.true (omega arith))
+returns-then-lt c key = rw (sym (c.lt.ensures ∙ state_lt c.args.slot.state Running) ∙ c.if-lt.true)
 
-pub returns-in_default : goal.returns-in_default
+pub returns-in_err-slot : goal.returns-in_err-slot
 unfolding uses_key
-returns-in_default c key = rw (may_read c.code.ensures c.if-code-lt-RUNNING.false, c.in_default.is)
+returns-in_err-slot c key =
+    let route : c.args.slot.route ≡ None = search rules in
+    let none : c.from_residual.result ≡ None = search rules in
+    rw (sym (c.lt.ensures ∙ state_lt c.args.slot.state Running) ∙ c.if-lt.false, route, none)
 
-pub returns-in_default-seen : goal.returns-in_default-seen
+pub returns-in_err-slot-2 : goal.returns-in_err-slot-2
 unfolding uses_key
-returns-in_default-seen c key = rw (may_read c.code.ensures c.if-code-lt-RUNNING.false, c.in-Some.is, c.in_default-seen.is)
+returns-in_err-slot-2 c key =
+    let route : c.args.slot.route ≡ Some c.in_ok-slot.field-0 = search rules in
+    let inode : c.args.slot.inode ≡ None = search rules in
+    let none : c.from_residual-in_err-slot-2.result ≡ None = search rules in
+    rw (sym (c.lt.ensures ∙ state_lt c.args.slot.state Running) ∙ c.if-lt.false, route, inode, none)
 
 pub returns : goal.returns
 unfolding uses_key
-returns c key = rw (may_read c.code.ensures c.if-code-lt-RUNNING.false, c.in-Some.is, c.in-Some-seen.is)
+returns c key =
+    let route : c.args.slot.route ≡ Some c.in_ok-slot.field-0 = search rules in
+    let inode : c.args.slot.inode ≡ Some c.in_ok-slot-2.field-0 = search rules in
+    rw (sym (c.lt.ensures ∙ state_lt c.args.slot.state Running) ∙ c.if-lt.false, route, inode)

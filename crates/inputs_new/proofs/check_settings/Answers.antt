@@ -4,7 +4,7 @@ use Rattle.std.specs.Prelude.{◌≡◌, Err}
 use Rattle.refusals.proofs.Answers.{never_zero}
 use Rattle.base.proofs.All.{told_no, told_yes}
 use Rattle.buckets.proofs.Told.{buckets_asked, ranges_let}
-use Rattle.rules_record.specs.Lent.{lists}
+use Rattle.rules_record.specs.Lending.{lists_seen}
 use Rattle.rules_calls.proofs.NewReplies.{refused_one, refused_ranges, refused_three, refused_four, count_asked, lists_asked, refused_lists, refused_words, refused_bytes, passed_settings}
 use Rattle.inputs_new.proofs.check_settings.Goals as goal
 
@@ -24,13 +24,13 @@ pub buckets_of-buckets-requires : goal.buckets_of-buckets-requires
 buckets_of-buckets-requires c = buckets_asked _ _ _ (ranges_let _ _ _ c.in_ok-check_ranges.ensures refl)
 
 pub lists_fit-requires : goal.lists_fit-requires
-lists_fit-requires c = lists_asked c.args.settings c.args.bytes c.args.delays (lists c.args.starts.now c.args.totals.now c.args.counts.now c.args.sums.now c.args.times.now c.args.peaks.now) c.args.words (told_yes _ _ c.inputs_allowed.ensures c.if-not-inputs_allowed.false) (ranges_let _ _ _ c.in_ok-check_ranges.ensures refl) c.policy_of-policy.ensures (told_yes _ _ c.pauses_allowed.ensures c.if-not-pauses_allowed.false) (told_yes _ _ c.margin_fits.ensures c.if-not-margin_fits.false) c.buckets_of-buckets.ensures
+lists_fit-requires c = lists_asked c.args.settings c.args.bytes c.args.delays (lists_seen c.args.lists) c.args.words (told_yes _ _ c.inputs_allowed.ensures c.if-not-inputs_allowed.false) (ranges_let _ _ _ c.in_ok-check_ranges.ensures refl) c.policy_of-policy.ensures (told_yes _ _ c.pauses_allowed.ensures c.if-not-pauses_allowed.false) (told_yes _ _ c.margin_fits.ensures c.if-not-margin_fits.false) c.buckets_of-buckets.ensures
 
 pub returns-then-not-lists_fit : goal.returns-then-not-lists_fit
 returns-then-not-lists_fit c = refused_lists _ _ _ _ _ (told_yes _ _ c.inputs_allowed.ensures c.if-not-inputs_allowed.false) (ranges_let _ _ _ c.in_ok-check_ranges.ensures refl) c.policy_of-policy.ensures (told_yes _ _ c.pauses_allowed.ensures c.if-not-pauses_allowed.false) (told_yes _ _ c.margin_fits.ensures c.if-not-margin_fits.false) c.buckets_of-buckets.ensures (told_no _ _ c.lists_fit.ensures c.if-not-lists_fit.true)
 
 pub output_fits-requires : goal.output_fits-requires
-output_fits-requires c = count_asked c.args.settings c.args.bytes c.args.delays (lists c.args.starts.now c.args.totals.now c.args.counts.now c.args.sums.now c.args.times.now c.args.peaks.now) c.args.words (told_yes _ _ c.inputs_allowed.ensures c.if-not-inputs_allowed.false) (ranges_let _ _ _ c.in_ok-check_ranges.ensures refl) c.policy_of-policy.ensures (told_yes _ _ c.pauses_allowed.ensures c.if-not-pauses_allowed.false)
+output_fits-requires c = count_asked c.args.settings c.args.bytes c.args.delays (lists_seen c.args.lists) c.args.words (told_yes _ _ c.inputs_allowed.ensures c.if-not-inputs_allowed.false) (ranges_let _ _ _ c.in_ok-check_ranges.ensures refl) c.policy_of-policy.ensures (told_yes _ _ c.pauses_allowed.ensures c.if-not-pauses_allowed.false)
 
 pub returns-then-not-output_fits : goal.returns-then-not-output_fits
 returns-then-not-output_fits c = refused_words _ _ _ _ _ (told_yes _ _ c.inputs_allowed.ensures c.if-not-inputs_allowed.false) (ranges_let _ _ _ c.in_ok-check_ranges.ensures refl) c.policy_of-policy.ensures (told_yes _ _ c.pauses_allowed.ensures c.if-not-pauses_allowed.false) (told_yes _ _ c.margin_fits.ensures c.if-not-margin_fits.false) c.buckets_of-buckets.ensures (told_yes _ _ c.lists_fit.ensures c.if-not-lists_fit.false) (told_no _ _ c.output_fits.ensures c.if-not-output_fits.true)

@@ -3,4 +3,4 @@ use Rattle.rules_routing.proofs.TryOpenCases.{seeded_by}
 use Rattle.inputs_try_open.proofs.seed.Goals as goal
 
 pub returns : goal.returns
-returns c = seeded_by _ _ _ _ c.slot_at-slot.ensures c.seed-seeded.ensures c.with_hold-changed.ensures c.put_slot.ensures
+returns c = seeded_by _ _ _ _ c.slot_at-slot.ensures c.seed.ensures c.put_slot.ensures

@@ -1,5 +1,5 @@
 -- `inputs_update::manual_fits` meets its contract. Assumes nothing.
-use mathlib.Core.Path.{ap}
+use mathlib.Core.Path.{ap, ◌∙◌}
 use lib.Ieee.{of_bits, le}
 use Rattle.base.proofs.All.{both_yes, both_no}
 use Rattle.rules_calls.specs.UpdateChecks.{manual_fits}
@@ -9,6 +9,6 @@ pub returns-then-delay : goal.returns-then-delay
 unfolding manual_fits of_bits
 returns-then-delay c = both_yes _ _ _ c.if-delay.true (ap (le _) c.ms.ensures)
 
-pub returns : goal.returns
+pub returns-else-delay : goal.returns-else-delay
 unfolding manual_fits of_bits
-returns c = both_no _ _ c.if-delay.false
+returns-else-delay c = c.if-delay.false ∙ both_no _ _ c.if-delay.false

@@ -1,19 +1,15 @@
 -- `policy::share_of` meets its contract. Assumes nothing.
-use mathlib.Core.Path.{refl, sym}
+use mathlib.Core.Path.{refl}
 use lib.Ieee.{of_bits}
-use Rattle.base.proofs.All.{both_yes, both_no}
+use Rattle.base.proofs.All.{told_yes, told_no}
 use Rattle.policy.specs.Settings.{percent_allowed, share_of_percent}
 use Rattle.policy.proofs.Checks.{percent_refused, percent_shared}
 use Rattle.policy.proofs.share_of.Goals as goal
 
-pub returns-then-percent-2 : goal.returns-then-percent-2
+pub returns-then-in_range : goal.returns-then-in_range
 unfolding percent_allowed share_of_percent of_bits
-returns-then-percent-2 c = percent_shared _ (sym (both_yes _ _ _ c.if-percent.true (sym c.if-percent-2.true))) refl
+returns-then-in_range c = percent_shared _ (told_yes _ _ c.in_range.ensures c.if-in_range.true) refl
 
-pub returns-else-percent-2 : goal.returns-else-percent-2
+pub returns : goal.returns
 unfolding percent_allowed of_bits
-returns-else-percent-2 c = percent_refused _ (sym (both_yes _ _ _ c.if-percent.true (sym c.if-percent-2.false)))
-
-pub returns-else-percent : goal.returns-else-percent
-unfolding percent_allowed of_bits
-returns-else-percent c = percent_refused _ (sym (both_no _ _ c.if-percent.false))
+returns c = percent_refused _ (told_no _ _ c.in_range.ensures c.if-in_range.false)

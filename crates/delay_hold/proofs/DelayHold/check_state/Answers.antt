@@ -1,4 +1,7 @@
 -- `delay_hold::DelayHold::check_state` meets its contract. Assumes nothing.
+use Rattle.std.proofs.Common.{rules}
+use Rattle.std.specs.Prelude.{◌≡◌, Err}
+use Rattle.refusals.proofs.Answers.{time_stops, timed}
 use Rattle.delay_hold.proofs.Gate.{lists_long}
 use Rattle.delay_hold.specs.Checks.{held_number}
 use Rattle.base.proofs.Choices.{yes_ask, no_ask}
@@ -20,22 +23,23 @@ unfolding held_number
 returns-then-not-whole c =
     sym (yes_ask 5 _ (told_yes _ _ (c.lists_fit.ensures c.args.self) c.if-not-lists_fit.false) ∙ no_ask 6 _ (told_no _ _ c.whole.ensures c.if-not-whole.true))
 
-pub returns-then-time-gt-TIME_LIMIT : goal.returns-then-time-gt-TIME_LIMIT
+pub returns-in_err-check_time : goal.returns-in_err-check_time
 unfolding held_number
-returns-then-time-gt-TIME_LIMIT c =
-    sym (yes_ask 5 _ (told_yes _ _ (c.lists_fit.ensures c.args.self) c.if-not-lists_fit.false) ∙ yes_ask 6 _ (told_yes _ _ c.whole.ensures c.if-not-whole.false) ∙ no_ask 8 _ (lt-leb _ _ c.if-time-gt-TIME_LIMIT.true))
+returns-in_err-check_time c =
+    let e : c.from_residual.result ≡ Err c.in_err-check_time.field-0.0 = search rules in
+    rw e (sym (yes_ask 5 _ (told_yes _ _ (c.lists_fit.ensures c.args.self) c.if-not-lists_fit.false) ∙ yes_ask 6 _ (told_yes _ _ c.whole.ensures c.if-not-whole.false) ∙ sym (time_stops _ _ _ c.in_err-check_time.ensures)))
 
 pub returns-then-policy-current : goal.returns-then-policy-current
 unfolding held_number
 returns-then-policy-current c =
-    sym (yes_ask 5 _ (told_yes _ _ (c.lists_fit.ensures c.args.self) c.if-not-lists_fit.false) ∙ yes_ask 6 _ (told_yes _ _ c.whole.ensures c.if-not-whole.false) ∙ yes_ask 8 _ (le-leb _ _ c.if-time-gt-TIME_LIMIT.false) ∙ no_ask 15 _ (lt-leb _ _ c.if-policy-current.true))
+    sym (yes_ask 5 _ (told_yes _ _ (c.lists_fit.ensures c.args.self) c.if-not-lists_fit.false) ∙ yes_ask 6 _ (told_yes _ _ c.whole.ensures c.if-not-whole.false) ∙ yes_ask 8 _ (le-leb _ _ (timed c.args.time c.in_ok-check_time.ensures)) ∙ no_ask 15 _ (lt-leb _ _ c.if-policy-current.true))
 
 pub returns-then-not-lag_up_to : goal.returns-then-not-lag_up_to
 unfolding held_number
 returns-then-not-lag_up_to c =
-    sym (yes_ask 5 _ (told_yes _ _ (c.lists_fit.ensures c.args.self) c.if-not-lists_fit.false) ∙ yes_ask 6 _ (told_yes _ _ c.whole.ensures c.if-not-whole.false) ∙ yes_ask 8 _ (le-leb _ _ c.if-time-gt-TIME_LIMIT.false) ∙ yes_ask 15 _ (le-leb _ _ c.if-policy-current.false) ∙ no_ask 15 _ (told_no _ _ c.lag_up_to.ensures c.if-not-lag_up_to.true))
+    sym (yes_ask 5 _ (told_yes _ _ (c.lists_fit.ensures c.args.self) c.if-not-lists_fit.false) ∙ yes_ask 6 _ (told_yes _ _ c.whole.ensures c.if-not-whole.false) ∙ yes_ask 8 _ (le-leb _ _ (timed c.args.time c.in_ok-check_time.ensures)) ∙ yes_ask 15 _ (le-leb _ _ c.if-policy-current.false) ∙ no_ask 15 _ (told_no _ _ c.lag_up_to.ensures c.if-not-lag_up_to.true))
 
 pub returns : goal.returns
 unfolding held_number
 returns c =
-    sym (yes_ask 5 _ (told_yes _ _ (c.lists_fit.ensures c.args.self) c.if-not-lists_fit.false) ∙ yes_ask 6 _ (told_yes _ _ c.whole.ensures c.if-not-whole.false) ∙ yes_ask 8 _ (le-leb _ _ c.if-time-gt-TIME_LIMIT.false) ∙ yes_ask 15 _ (le-leb _ _ c.if-policy-current.false) ∙ yes_ask 15 _ (told_yes _ _ c.lag_up_to.ensures c.if-not-lag_up_to.false))
+    sym (yes_ask 5 _ (told_yes _ _ (c.lists_fit.ensures c.args.self) c.if-not-lists_fit.false) ∙ yes_ask 6 _ (told_yes _ _ c.whole.ensures c.if-not-whole.false) ∙ yes_ask 8 _ (le-leb _ _ (timed c.args.time c.in_ok-check_time.ensures)) ∙ yes_ask 15 _ (le-leb _ _ c.if-policy-current.false) ∙ yes_ask 15 _ (told_yes _ _ c.lag_up_to.ensures c.if-not-lag_up_to.false))

@@ -6,7 +6,7 @@ use Rattle.delay_hold.proofs.DelayHold.decided_at.Goals as goal
 
 pub weighed-requires : goal.weighed-requires
 weighed-requires c =
-    (omega (arith, c.max-high.ensures, c.floor_of.ensures, c.need.ensures, need_at_most c.args.policy c.args.worst, c.requires.0.maximum, c.requires.3), c.requires.4)
+    omega (arith, c.max-high.ensures, c.floor_of.ensures, c.need.ensures, need_at_most c.args.terms.policy c.args.worst, c.args.terms.sound.maximum, c.requires.1)
 
 pub returns : goal.returns
 unfolding decide_at

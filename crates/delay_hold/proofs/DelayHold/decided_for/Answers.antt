@@ -7,7 +7,7 @@ returns-in_default c = rw c.in_default.is
 
 pub decided_at-requires : goal.decided_at-requires
 decided_at-requires c =
-    let w = leb-true _ _ (rw c.in-Some.is at c.requires.1) in (c.requires.0, w, c.requires.2, c.requires.3, c.requires.4)
+    (leb-true _ _ (rw c.in-Some.is at c.requires.0), c.requires.1)
 
 pub returns : goal.returns
 returns c = simp (c.in-Some.is, c.decided_at.ensures)

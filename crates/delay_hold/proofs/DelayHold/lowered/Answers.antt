@@ -5,9 +5,9 @@ use Rattle.delay_hold.proofs.DelayHold.lowered.Goals as goal
 pub returns-then-due : goal.returns-then-due
 unfolding lowering
 returns-then-due c =
-    simp (c.changed.ensures, ← c.met-timer.ensures, ← c.due.ensures, c.if-due.true)
+    simp (c.changed.ensures, ← c.timer_met-timer.ensures, ← c.due.ensures, c.if-due.true)
 
 pub returns : goal.returns
 unfolding lowering
 returns c =
-    simp (c.with_lower.ensures, ← c.met-timer.ensures, ← c.due.ensures, c.if-due.false)
+    simp (c.with_lower.ensures, ← c.timer_met-timer.ensures, ← c.due.ensures, c.if-due.false)

@@ -5,4 +5,4 @@ use Rattle.delay_hold.proofs.DelayHold.noted.Goals as goal
 pub returns : goal.returns
 unfolding noted
 returns c =
-    simp (c.started_at.ensures, c.seed_left-seeded.ensures, c.lates_next-n.ensures, c.lates_seeded-startup_late.ensures)
+    simp (c.started_at.ensures, c.seed_left-seeded.ensures, c.lates_next-n.ensures, c.lates_seeded.ensures)

@@ -7,10 +7,10 @@ pub returns-then-raised : goal.returns-then-raised
 unfolding weighed
 returns-then-raised c = simp (c.changed.ensures, ← c.raised.ensures, c.if-raised.true)
 
-pub returns-then-current-need : goal.returns-then-current-need
+pub returns-then-terms-need : goal.returns-then-terms-need
 unfolding weighed
-returns-then-current-need c = simp (c.idle.ensures, ← c.raised.ensures, c.if-raised.false, lt-ltb _ _ c.if-current-need.true)
+returns-then-terms-need c = simp (c.idle.ensures, ← c.raised.ensures, c.if-raised.false, lt-ltb _ _ c.if-terms-need.true)
 
 pub returns : goal.returns
 unfolding weighed
-returns c = simp (c.lowered.ensures, ← c.raised.ensures, c.if-raised.false, le-ltb _ _ c.if-current-need.false)
+returns c = simp (c.lowered.ensures, ← c.raised.ensures, c.if-raised.false, le-ltb _ _ c.if-terms-need.false)

@@ -2,4 +2,4 @@
 use Rattle.delay_hold.proofs.inner.interrupt.Goals as goal
 
 pub returns : goal.returns
-returns c = simp (c.with_lower.ensures, c.off.ensures)
+returns c = c.with_lower.ensures

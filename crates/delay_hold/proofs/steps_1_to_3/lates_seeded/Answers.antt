@@ -6,7 +6,7 @@ use Rattle.delay_hold.proofs.steps_1_to_3.lates_seeded.Goals as goal
 
 pub overflow_add-need : goal.overflow_add-need
 overflow_add-need c =
-    omega (arith, c.need.ensures, need_at_most c.args.policy c.in-Some.l, c.requires.0.maximum, c.requires.1)
+    omega (arith, c.need.ensures, need_at_most c.args.terms.policy c.in-Some.l, c.args.terms.sound.maximum, c.args.terms.millisecond_most)
 
 pub returns-then-last-need : goal.returns-then-last-need
 returns-then-last-need c =

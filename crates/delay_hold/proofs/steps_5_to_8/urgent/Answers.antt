@@ -5,7 +5,7 @@ use Rattle.delay_hold.proofs.steps_5_to_8.urgent.Goals as goal
 
 pub overflow_add-need : goal.overflow_add-need
 overflow_add-need c =
-    omega (arith, c.need.ensures, need_at_most c.args.policy c.args.worst, c.requires.0.offset, c.requires.0.maximum)
+    omega (arith, c.need.ensures, need_at_most c.args.terms.policy c.args.worst, c.args.terms.sound.offset, c.args.terms.sound.maximum)
 
 pub returns : goal.returns
 returns c =

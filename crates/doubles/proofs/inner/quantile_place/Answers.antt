@@ -43,21 +43,12 @@ int_to_float-t c = le→leb c.truncating_f64_to_u64-t.result (2 ^ 53) (small c.a
 pub overflow_add-up : goal.overflow_add-up
 overflow_add-up c = omega (arith, small c.args.total c.args.q _ c.requires c.truncating_f64_to_u64-t.ensures)
 
--- where the arms of the first `if` meet
-pub returns-then-up-lt1 : goal.returns-then-up-lt1
+-- where the arms of the `if` meet
+pub returns : goal.returns
 unfolding target_of
-returns-then-up-lt1 c =
+returns c =
     let e : ceil_of (product c.args.total c.args.q) ≡ c.if-t-x.up = elim c.if-t-x.branch [
       | then-t-x w ↦ up_next c.args.total c.args.q _ _ c.requires c.truncating_f64_to_u64-t.ensures w.if-t-x.true w.up-is
       | else-t-x w ↦ up_same c.args.total c.args.q _ _ c.requires c.truncating_f64_to_u64-t.ensures w.if-t-x.false w.up-is
     ] in
-    omega (arith, e)
-
-pub returns-else-up-lt1 : goal.returns-else-up-lt1
-unfolding target_of
-returns-else-up-lt1 c =
-    let e : ceil_of (product c.args.total c.args.q) ≡ c.if-t-x.up = elim c.if-t-x.branch [
-      | then-t-x w ↦ up_next c.args.total c.args.q _ _ c.requires c.truncating_f64_to_u64-t.ensures w.if-t-x.true w.up-is
-      | else-t-x w ↦ up_same c.args.total c.args.q _ _ c.requires c.truncating_f64_to_u64-t.ensures w.if-t-x.false w.up-is
-    ] in
-    omega (arith, e)
+    omega (arith, c.max.ensures, e)

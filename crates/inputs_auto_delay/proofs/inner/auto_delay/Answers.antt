@@ -1,24 +1,19 @@
 -- `inputs_auto_delay::inner::auto_delay` meets its contract. Assumes nothing.
+use Rattle.rules_record.proofs.Derived.{state_same, state_other, state_not_same, state_not_other}
+use Rattle.rules_record.specs.declared.State.TheVariants.{Running, Stalled}
 use mathlib.Core.Path.{refl}
-use native.Mathlib.Omega.{arith}
-use Rattle.rules_record.proofs.Effects.{effected_by, effected_silent, effected_done}
-use Rattle.rules_tick.proofs.AutoDelayCases.{stalled_by, idle_by, manual_by, decides_by, answer_asks}
+use Rattle.inputs_commands.proofs.Steps.{affects_by, affects_silent, affects_done}
+use Rattle.rules_tick.proofs.AutoDelayCases.{stalled_by, idle_by, manual_by, decides_by}
 use Rattle.inputs_auto_delay.proofs.inner.auto_delay.Goals as goal
 
-pub returns-then-code-eq-STALLED : goal.returns-then-code-eq-STALLED
-returns-then-code-eq-STALLED c = λ totals counts own. effected_by (stalled_by _ _ _ _ _ c.slot_at-slot.ensures c.code-code.ensures c.if-code-eq-STALLED.true c.interrupted.ensures) (effected_silent refl refl)
+pub returns-then-eq-clause-affects : goal.returns-then-eq-clause-affects
+returns-then-eq-clause-affects c = affects_by (stalled_by _ _ _ _ _ c.slot_at-slot.ensures refl (state_same c.slot_at-slot.result.state Stalled c.eq.ensures c.if-eq.true) c.interrupted.ensures) (affects_silent refl refl)
 
-pub returns-then-code-ne-RUNNING : goal.returns-then-code-ne-RUNNING
-returns-then-code-ne-RUNNING c = λ totals counts own. effected_by (idle_by _ _ _ _ _ c.slot_at-slot.ensures c.code-code.ensures c.if-code-eq-STALLED.false c.if-code-ne-RUNNING.true) (effected_silent refl refl)
+pub returns-then-ne-clause-affects : goal.returns-then-ne-clause-affects
+returns-then-ne-clause-affects c = affects_by (idle_by _ _ _ _ _ c.slot_at-slot.ensures refl (state_other c.slot_at-slot.result.state Stalled c.eq.ensures c.if-eq.false) (state_not_same c.slot_at-slot.result.state Running c.ne.ensures c.if-ne.true)) (affects_silent refl refl)
 
-pub returns-then-not-automatic : goal.returns-then-not-automatic
-returns-then-not-automatic c = λ totals counts own. effected_by (manual_by _ _ _ _ _ c.slot_at-slot.ensures c.code-code.ensures c.if-code-eq-STALLED.false c.if-code-ne-RUNNING.false c.automatic.ensures (c.if-not-automatic.true)) (effected_silent refl refl)
+pub returns-then-not-automatic-clause-affects : goal.returns-then-not-automatic-clause-affects
+returns-then-not-automatic-clause-affects c = affects_by (manual_by _ _ _ _ _ c.slot_at-slot.ensures refl (state_other c.slot_at-slot.result.state Stalled c.eq.ensures c.if-eq.false) (state_not_other c.slot_at-slot.result.state Running c.ne.ensures c.if-ne.false) c.automatic.ensures (c.if-not-automatic.true)) (affects_silent refl refl)
 
-pub next_for-next-requires : goal.next_for-next-requires
-next_for-next-requires c = (c.slot_at-slot.ensures, c.requires.auto_asked)
-
-pub answer-requires : goal.answer-requires
-answer-requires c = (c.requires.used_in_bounds, omega (arith, c.requires.auto_asked.ready.input, c.requires.auto_asked.ready.fitting.allowed.most), answer_asks _ _ c.slot_at-slot.ensures c.with_hold-decided.ensures c.requires.auto_asked.changes)
-
-pub returns : goal.returns
-returns c = λ totals counts own. effected_by (decides_by _ _ _ _ _ c.slot_at-slot.ensures c.code-code.ensures c.if-code-eq-STALLED.false c.if-code-ne-RUNNING.false c.automatic.ensures (c.if-not-automatic.false) (c.next_for-next.ensures totals counts own) c.with_hold-decided.ensures) (effected_done c.answer.ensures refl)
+pub returns-clause-affects : goal.returns-clause-affects
+returns-clause-affects c = affects_by (decides_by _ _ _ _ _ c.slot_at-slot.ensures refl (state_other c.slot_at-slot.result.state Stalled c.eq.ensures c.if-eq.false) (state_not_other c.slot_at-slot.result.state Running c.ne.ensures c.if-ne.false) c.automatic.ensures (c.if-not-automatic.false) c.next_for-next.ensures.answered) (affects_done c.answer.ensures refl)

@@ -1,18 +1,12 @@
 -- `inputs_checks::inner::whole_inputs` meets its contract. Assumes nothing.
-use Rattle.std.specs.Prelude.{◌≡◌, ◌-◌, ◌≤◌, true}
+use Rattle.std.specs.Prelude.{◌≡◌, true}
 use Rattle.base.specs.Lists.{all}
 use Rattle.rules_record.specs.WholeRecord.{input_fits}
-use Rattle.rules_record.specs.Lent.{lists}
+use Rattle.rules_record.specs.Lending.{lists_seen}
 use Rattle.inputs_checks.proofs.inner.whole_inputs.Given as goal
 
 abbrev pub invariant-loop-i : goal.invariant-loop-i
-invariant-loop-i l = (l.i ≤ l.inputs.count) × (all (input_fits l.inputs (lists l.starts l.totals l.counts l.sums l.times l.peaks)) l.i ≡ true)
+invariant-loop-i l = all (input_fits l.inputs (lists_seen l.lists)) l.i ≡ true
 
 abbrev pub invariant-loop-i-2 : goal.invariant-loop-i-2
-invariant-loop-i-2 l = (l.inputs.count ≤ l.i) × (l.i ≤ 16) × (all (input_fits l.inputs (lists l.starts l.totals l.counts l.sums l.times l.peaks)) l.i ≡ true)
-
-abbrev pub decreases-loop-i : goal.decreases-loop-i
-decreases-loop-i l = l.inputs.count - l.i
-
-abbrev pub decreases-loop-i-2 : goal.decreases-loop-i-2
-decreases-loop-i-2 l = 16 - l.i
+invariant-loop-i-2 l = all (input_fits l.inputs (lists_seen l.lists)) l.i ≡ true

@@ -3,7 +3,6 @@ use mathlib.Core.Path.{refl, sym, ap, ◌∙◌}
 use Rattle.std.specs.Prelude.{Option}
 use Rattle.std.specs.Option.{is_some, unwrap_or}
 use Rattle.rules_record.specs.declared.Inputs.{Inputs}
-use native.Mathlib.Omega.{arith}
 use Rattle.base.proofs.Tests.{not_both}
 use Rattle.rules_calls.proofs.NewLoops.{loading_none, loading_stop, loading_more, loading_fits, loading_end}
 use Rattle.inputs_new.proofs.loading.load.Goals as goal
@@ -11,23 +10,8 @@ use Rattle.inputs_new.proofs.loading.load.Goals as goal
 pub loop-k-init : goal.loop-k-init
 loop-k-init c = loading_none _ _ _
 
-pub flow_of-flow-requires : goal.flow_of-flow-requires
-flow_of-flow-requires c = omega (arith, c.requires, c.loop-k-test.true)
-
-pub has_room-requires : goal.has_room-requires
-has_room-requires c = tt
-
 pub returns-then-not-has_room : goal.returns-then-not-has_room
 returns-then-not-has_room c = record { fits_value = loading_stop _ _ _ c.loop-k.invariant c.loop-k-test.true c.flow_of-flow.ensures c.has_room.ensures (c.if-not-has_room.true); inputs_value = λ all e. absurd (not_both refl (sym (ap is_some e))) }
-
-pub bounds-delays-k : goal.bounds-delays-k
-bounds-delays-k c = c.loop-k-test.true
-
-pub load_one-all-requires : goal.load_one-all-requires
-load_one-all-requires c = tt
-
-pub loop-k-smaller : goal.loop-k-smaller
-loop-k-smaller c = omega (arith, c.loop-k-test.true)
 
 pub loop-k-preserved : goal.loop-k-preserved
 loop-k-preserved c = loading_more _ _ _ c.loop-k.invariant c.loop-k-test.true c.flow_of-flow.ensures c.has_room.ensures (c.if-not-has_room.false) c.load_one-all.ensures

@@ -1,11 +1,8 @@
 -- `inputs_route::steps::open_for` meets its contract. Assumes nothing.
-use mathlib.Core.Path.{refl}
-use Rattle.rules_record.proofs.Sending.{did_by, did_quiet}
-use Rattle.rules_calls.proofs.RouteCases.{open_none, open_new}
+use mathlib.Core.Path.{refl, sym, ◌∙◌}
+use Rattle.inputs_commands.proofs.Steps.{does_by, does_quiet}
+use Rattle.inputs_route.proofs.Routes.{opens_not}
 use Rattle.inputs_route.proofs.steps.open_for.Goals as goal
 
-pub returns-in_default : goal.returns-in_default
-returns-in_default c = did_by (open_none _ _ _ _ c.in_default.is) (did_quiet refl)
-
 pub returns : goal.returns
-returns c = did_by (open_new _ _ _ _ c.in-Some.is) c.try_open.ensures
+returns c = does_by (opens_not _ _ _ _ _ (sym c.is_some.ensures ∙ c.if-is_some.false)) (does_quiet refl)

@@ -3,4 +3,4 @@ use Rattle.rules_calls.proofs.RouteCases.{routed_by}
 use Rattle.inputs_route.proofs.steps.routed_slot.Goals as goal
 
 pub returns : goal.returns
-returns c = routed_by _ _ _ c.started_over-over.ensures c.with_route-there.ensures c.with_inode-placed.ensures c.state_for.ensures c.with_state.ensures
+returns c = routed_by _ _ _ c.started_over-over.ensures c.state_for.ensures

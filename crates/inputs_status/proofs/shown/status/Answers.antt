@@ -28,4 +28,4 @@ pub overflow_add-policy : goal.overflow_add-policy
 overflow_add-policy c = omega (arith, c.requires.applied_most, c.requires.checked.fitting.allowed.sound.offset, c.requires.checked.fitting.allowed.sound.maximum)
 
 pub returns : goal.returns
-returns c starts totals counts times own = status_by_law c.args.inputs (lists starts totals counts c.args.sums.now times c.args.peaks.now) c.args.i c.args.applied c.args.channels c.slot_at-slot.ensures c.source_of-source.ensures c.window_in-window.ensures c.arrival-arrival_lag_ms.ensures own (span_is (c.args.i * 600) 600) c.worst_ms-worst_lag_ms.ensures c.proposed_ms-proposed_delay_ms.ensures refl c.channels_shown.ensures c.ms.ensures c.ms-2.ensures c.ms-3.ensures
+returns c starts totals counts times own = status_by_law c.args.inputs (lists starts totals counts c.args.sums.now times c.args.peaks.now) c.args.i c.args.applied c.args.channels c.slot_at-slot.ensures c.source_of-source.ensures c.window_in-window.ensures c.arrival-arrival_lag_ms.ensures own (span_is (c.args.i * 600) 600) c.worst_ms-worst_lag_ms.ensures c.in_ms.ensures.proposed refl c.channels_shown.ensures c.ms.ensures c.ms-2.ensures c.ms-3.ensures

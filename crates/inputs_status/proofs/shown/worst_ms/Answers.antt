@@ -11,4 +11,4 @@ returns-then-not-automatic c = sym (no_pick _ _ (told_no _ _ c.automatic.ensures
 
 pub returns : goal.returns
 unfolding worst_ms
-returns c = c.lag_ms.ensures ∙ ap lag_in_ms c.worst.ensures ∙ sym (yes_pick _ _ (told_yes _ _ c.automatic.ensures c.if-not-automatic.false))
+returns c = c.in_ms.ensures.lag ∙ ap lag_in_ms c.worst.ensures ∙ sym (yes_pick _ _ (told_yes _ _ c.automatic.ensures c.if-not-automatic.false))

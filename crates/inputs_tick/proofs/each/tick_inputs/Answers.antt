@@ -1,92 +1,46 @@
 -- `inputs_tick::each::tick_inputs` meets its contract. Assumes nothing.
-use mathlib.Core.Path.{refl}
+use mathlib.Core.Path.{refl, ◌∙◌}
 use native.Mathlib.Nat.{add-sub_cancel_left}
 use native.Mathlib.Omega.{arith}
 use Rattle.rules_tick.specs.Looks.{look_at, no_look}
 use Rattle.rules_record.specs.Slots.{empty_slot}
-use Rattle.rules_record.specs.Lent.{lists}
+use Rattle.rules_record.specs.Lending.{lists_lent}
+use Rattle.inputs_commands.proofs.Steps.{long_effected}
 use Rattle.rules_tick.proofs.TickTurns.{turn_none, lags_there, turn_asks, turn_again, turn_end}
 use Rattle.inputs_tick_input.proofs.Resting.{turn_passed}
+use Rattle.inputs_tick.proofs.Kept.{same_none, same_more}
 use Rattle.inputs_tick.proofs.each.tick_inputs.Goals as goal
 
 pub loop-i-init : goal.loop-i-init
-loop-i-init c = turn_none _ _ _ _ _ _ c.requires.inputs_asked
-
-pub offset_bounds-looks-i : goal.offset_bounds-looks-i
-offset_bounds-looks-i c = omega (arith, c.loop-i-test.true, c.requires.inputs_asked.most)
-
-pub bounds-looks-i : goal.bounds-looks-i
-bounds-looks-i c = omega (arith, c.loop-i-test.true, c.requires.inputs_asked.most)
-
-pub offset_bounds-all-i : goal.offset_bounds-all-i
-offset_bounds-all-i c = omega (arith, c.loop-i-test.true, c.requires.inputs_asked.most)
-
-pub bounds-all-i : goal.bounds-all-i
-bounds-all-i c = omega (arith, c.loop-i-test.true, c.requires.inputs_asked.most)
-
-pub stays-requires : goal.stays-requires
-stays-requires c = tt
-
-pub overflow_add-i : goal.overflow_add-i
-overflow_add-i c = omega (arith, c.loop-i-test.true, c.requires.inputs_asked.most)
-
-pub loop-i-smaller-then-stays : goal.loop-i-smaller-then-stays
-loop-i-smaller-then-stays c = omega (arith, c.loop-i-test.true)
+loop-i-init c = (turn_none _ _ _ _ _ _ _ c.requires.inputs_asked, refl, same_none _)
 
 pub loop-i-preserved-then-stays : goal.loop-i-preserved-then-stays
 unfolding look_at no_look empty_slot
-loop-i-preserved-then-stays c = turn_passed _ _ _ _ (lists c.args.starts.now c.args.totals.now c.args.counts.now c.args.sums.now c.args.times.now c.args.peaks.now) c.args.commands.now c.requires.inputs_asked _ c.loop-i.invariant c.loop-i-test.true refl refl (c.stays.ensures c.if-stays.true)
+loop-i-preserved-then-stays c = (turn_passed _ _ _ _ (lists_lent c.args.lists.now) c.args.commands.now.words.now _ c.requires.inputs_asked _ c.loop-i.invariant.0 c.loop-i-test.true refl refl (c.stays.ensures c.if-stays.true), c.loop-i.invariant.1, c.loop-i.invariant.2)
 
 pub overflow_add-to : goal.overflow_add-to
 unfolding look_at no_look
-overflow_add-to c = let there = lags_there _ _ _ _ (lists c.args.starts.now c.args.totals.now c.args.counts.now c.args.sums.now c.args.times.now c.args.peaks.now) c.args.commands.now c.requires.inputs_asked _ c.loop-i.invariant c.loop-i-test.true refl in omega (arith, there)
+overflow_add-to c = let there = lags_there _ _ _ _ (lists_lent c.args.lists.now) c.args.commands.now.words.now _ c.requires.inputs_asked _ c.loop-i.invariant.0 c.loop-i-test.true refl in omega (arith, there)
 
 pub offset_bounds-lags-from : goal.offset_bounds-lags-from
 unfolding look_at no_look
-offset_bounds-lags-from c = let there = lags_there _ _ _ _ (lists c.args.starts.now c.args.totals.now c.args.counts.now c.args.sums.now c.args.times.now c.args.peaks.now) c.args.commands.now c.requires.inputs_asked _ c.loop-i.invariant c.loop-i-test.true refl in omega (arith, there, c.well_formed.1.1.0.1)
+offset_bounds-lags-from c = let there = lags_there _ _ _ _ (lists_lent c.args.lists.now) c.args.commands.now.words.now _ c.requires.inputs_asked _ c.loop-i.invariant.0 c.loop-i-test.true refl in omega (arith, there, c.well_formed.1.1.0.1)
 
 pub slice_bounds-tick_input-start : goal.slice_bounds-tick_input-start
 unfolding look_at no_look
-slice_bounds-tick_input-start c = let there = lags_there _ _ _ _ (lists c.args.starts.now c.args.totals.now c.args.counts.now c.args.sums.now c.args.times.now c.args.peaks.now) c.args.commands.now c.requires.inputs_asked _ c.loop-i.invariant c.loop-i-test.true refl in omega (arith, there)
+slice_bounds-tick_input-start c = let there = lags_there _ _ _ _ (lists_lent c.args.lists.now) c.args.commands.now.words.now _ c.requires.inputs_asked _ c.loop-i.invariant.0 c.loop-i-test.true refl in omega (arith, there)
 
 pub slice_bounds-tick_input-end : goal.slice_bounds-tick_input-end
 unfolding look_at no_look
-slice_bounds-tick_input-end c = let there = lags_there _ _ _ _ (lists c.args.starts.now c.args.totals.now c.args.counts.now c.args.sums.now c.args.times.now c.args.peaks.now) c.args.commands.now c.requires.inputs_asked _ c.loop-i.invariant c.loop-i-test.true refl in omega (arith, there)
+slice_bounds-tick_input-end c = let there = lags_there _ _ _ _ (lists_lent c.args.lists.now) c.args.commands.now.words.now _ c.requires.inputs_asked _ c.loop-i.invariant.0 c.loop-i-test.true refl in omega (arith, there)
 
-pub tick_input-sent-requires : goal.tick_input-sent-requires
+pub tick_input-all-requires : goal.tick_input-all-requires
 unfolding look_at no_look
-tick_input-sent-requires c = let asks = turn_asks _ _ _ _ (lists c.args.starts.now c.args.totals.now c.args.counts.now c.args.sums.now c.args.times.now c.args.peaks.now) c.args.commands.now c.requires.inputs_asked _ c.loop-i.invariant c.loop-i-test.true refl (add-sub_cancel_left c.loop-i.from _) in record { sized = (c.loop-i.invariant.sized, c.requires.inputs_asked.timely); input_asked = asks; used_in_bounds = omega (arith, c.requires.count_in_bounds, c.loop-i-test.true, c.loop-i.invariant.effected.done.used, c.loop-i.invariant.effected.done.room, c.loop-i.invariant.commands) }
-
-pub overflow_add-i-in-loop-i : goal.overflow_add-i-in-loop-i
-overflow_add-i-in-loop-i c = omega (arith, c.loop-i-test.true, c.requires.inputs_asked.most)
-
-pub loop-i-smaller : goal.loop-i-smaller
-loop-i-smaller c = omega (arith, c.loop-i-test.true)
+tick_input-all-requires c = let asks = turn_asks _ _ _ _ (lists_lent c.args.lists.now) c.args.commands.now.words.now _ c.requires.inputs_asked _ c.loop-i.invariant.0 c.loop-i-test.true refl (add-sub_cancel_left c.loop-i.from _) in record { sized = (c.loop-i.invariant.0.sized, c.requires.inputs_asked.timely); input_asked = asks; used_in_bounds = omega (arith, c.requires.count_in_bounds, c.loop-i-test.true, c.loop-i.invariant.0.effected.done.used, c.loop-i.invariant.0.effected.done.room, c.loop-i.invariant.0.commands) }
 
 pub loop-i-preserved : goal.loop-i-preserved
 unfolding look_at no_look
-loop-i-preserved c = turn_again _ _ _ _ (lists c.args.starts.now c.args.totals.now c.args.counts.now c.args.sums.now c.args.times.now c.args.peaks.now) c.args.commands.now c.requires.inputs_asked _ c.loop-i.invariant c.loop-i-test.true refl (add-sub_cancel_left c.loop-i.from _) c.tick_input-sent.ensures c.tick_input-sent.auto.starts c.tick_input-sent.auto.totals c.tick_input-sent.auto.counts c.tick_input-sent.auto.sums c.tick_input-sent.auto.times c.tick_input-sent.auto.peaks c.tick_input-sent.auto.commands
+loop-i-preserved c = (turn_again _ _ _ _ (lists_lent c.args.lists.now) c.args.commands.now.words.now _ c.requires.inputs_asked _ c.loop-i.invariant.0 c.loop-i-test.true refl (add-sub_cancel_left c.loop-i.from _) c.tick_input-all.ensures.affects.effected (long_effected c.tick_input-all.ensures.affects), c.tick_input-all.ensures.affects.same ∙ c.loop-i.invariant.1, same_more c.loop-i.invariant.2 c.tick_input-all.ensures.same)
 
-pub shape_of-starts : goal.shape_of-starts
-shape_of-starts c = c.loop-i.invariant.starts
-
-pub shape_of-totals : goal.shape_of-totals
-shape_of-totals c = c.loop-i.invariant.totals
-
-pub shape_of-counts : goal.shape_of-counts
-shape_of-counts c = c.loop-i.invariant.counts
-
-pub shape_of-sums : goal.shape_of-sums
-shape_of-sums c = c.loop-i.invariant.sums
-
-pub shape_of-times : goal.shape_of-times
-shape_of-times c = c.loop-i.invariant.times
-
-pub shape_of-peaks : goal.shape_of-peaks
-shape_of-peaks c = c.loop-i.invariant.peaks
-
-pub shape_of-commands : goal.shape_of-commands
-shape_of-commands c = c.loop-i.invariant.commands
-
-pub returns : goal.returns
-returns c = turn_end _ _ _ _ _ _ c.requires.inputs_asked _ c.loop-i.invariant c.loop-i-test.false
+pub returns-clause-affects : goal.returns-clause-affects
+returns-clause-affects c = record { effected = turn_end _ _ _ _ _ _ _ c.requires.inputs_asked _ c.loop-i.invariant.0 c.loop-i-test.false; same = c.loop-i.invariant.1 }

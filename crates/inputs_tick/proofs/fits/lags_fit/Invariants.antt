@@ -1,10 +1,6 @@
 -- `inputs_tick::fits::lags_fit` meets its contract. Assumes nothing.
-use Rattle.std.specs.Prelude.{◌-◌}
 use Rattle.rules_tick.proofs.LagCounting.{LagsLeft}
 use Rattle.inputs_tick.proofs.fits.lags_fit.Given as goal
 
-abbrev pub invariant-loop-i : goal.invariant-loop-i
-invariant-loop-i l = LagsLeft l.inputs l.looks l.lags l.i l.left
-
-abbrev pub decreases-loop-i : goal.decreases-loop-i
-decreases-loop-i l = l.inputs.count - l.i
+abbrev pub invariant-loop-look : goal.invariant-loop-look
+invariant-loop-look l = LagsLeft l.fn.inputs l.fn.looks l.lags l.look-index l.left

@@ -1,10 +1,6 @@
 -- `inputs_tick::fits::rooms_fit` meets its contract. Assumes nothing.
-use Rattle.std.specs.Prelude.{◌-◌}
 use Rattle.rules_tick.proofs.LagCounting.{RoomsBelow}
 use Rattle.inputs_tick.proofs.fits.rooms_fit.Given as goal
 
 abbrev pub invariant-loop-i : goal.invariant-loop-i
-invariant-loop-i l = RoomsBelow l.inputs l.looks l.time l.starts l.totals l.i
-
-abbrev pub decreases-loop-i : goal.decreases-loop-i
-decreases-loop-i l = l.inputs.count - l.i
+invariant-loop-i l = RoomsBelow l.fn.inputs l.fn.looks l.time l.starts l.totals l.i

@@ -3,7 +3,7 @@ use Rattle.lag_rows.proofs.Tallies.{place_is, place_in, place_fits}
 use Rattle.lag_rows.proofs.inner.place.Goals as goal
 
 pub overflow_add-result : goal.overflow_add-result
-overflow_add-result c = place_fits _ _ _ _ c.requires.places_value c.requires.r_bound.0 c.requires.r_bound.1 c.requires.r_bound.2
+overflow_add-result c = place_fits _ _ _ _ c.args.places.now.begin c.requires.0 c.requires.1 c.args.places.now.few
 
 pub returns : goal.returns
-returns c = (place_is _ _ _ _ c.requires.places_value c.requires.r_bound.0 c.requires.r_bound.1, place_in _ _ _ _ c.requires.places_value c.requires.r_bound.0 c.requires.r_bound.1)
+returns c = (place_is _ _ _ _ c.args.places.now.begin c.requires.0 c.requires.1, place_in _ _ _ _ c.args.places.now.begin c.requires.0 c.requires.1)

@@ -1,37 +1,21 @@
 -- `lag_rows::inner::reached` meets its contract. Assumes nothing.
-use Rattle.std.proofs.Common.{◌/◌, sym, ◌∙◌, arith, length-take}
+use Rattle.std.proofs.Common.{◌≡◌, ◌+◌, ◌*◌, arith}
 use native.Mathlib.Nat.{sub-zero}
 use Rattle.rules_window.proofs.Reaching.{running_none, running_block, block_few, reach_block}
 use Rattle.lag_rows.proofs.BlockSums.{kept_in, kept_at}
 use Rattle.lag_rows.proofs.inner.reached.Goals as goal
 
-pub loop-more-init : goal.loop-more-init
-loop-more-init c = (omega arith, search running_none, (λ h. absurd (omega arith)), rw sub-zero)
+pub loop-i-init : goal.loop-i-init
+loop-i-init c = (search running_none, (λ h. absurd (omega arith)), rw sub-zero)
 
 pub overflow_add-seen : goal.overflow_add-seen
 overflow_add-seen c =
-    let l = kept_in _ _ _ _ _ _ c.requires.blocks c.shown.ensures c.loop-more.invariant.0 c.loop-more-test.true in
-    omega (arith, block_few _ _ _ _ c.requires.le_width.0 _ c.shown.ensures _ c.requires.buckets_bound _ 64 _ c.loop-more.invariant.1 l, kept_at _ _ _ _ _ _ c.requires.blocks c.shown.ensures c.loop-more.invariant.0 c.loop-more-test.true)
+    let l = kept_in _ _ _ _ _ c.requires c.shown-whole.ensures c.loop-i-test.true in
+    omega (arith, block_few _ _ _ _ c.args.row.shape.0 _ c.shown-whole.ensures _ c.args.row.few _ 64 _ c.loop-i.invariant.0 l, kept_at _ _ _ _ _ c.requires c.shown-whole.ensures c.loop-i-test.true)
 
-pub reached_from-requires : goal.reached_from-requires
-reached_from-requires c = record { le_width = omega arith; buckets_bound = c.requires.buckets_bound; from_bound = (omega (arith, kept_in _ _ _ _ _ _ c.requires.blocks c.shown.ensures c.loop-more.invariant.0 c.loop-more-test.true), c.loop-more.invariant.2); before_value = c.loop-more.invariant.1 }
-
-pub returns-then-target-seen : goal.returns-then-target-seen
-returns-then-target-seen c = c.reached_from.ensures ∙ sym c.loop-more.invariant.3
-
-pub overflow_add-seen-in-loop-more : goal.overflow_add-seen-in-loop-more
-overflow_add-seen-in-loop-more c =
-    let l = kept_in _ _ _ _ _ _ c.requires.blocks c.shown.ensures c.loop-more.invariant.0 c.loop-more-test.true in
-    omega (arith, block_few _ _ _ _ c.requires.le_width.0 _ c.shown.ensures _ c.requires.buckets_bound _ 64 _ c.loop-more.invariant.1 l, kept_at _ _ _ _ _ _ c.requires.blocks c.shown.ensures c.loop-more.invariant.0 c.loop-more-test.true)
-
-pub loop-more-preserved : goal.loop-more-preserved
-loop-more-preserved c =
-    let l = kept_in _ _ _ _ _ _ c.requires.blocks c.shown.ensures c.loop-more.invariant.0 c.loop-more-test.true in
-    let more = kept_at _ _ _ _ _ _ c.requires.blocks c.shown.ensures c.loop-more.invariant.0 c.loop-more-test.true in
-    (omega arith, running_block _ _ _ _ c.requires.le_width.0 _ c.shown.ensures _ 64 _ _ c.loop-more.invariant.1 more l, (λ h. c.if-target-seen.false), reach_block _ _ _ _ c.requires.le_width.0 _ c.shown.ensures _ _ _ c.loop-more.invariant.3 64 _ _ c.loop-more.invariant.1 more l c.if-target-seen.false)
-
-pub reached_from-requires-2 : goal.reached_from-requires-2
-reached_from-requires-2 c = record { le_width = omega arith; buckets_bound = c.requires.buckets_bound; from_bound = (omega (arith, length-take (c.shown.result / 64) c.args.blocks.now), c.loop-more.invariant.2); before_value = c.loop-more.invariant.1 }
-
-pub returns : goal.returns
-returns c = c.reached_from-2.ensures ∙ sym c.loop-more.invariant.3
+pub loop-i-preserved : goal.loop-i-preserved
+loop-i-preserved c =
+    let l = kept_in _ _ _ _ _ c.requires c.shown-whole.ensures c.loop-i-test.true in
+    let more = kept_at _ _ _ _ _ c.requires c.shown-whole.ensures c.loop-i-test.true in
+    let e : 64 * (c.loop-i.i + 1) ≡ 64 * c.loop-i.i + 64 = omega arith in
+    rw e (running_block _ _ _ _ c.args.row.shape.0 _ c.shown-whole.ensures _ 64 _ _ c.loop-i.invariant.0 more l, (λ h. c.if-target-seen.false), reach_block _ _ _ _ c.args.row.shape.0 _ c.shown-whole.ensures _ _ _ c.loop-i.invariant.2 64 _ _ c.loop-i.invariant.0 more l c.if-target-seen.false)

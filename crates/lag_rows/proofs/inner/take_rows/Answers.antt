@@ -1,7 +1,7 @@
 -- `lag_rows::inner::take_rows` meets its contract. Assumes nothing.
-use Rattle.std.proofs.Common.{◌∙◌, arith}
+use Rattle.std.proofs.Common.{◌≡◌, ◌∙◌, arith}
 use Rattle.rules_window.proofs.SumsKept.{less_none, less_more}
-use Rattle.lag_rows.proofs.Taken.{row_in_sums, less_end}
+use Rattle.lag_rows.proofs.Taken.{row_in_sums}
 use Rattle.lag_rows.proofs.inner.take_rows.Goals as goal
 
 pub loop-r-init : goal.loop-r-init
@@ -14,4 +14,4 @@ pub loop-r-preserved : goal.loop-r-preserved
 loop-r-preserved c = c.take_row.ensures ∙ less_more _ _ _ _ _ c.loop-r.invariant
 
 pub returns : goal.returns
-returns c = search less_end
+returns c = let all : c.loop-r.r ≡ c.args.k = omega arith in rw all at c.loop-r.invariant

@@ -7,4 +7,4 @@ pub add_blocks-requires : goal.add_blocks-requires
 add_blocks-requires c = record { m_in_bounds = omega arith; sums_bound = search shown_few }
 
 pub returns : goal.returns
-returns c = record { value = total_is _ _ _ _ c.requires.le_width.0 _ c.shown-m.ensures _ c.add_blocks.ensures.value; blocks = rw c.shown-m.ensures at c.add_blocks.ensures.blocks }
+returns c = record { value = total_is _ _ _ _ c.args.row.shape.0 _ c.shown.ensures _ c.add_blocks.ensures.value; blocks = rw c.shown.ensures at c.add_blocks.ensures.blocks }

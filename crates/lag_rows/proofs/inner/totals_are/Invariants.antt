@@ -3,5 +3,5 @@ use Rattle.std.proofs.Common.{◌≡◌, true}
 use Rattle.lag_rows.specs.Tallies.{totals_are}
 use Rattle.lag_rows.proofs.inner.totals_are.Given as goal
 
-abbrev pub invariant-loop-i : goal.invariant-loop-i
-invariant-loop-i l = totals_are l.i l.rows l.totals ≡ true
+abbrev pub invariant-loop-r : goal.invariant-loop-r
+invariant-loop-r l = totals_are l.r l.rows l.totals ≡ true

@@ -8,6 +8,6 @@ pub returns-then-q : goal.returns-then-q
 unfolding from_zero_to_one both of_bits
 returns-then-q c = simp c.if-q.true
 
-pub returns : goal.returns
+pub returns-else-q : goal.returns-else-q
 unfolding from_zero_to_one both of_bits
-returns c = simp c.if-q.false
+returns-else-q c = simp c.if-q.false

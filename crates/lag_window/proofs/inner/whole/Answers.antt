@@ -25,8 +25,5 @@ returns-then-not-blank c = both_no _ _ (sym (starts_fail _ _ c.blank.ensures c.i
 pub returns-then-not-blank-2 : goal.returns-then-not-blank-2
 returns-then-not-blank-2 c = both_no _ _ (sym (totals_fail _ _ c.blank-2.ensures c.if-not-blank-2.true))
 
-pub right-requires : goal.right-requires
-right-requires c = record { buckets_nonzero = omega arith; places_len = (omega arith, c.row_places.ensures) }
-
 pub returns : goal.returns
-returns c = rows_tell _ _ _ _ _ _ _ _ c.requires.shaped c.if-n-gt-SECONDS.false c.spaced.ensures c.if-not-spaced.false c.span.ensures c.if-span-gt-LAG_WINDOW.false (up_to_told _ _ _ (omega arith) _ _ _ c.iter.ensures.rest c.all.ensures.ran (λ x q k. search (rules, tests)) (λ x q k. search (rules, tests))) c.if-not-all.false c.blank.ensures c.if-not-blank.false c.blank-2.ensures c.if-not-blank-2.false c.right.ensures
+returns c = rows_tell _ _ _ _ _ _ _ _ c.requires.shaped c.if-n-gt-SECONDS.false c.spaced.ensures c.if-not-spaced.false c.span.ensures c.if-span-gt-LAG_WINDOW.false (up_to_told _ _ _ (omega arith) _ _ _ c.iter.ensures.rest c.all.ensures.ran (λ x q k. search (rules, tests)) (λ x q k. search (rules, tests))) c.if-not-all.false c.blank.ensures c.if-not-blank.false c.blank-2.ensures c.if-not-blank-2.false (rw c.row_places-places.ensures at c.right.ensures)

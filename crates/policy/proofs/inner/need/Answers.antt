@@ -33,8 +33,5 @@ overflow_add-sum-2 c =
     omega (arith, called c.args.policy _ _ c.requires l c.round_half_away-share.ensures, l, c.requires.margins)
 
 -- the need by the sum that the code has
-pub returns-then-sum-most : goal.returns-then-sum-most
-returns-then-sum-most c = omega (arith, total_is c.args.policy c.args.lag _ _ c.saturating_sub-above.ensures c.round_half_away-share.ensures)
-
-pub returns-else-sum-most : goal.returns-else-sum-most
-returns-else-sum-most c = omega (arith, total_is c.args.policy c.args.lag _ _ c.saturating_sub-above.ensures c.round_half_away-share.ensures)
+pub returns : goal.returns
+returns c = omega (arith, c.min.ensures, total_is c.args.policy c.args.lag _ _ c.saturating_sub-above.ensures c.round_half_away-share.ensures)

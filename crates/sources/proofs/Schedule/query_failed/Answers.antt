@@ -1,17 +1,23 @@
 -- `sources::Schedule::query_failed` meets its contract. Assumes nothing.
+use Rattle.std.proofs.Common.{rules}
+use Rattle.std.specs.Prelude.{◌≡◌, Err}
 use native.Mathlib.Omega.{arith}
-use Rattle.base.proofs.All.{told_no, told_yes}
-use Rattle.sources.proofs.Cases.{wait_short, failed_broken, failed_late, failed_waits}
+use Rattle.refusals.proofs.Answers.{call_stopped, call_timed, timed}
+use Rattle.sources.specs.Queries.{schedule_number}
+use Rattle.sources.proofs.Calls.{wait_short, failed_refused, failed_told}
 use Rattle.sources.proofs.Schedule.query_failed.Goals as goal
 
-pub returns-then-not-whole : goal.returns-then-not-whole
-returns-then-not-whole c = failed_broken _ _ (told_no _ _ c.whole.ensures c.if-not-whole.true)
+pub returns-in_err-check : goal.returns-in_err-check
+unfolding schedule_number
+returns-in_err-check c = let e : c.from_residual.result ≡ Err c.in_err-check.field-0.0 = search rules in rw e (failed_refused _ _ _ (call_stopped _ _ _ c.in_err-check.ensures))
 
-pub returns-then-time-gt-TIME_LIMIT : goal.returns-then-time-gt-TIME_LIMIT
-returns-then-time-gt-TIME_LIMIT c = failed_late _ _ (told_yes _ _ c.whole.ensures c.if-not-whole.false) c.if-time-gt-TIME_LIMIT.true
+pub returns-in_err-check_time : goal.returns-in_err-check_time
+unfolding schedule_number
+returns-in_err-check_time c = let e : c.from_residual-in_err-check_time.result ≡ Err c.in_err-check_time.field-0.0 = search rules in rw e (failed_refused _ _ _ (call_timed _ _ _ c.in_ok-check.ensures c.in_err-check_time.ensures))
 
-pub overflow_add-result : goal.overflow_add-result
-overflow_add-result c = omega (arith, c.next_wait-wait.ensures, wait_short c.args.self.query_down)
+pub overflow_add-down : goal.overflow_add-down
+overflow_add-down c = omega (arith, c.next_wait-wait.ensures, wait_short c.args.self.query_down, timed c.args.time c.in_ok-check_time.ensures)
 
 pub returns : goal.returns
-returns c = failed_waits _ _ (told_yes _ _ c.whole.ensures c.if-not-whole.false) c.if-time-gt-TIME_LIMIT.false _ c.next_wait-wait.ensures
+unfolding schedule_number
+returns c = failed_told _ _ _ (call_timed _ _ _ c.in_ok-check.ensures c.in_ok-check_time.ensures) c.next_wait-wait.ensures

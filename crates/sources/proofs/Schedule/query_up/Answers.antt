@@ -1,16 +1,19 @@
 -- `sources::Schedule::query_up` meets its contract. Assumes nothing.
-use Rattle.base.proofs.All.{told_no, told_yes}
-use Rattle.sources.proofs.Cases.{up_broken, up_late, up_never, up_after}
+use Rattle.std.proofs.Common.{rules}
+use Rattle.std.specs.Prelude.{◌≡◌, Err}
+use Rattle.refusals.proofs.Answers.{call_stopped, call_timed}
+use Rattle.sources.specs.Queries.{schedule_number, is_up}
+use Rattle.sources.proofs.Calls.{up_refused, up_told}
 use Rattle.sources.proofs.Schedule.query_up.Goals as goal
 
-pub returns-then-not-whole : goal.returns-then-not-whole
-returns-then-not-whole c = up_broken _ _ (told_no _ _ c.whole.ensures c.if-not-whole.true)
+pub returns-in_err-check : goal.returns-in_err-check
+unfolding schedule_number
+returns-in_err-check c = let e : c.from_residual.result ≡ Err c.in_err-check.field-0.0 = search rules in rw e (up_refused _ _ _ (call_stopped _ _ _ c.in_err-check.ensures))
 
-pub returns-then-time-gt-TIME_LIMIT : goal.returns-then-time-gt-TIME_LIMIT
-returns-then-time-gt-TIME_LIMIT c = up_late _ _ (told_yes _ _ c.whole.ensures c.if-not-whole.false) c.if-time-gt-TIME_LIMIT.true
+pub returns-in_err-check_time : goal.returns-in_err-check_time
+unfolding schedule_number
+returns-in_err-check_time c = let e : c.from_residual-in_err-check_time.result ≡ Err c.in_err-check_time.field-0.0 = search rules in rw e (up_refused _ _ _ (call_timed _ _ _ c.in_ok-check.ensures c.in_err-check_time.ensures))
 
-pub returns-in-None : goal.returns-in-None
-returns-in-None c = up_never _ _ (told_yes _ _ c.whole.ensures c.if-not-whole.false) c.if-time-gt-TIME_LIMIT.false c.in-None.is
-
-pub returns-in-Some : goal.returns-in-Some
-returns-in-Some c = up_after _ _ (told_yes _ _ c.whole.ensures c.if-not-whole.false) c.if-time-gt-TIME_LIMIT.false _ _ c.in-Some.is
+pub returns : goal.returns
+unfolding schedule_number is_up
+returns c = up_told _ _ _ (call_timed _ _ _ c.in_ok-check.ensures c.in_ok-check_time.ensures) (search rules)

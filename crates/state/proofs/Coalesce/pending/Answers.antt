@@ -1,10 +1,11 @@
 -- `state::Coalesce::pending` meets its contract. Assumes nothing.
-use Rattle.base.proofs.All.{told_no, told_yes}
-use Rattle.state.proofs.Cases.{pending_broken, pending_tells}
+use Rattle.std.proofs.Common.{rules}
+use Rattle.std.specs.Prelude.{◌≡◌, Err}
+use Rattle.state.proofs.Calls.{pending_refused, pending_told}
 use Rattle.state.proofs.Coalesce.pending.Goals as goal
 
-pub returns-then-not-whole : goal.returns-then-not-whole
-returns-then-not-whole c = pending_broken _ (told_no _ _ c.whole.ensures c.if-not-whole.true)
+pub returns-in_err-check : goal.returns-in_err-check
+returns-in_err-check c = let e : c.from_residual.result ≡ Err c.in_err-check.field-0.0 = search rules in rw e (pending_refused _ _ c.in_err-check.ensures)
 
 pub returns : goal.returns
-returns c = pending_tells _ (told_yes _ _ c.whole.ensures c.if-not-whole.false) _ c.is_some.ensures
+returns c = rw c.is_some.ensures (pending_told _ c.in_ok-check.ensures)

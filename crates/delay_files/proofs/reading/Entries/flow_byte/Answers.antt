@@ -1,0 +1,12 @@
+-- `delay_files::reading::Entries::flow_byte` meets its contract. Assumes nothing.
+use mathlib.Core.Path.{sym}
+use Rattle.base.proofs.Choices.{lt_yes, lt_no}
+use Rattle.rules_files.specs.ReadFile.{flow_byte_in}
+use Rattle.delay_files.proofs.reading.Entries.flow_byte.Goals as goal
+
+pub returns-then-i-self : goal.returns-then-i-self
+unfolding flow_byte_in
+returns-then-i-self c = sym (lt_yes _ _ _ _ c.if-i-self.true)
+
+pub returns : goal.returns
+returns c = sym (lt_no _ _ _ _ c.if-i-self.false)

@@ -1,7 +1,0 @@
--- `delay_files::reading::flow_in` meets its contract. Assumes nothing.
-use Rattle.rules_files.specs.Files.{flow_in}
-use Rattle.delay_files.proofs.reading.flow_in.Goals as goal
-
-pub returns : goal.returns
-unfolding flow_in
-returns c = c.flow_from.ensures

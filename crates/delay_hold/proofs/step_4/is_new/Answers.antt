@@ -1,9 +1,0 @@
--- `delay_hold::step_4::is_new` meets its contract. Assumes nothing.
-use borrow.Author.Tests.{eq-eqb, ne_eqb}
-use Rattle.delay_hold.proofs.step_4.is_new.Goals as goal
-
-pub returns-then-n-eq0 : goal.returns-then-n-eq0
-returns-then-n-eq0 c = simp (eq-eqb _ _ c.if-n-eq0.true)
-
-pub returns : goal.returns
-returns c = simp (ne_eqb _ _ c.if-n-eq0.false, ← c.saturating_sub.ensures)

@@ -1,0 +1,8 @@
+-- `delay_hold::whole::lags_up_to` meets its contract. Assumes nothing.
+use Rattle.std.proofs.Common.{arith, rules}
+use Rattle.base.proofs.Rows.{up_to_told}
+use borrow.Author.Tests.{tests}
+use Rattle.delay_hold.proofs.whole.lags_up_to.Goals as goal
+
+pub returns : goal.returns
+returns c = up_to_told _ _ _ (omega arith) _ _ _ c.iter.ensures.rest c.all.ensures.ran (λ x q k. search (rules, tests)) (λ x q k. search (rules, tests))

@@ -1,0 +1,2 @@
+-- What the code does with the list of commands: no rule.
+pub mod Sending

@@ -1,0 +1,3 @@
+-- The looks of the inputs in use, and lent lists that stand as they were lent.
+pub mod Shown
+pub mod Kept
