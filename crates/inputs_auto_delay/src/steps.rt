@@ -10,7 +10,6 @@ ghost use Rattle.delay_hold.specs.Next.{held, decided, next_of, one_millisecond,
 ghost use Rattle.delay_hold.specs.Steps5To8.{timer_off, with_lower};
 ghost use Rattle.rules_record.specs.Lent.{lists, window_for};
 ghost use Rattle.rules_record.specs.Facts.{OwnSums};
-ghost use Rattle.rules_record.specs.Lending.{lists_lent, SameLists};
 ghost use Rattle.rules_tick.specs.Lags.{last_lag_of};
 ghost use Rattle.rules_tick.specs.LateEvents.{late_now, late_events_of};
 ghost use Rattle.rules_tick.specs.AutoDelay.{p999_of, current_of, next_for, Answered, answered};
@@ -19,7 +18,7 @@ ghost use Rattle.rules_tick.specs.InputReady.{P999Asked, AutoAsked};
 use delay_hold::{DelayHold, HoldLists, Next};
 use inputs_commands::Commands;
 use policy::DelayPolicy;
-use rules_record::{AllLists, Inputs, Slot, State};
+use rules_record::{Inputs, Slot, State};
 
 // How long the seconds of lags must span before the first automatic setting.
 const MIN_LAG_SECONDS: u64 = 1;
@@ -139,22 +138,23 @@ pub(crate) fn next_for(
     i: usize,
     max_lag: Option<u32>,
     time: u64,
-    lists: &mut AllLists<'_>,
+    starts: &[u64],
+    sums: &[u64],
+    times: &mut [u64],
+    peaks: &mut [u32],
 ) -> Next
-    requires { (slot ≡ slot_at inputs i) × AutoAsked inputs (lists_lent lists.old) i }
-    ensures answered { Answered i (next_for i max_lag time inputs (lists_lent lists.old)) result (lists_lent lists.old) (lists_lent lists.new) }
-    ensures same { SameLists lists.old lists.new }
+    requires { (slot ≡ slot_at inputs i) × AutoAsked inputs i starts.now sums.now times.old peaks.old }
+    ensures { (totals counts : List ℕ) → OwnSums inputs (lists starts.now totals counts sums.now times.old peaks.old) i (slot_at inputs i) → Answered i (next_for i max_lag time inputs (lists starts.now totals counts sums.now times.old peaks.old)) result (lists starts.now totals counts sums.now times.old peaks.old) (lists starts.now totals counts sums.now times.new peaks.new) }
 {
     let policy = inputs.policy;
     let hold = slot.hold;
-    let seen = lists.view();
-    let p999 = p999(inputs, slot, i, seen.starts, seen.sums);
+    let p999 = p999(inputs, slot, i, starts, sums);
     let from = i * DelayHold::PLACES;
     let to = from + DelayHold::PLACES;
     next_own(
         hold,
-        &mut lists.times[from..to],
-        &mut lists.peaks[from..to],
+        &mut times[from..to],
+        &mut peaks[from..to],
         p999,
         max_lag,
         current(slot),

@@ -113,12 +113,21 @@ pub fn tick_input(
     if rests(heard, look) {
         return before;
     }
+    // The automatic delay is lent four of the lists, each by a name of its own: no field of a struct is read where another is lent.
+    let starts = &mut *lists.starts;
+    let sums = &mut *lists.sums;
+    let times = &mut *lists.times;
+    let peaks = &mut *lists.peaks;
     if moves(heard, look) {
         let world = look.world;
         let moved = inputs_watch::moved(heard, world.head, time);
         before.slots[i] = moved;
-        return inputs_auto_delay::inner::auto_delay(before, i, max_lag, time, lists, commands);
+        return inputs_auto_delay::inner::auto_delay(
+            before, i, max_lag, time, starts, sums, times, peaks, commands,
+        );
     }
     let seen = look_at(before, i, look, time, commands);
-    inputs_auto_delay::inner::auto_delay(seen, i, max_lag, time, lists, commands)
+    inputs_auto_delay::inner::auto_delay(
+        seen, i, max_lag, time, starts, sums, times, peaks, commands,
+    )
 }

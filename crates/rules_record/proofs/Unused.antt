@@ -33,9 +33,9 @@ is_no_seed : (x : Option Seed) → no_seed x ≡ true → x ≡ None
 is_no_seed None h = refl
 is_no_seed (Some seed) h = let z : ◌≡◌ {A = ℕ} 0 1 = cc in absurd (omega arith)
 
-is_no_timer : (x : Option LowerTimer) → no_timer x ≡ true → x ≡ None
-is_no_timer None h = refl
-is_no_timer (Some timer) h = let z : ◌≡◌ {A = ℕ} 0 1 = cc in absurd (omega arith)
+pub unused_timer_law : (x : Option LowerTimer) → no_timer x ≡ true → x ≡ None
+unused_timer_law None h = refl
+unused_timer_law (Some timer) h = let z : ◌≡◌ {A = ℕ} 0 1 = cc in absurd (omega arith)
 
 is_nowhere : (x : Option Route) → no_route x ≡ true → x ≡ None
 is_nowhere None h = refl
@@ -77,7 +77,7 @@ unused_hold_law hold h =
     record {
       peaks = eqb-true hold.peaks 0 t1.0 i;
       last_change = is_never hold.last_change t2.0 i;
-      lower = is_no_timer hold.lower t3.0 i;
+      lower = unused_timer_law hold.lower t3.0 i;
       started = is_never hold.started t4.0 i;
       startup_late = eqb-true hold.startup_late 0 t5.0 i;
       late_before = not-true hold.late_before t6.0 i;

@@ -3,7 +3,7 @@ use Rattle.std.specs.Prelude.{None, Option, Some}
 use Prim.Native.Nat.{ℕ, ◌*◌, ◌≤◌}
 use mathlib.Core.Bool.{true}
 use mathlib.Core.Path.{◌≡◌, sym, ap, subst, ◌∙◌}
-use mathlib.Core.List.{List}
+use mathlib.Core.List.{List, []}
 use native.Mathlib.Omega.{arith}
 use borrow.Author.Tests.{leb-true}
 use lib.ListN.{length}
@@ -56,32 +56,39 @@ proposed_fits (Some proposed) delay maximum h f = leb-true _ _ f
 pub current_fits : (s : Inputs) (l : Lists) (i : ℕ) → Ready s l i → current_of (slot_at s i) ≤ s.policy.delay_max
 current_fits s l i r = proposed_fits (slot_at s i).proposed (slot_at s i).delay s.policy.delay_max r.delay r.proposed
 
-module _ (s : Inputs) (l : Lists) (i : ℕ) (asked : AutoAsked s l i) {slot : Slot} (is-slot : slot ≡ slot_at s i) where
-  own : WindowReady s l i slot
-  own = subst (WindowReady s l i) (sym is-slot) (ready_window s l i asked.ready)
+-- what `p999` told of every window whose sums these are, it told of one whose sums are the input's own
+pub told_own : (s : Inputs) (i : ℕ) (starts sums times lags : List ℕ) {slot : Slot} → slot ≡ slot_at s i
+    → {p : Option ℕ} → ((totals counts times peaks : List ℕ) → OwnSums s (lists starts totals counts sums times peaks) i slot → p ≡ p999_of s.policy (window_for s (lists starts totals counts sums times peaks) i slot))
+    → (totals counts : List ℕ) → OwnSums s (lists starts totals counts sums times lags) i (slot_at s i) → p ≡ p999_of s.policy (window_for s (lists starts totals counts sums times lags) i slot)
+told_own s i starts sums times lags is-slot is-p totals counts own = is-p totals counts times lags (subst (OwnSums s (lists starts totals counts sums times lags) i) (sym is-slot) own)
 
-  -- what `p999` asks of these lists, and what it told of them: their sums are those of their counts
-  module _ {seen : Lists} (is-seen : seen ≡ l) where
-    pub auto_p999 : P999Asked s slot i seen.starts seen.sums
-    auto_p999 =
-        subst (λ (x : Lists). P999Asked s slot i x.starts x.sums) (sym is-seen)
-        (record {
-          totals = l.totals;
-          counts = l.counts;
-          window = record { sound = own.sound; held = own.held; sums_in = own.sums_in; whole = own.whole; sums = own.sums };
-        })
+module _ (s : Inputs) (i : ℕ) (starts sums times lags : List ℕ) (asked : AutoAsked s i starts sums times lags) {slot : Slot} (is-slot : slot ≡ slot_at s i) where
+  abbrev around : Lists
+  around = lists starts asked.totals asked.counts sums times lags
 
-    pub auto_told : {p : Option ℕ} → ((totals counts times peaks : List ℕ) → OwnSums s (lists seen.starts totals counts seen.sums times peaks) i slot → p ≡ p999_of s.policy (window_for s (lists seen.starts totals counts seen.sums times peaks) i slot))
-        → p ≡ p999_of s.policy (window_for s l i slot)
-    auto_told is-p =
-        is-p seen.totals seen.counts seen.times seen.peaks (subst (λ (x : Lists). OwnSums s x i slot) (sym is-seen) own.sums)
-        ∙ ap (λ (x : Lists). p999_of s.policy (window_for s x i slot)) is-seen
+  around_window : WindowReady s around i (slot_at s i)
+  around_window = ready_window s around i asked.ready
 
-  -- what `p999` told is within the limit
-  pub next_asks : {p : Option ℕ} {current k : ℕ} → p ≡ p999_of s.policy (window_for s l i slot) → current ≡ current_of slot → k ≡ 600
-      → Asked s.policy (held slot.hold (part (i * 600) k l.times) (part (i * 600) k l.peaks)) p current
+  -- what `p999` asks
+  pub auto_p999 : P999Asked s slot i starts sums
+  auto_p999 = record {
+    totals = asked.totals;
+    counts = asked.counts;
+    window =
+        subst (λ (x : Slot). WindowReady s (lists starts asked.totals asked.counts sums [] []) i x) (sym is-slot)
+        (let w = around_window in record { sound = w.sound; held = w.held; sums_in = w.sums_in; whole = w.whole; sums = w.sums });
+  }
+
+  -- what it told of every window whose sums these are, it told of the input's own
+  pub auto_told : {p : Option ℕ} → ((totals counts times peaks : List ℕ) → OwnSums s (lists starts totals counts sums times peaks) i slot → p ≡ p999_of s.policy (window_for s (lists starts totals counts sums times peaks) i slot))
+      → p ≡ p999_of s.policy (window_for s around i slot)
+  auto_told is-p = told_own s i starts sums times lags is-slot is-p asked.totals asked.counts around_window.sums
+
+  -- what it told of that is within the limit
+  pub next_asks : {p : Option ℕ} {current k : ℕ} → p ≡ p999_of s.policy (window_for s around i slot) → current ≡ current_of slot → k ≡ 600
+      → Asked s.policy (held slot.hold (part (i * 600) k times) (part (i * 600) k lags)) p current
   next_asks {p} is-p is-current is-k =
-      let r : Ready s l i = asked.ready in
+      let r : Ready s around i = asked.ready in
       record {
         width = s.width;
         asked =
@@ -90,10 +97,10 @@ module _ (s : Inputs) (l : Lists) (i : ℕ) (asked : AutoAsked s l i) {slot : Sl
               window_least = r.fitting.allowed.window_least;
               window_most = r.fitting.allowed.window_most;
               width_most = r.fitting.allowed.width_most;
-              times_long = ap (λ (x : ℕ). length (part (i * 600) x l.times)) is-k ∙ held_times s l r.fitting i r.input;
-              lags_long = ap (λ (x : ℕ). length (part (i * 600) x l.peaks)) is-k ∙ held_lags s l r.fitting i r.input;
-              whole = (λ t. whole_hold s.policy s.width (held (is-slot t).hold (part (i * 600) (is-k t) l.times) (part (i * 600) (is-k t) l.peaks))) ∙ r.hold;
-              current_in = subst (λ (x : ℕ). x ≤ s.policy.delay_max) (sym (is-current ∙ ap current_of is-slot)) (current_fits s l i r);
-              p999_in = ap (λ (x : Option ℕ). lag_up_to x (peak_most s.policy s.width)) is-p ∙ p999_most s.policy (window_for s l i slot);
+              times_long = ap (λ (x : ℕ). length (part (i * 600) x times)) is-k ∙ held_times s around r.fitting i r.input;
+              lags_long = ap (λ (x : ℕ). length (part (i * 600) x lags)) is-k ∙ held_lags s around r.fitting i r.input;
+              whole = (λ t. whole_hold s.policy s.width (held (is-slot t).hold (part (i * 600) (is-k t) times) (part (i * 600) (is-k t) lags))) ∙ r.hold;
+              current_in = subst (λ (x : ℕ). x ≤ s.policy.delay_max) (sym (is-current ∙ ap current_of is-slot)) (current_fits s around i r);
+              p999_in = ap (λ (x : Option ℕ). lag_up_to x (peak_most s.policy s.width)) is-p ∙ p999_most s.policy (window_for s around i slot);
             };
       }

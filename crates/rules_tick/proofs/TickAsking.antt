@@ -16,7 +16,8 @@ use Rattle.rules_record.specs.Sized.{Sized}
 use Rattle.rules_record.specs.Commands.{Sent, Did, quiet}
 use Rattle.rules_record.proofs.Sending.{did_by, did_quiet}
 use Rattle.rules_routing.specs.Watch.{moved_slot}
-use Rattle.rules_record.specs.Lent.{Lists}
+use Rattle.rules_record.specs.Lent.{Lists, lists}
+use Rattle.rules_record.specs.Facts.{OwnSums}
 use Rattle.rules_record.specs.Effects.{Effect, silent, beside, Effected}
 use Rattle.rules_record.proofs.Effects.{effected_by, effected_silent, effected_done}
 use Rattle.rules_tick.specs.Lags.{arrived, largest_of}
@@ -35,13 +36,24 @@ use Rattle.rules_tick.specs.TickAsked.{InputAsked}
 use Rattle.rules_tick.proofs.Following.{effected_then}
 use Rattle.rules_tick.proofs.Looking.{looked_ready, looked_changes}
 
+-- what the lags leave, said of every times and peaks, of lists whose own are as they were
+pub arrived_kept : (i time : ℕ) (lags : List ℕ) (s : Inputs) (l m : Lists) {answer : Inputs}
+    → ((times peaks : List ℕ) → silent answer (lists m.starts m.totals m.counts m.sums times peaks) ≡ arrived i time lags s (lists l.starts l.totals l.counts l.sums times peaks))
+    → m.times ≡ l.times → m.peaks ≡ l.peaks
+    → silent answer m ≡ arrived i time lags s l
+arrived_kept i time lags s l m is-arrived is-times is-peaks =
+    is-arrived m.times m.peaks ∙ (λ t. arrived i time lags s (lists l.starts l.totals l.counts l.sums (is-times t) (is-peaks t)))
+
 -- ---- what the steps ask
 module _ (s : Inputs) (l : Lists) (i : ℕ) (look : Look) (lags : List ℕ) (time : ℕ) (sized : Sized s) (soon : time ≤ time_limit) (asked : InputAsked s l i look (length lags) time) where
   pub low : i < 16
   low = ready_low s l i asked.ready
 
-  pub arrive_asks : ArriveAsked s l i time (length lags)
-  arrive_asks = record { window = ready_window s l i asked.ready; timely = soon; room = asked.room }
+  -- of the lists of the windows, whatever the peaks are
+  pub arrive_asks : (times peaks : List ℕ) → ArriveAsked s (lists l.starts l.totals l.counts l.sums times peaks) i time (length lags)
+  arrive_asks times peaks =
+      let w = ready_window s l i asked.ready in
+      record { window = record { sound = w.sound; held = w.held; sums_in = w.sums_in; whole = w.whole; sums = w.sums }; timely = soon; room = asked.room }
 
   abbrev first : Inputs
   first = (arrived i time lags s l).inputs
@@ -102,11 +114,17 @@ module _ (s : Inputs) (l : Lists) (i : ℕ) (look : Look) (lags : List ℕ) (tim
         third_changes : (slot_at third i).delay_changes < counter_limit
         third_changes = subst (λ (n : ℕ). n < counter_limit) (sym (looked_changes second left i second_ready time soon second_sized look)) changes_fit
 
-        pub auto_asks : AutoAsked seen.inputs m i
+        pub auto_asks : AutoAsked seen.inputs i m.starts m.sums m.times m.peaks
         auto_asks = record {
+          totals = m.totals;
+          counts = m.counts;
           ready = third_ready;
           changes = subst (λ (x : Inputs). (slot_at x i).delay_changes < counter_limit) (sym third_is) third_changes;
         }
+
+        -- the sums that the lags left are those of the counts that they left
+        pub auto_sums : OwnSums seen.inputs m i (slot_at seen.inputs i)
+        auto_sums = (ready_window seen.inputs m i third_ready).sums
 
 -- ---- the steps in a row
 module _ (i : ℕ) (look : Look) (lags : List ℕ) (time : ℕ) (s : Inputs) (l : Lists) (slot : Slot) {heard_slot : Slot} {largest : Option ℕ} {seen answer : Sent} {m after_all : Lists} {before middle after : List ℕ} {used : ℕ}

@@ -52,7 +52,9 @@ pub record Ready (s : Inputs) (l : Lists) (i : ℕ) : Type 0 where
   pub delay : (slot_at s i).delay ≤ s.policy.delay_max
   pub proposed : proposal_fits (slot_at s i).proposed s.policy.delay_max ≡ true
 
--- what `auto_delay` asks: an input that is ready; and 6 of one counter
-pub record AutoAsked (s : Inputs) (l : Lists) (i : ℕ) : Type 0 where
-  pub ready : Ready s l i
+-- what `auto_delay` asks of the lists that it reads: that with some totals and counts the input is ready; and 6 of one counter
+pub record AutoAsked (s : Inputs) (i : ℕ) (starts sums times lags : List ℕ) : Type 0 where
+  pub totals : List ℕ
+  pub counts : List ℕ
+  pub ready : Ready s (lists starts totals counts sums times lags) i
   pub changes : (slot_at s i).delay_changes < counter_limit

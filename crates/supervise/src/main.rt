@@ -2,7 +2,9 @@
 // A line becomes a request (text_read), a request an answer (text_alone, text_called, text_crafted), an answer a line (text_shown).
 #![tactic(auto)]
 
-use rules_record::Inputs;
+use delay_hold::HoldLists;
+use rules_record::{AllLists, AllView, Inputs};
+use rules_window::WindowLists;
 use std::io::{Read, Write};
 use text_alone::Alone;
 use text_answers::{Answer, Left};
@@ -11,7 +13,8 @@ use text_lending::{Lists, Places, buckets_in};
 use text_lines::{Cursor, Output};
 use text_print::Printer;
 use text_requests::lists::{MOST_LOADS, loads_at};
-use text_requests::{Call, Change, Known, Lone, Request};
+use text_requests::{Ask, Call, Change, HoldCall, Known, Lone, PutAsked, Request, WindowCall};
+use text_shown::ShownLists;
 
 // The input buffer: the longest line, its newline, and a little more.
 type Input = [u8; 1_048_640];
@@ -58,6 +61,150 @@ fn known(inputs: Inputs, alone: Alone) -> Known {
     }
 }
 
+// ---- each call is lent those of the lists that it needs
+fn on_window(call: WindowCall, kept: Alone, short: bool, lists: &mut Lists<'_>) -> Left<Alone> {
+    let starts = &mut *lists.starts;
+    let totals = &mut *lists.totals;
+    let counts = &mut *lists.counts;
+    let sums = &mut *lists.sums;
+    let mut own = WindowLists {
+        starts,
+        totals,
+        counts,
+        sums,
+    };
+    text_alone::on_window(call, kept, short, &mut own)
+}
+
+fn on_hold(call: HoldCall, kept: Alone, short: bool, lists: &mut Lists<'_>) -> Left<Alone> {
+    let times = &mut *lists.times;
+    let lags = &mut *lists.peaks;
+    let mut own = HoldLists { times, lags };
+    text_alone::on_hold(call, kept, short, &mut own)
+}
+
+fn craft_rows(s: &[u8], at: usize, buckets: usize, lists: &mut Lists<'_>) {
+    let starts = &mut *lists.starts;
+    let totals = &mut *lists.totals;
+    let counts = &mut *lists.counts;
+    let sums = &mut *lists.sums;
+    let mut own = WindowLists {
+        starts,
+        totals,
+        counts,
+        sums,
+    };
+    text_crafted::rows(s, at, buckets, Places::LONE, &mut own);
+}
+
+fn craft_peaks(s: &[u8], at: usize, n: usize, lists: &mut Lists<'_>) {
+    let times = &mut *lists.times;
+    let lags = &mut *lists.peaks;
+    let mut own = HoldLists { times, lags };
+    text_crafted::peaks(s, at, n, Places::LONE, &mut own);
+}
+
+fn change(
+    call: Change,
+    kept: Inputs,
+    short: bool,
+    s: &[u8],
+    flows: &[u8],
+    lists: &mut Lists<'_>,
+) -> Left<Inputs> {
+    let starts = &mut *lists.starts;
+    let totals = &mut *lists.totals;
+    let counts = &mut *lists.counts;
+    let sums = &mut *lists.sums;
+    let times = &mut *lists.times;
+    let peaks = &mut *lists.peaks;
+    let commands = &mut *lists.commands;
+    let mut own = AllLists {
+        starts,
+        totals,
+        counts,
+        sums,
+        times,
+        peaks,
+    };
+    text_called::change(call, kept, short, s, flows, lists.heard, &mut own, commands)
+}
+
+fn ask(call: Ask, kept: Inputs, short: bool, lists: &mut Lists<'_>) -> Answer {
+    let starts = &*lists.starts;
+    let totals = &*lists.totals;
+    let counts = &*lists.counts;
+    let sums = &*lists.sums;
+    let times = &*lists.times;
+    let peaks = &*lists.peaks;
+    let file = &mut *lists.bytes;
+    let seen = AllView {
+        starts,
+        totals,
+        counts,
+        sums,
+        times,
+        peaks,
+    };
+    text_called::ask(call, kept, short, seen, file)
+}
+
+fn craft(asked: PutAsked, kept: Inputs, s: &[u8], lists: &mut Lists<'_>) -> Inputs {
+    let starts = &mut *lists.starts;
+    let totals = &mut *lists.totals;
+    let counts = &mut *lists.counts;
+    let sums = &mut *lists.sums;
+    let times = &mut *lists.times;
+    let peaks = &mut *lists.peaks;
+    let mut own = AllLists {
+        starts,
+        totals,
+        counts,
+        sums,
+        times,
+        peaks,
+    };
+    text_crafted::put(kept, asked, buckets_in(kept), s, &mut own)
+}
+
+fn show<W: Write>(
+    output: &mut Output<'_, W>,
+    answer: Answer,
+    full: bool,
+    inputs: Inputs,
+    alone: Alone,
+    lists: &Lists<'_>,
+) {
+    let starts = &*lists.starts;
+    let totals = &*lists.totals;
+    let counts = &*lists.counts;
+    let times = &*lists.times;
+    let peaks = &*lists.peaks;
+    let commands = &*lists.commands;
+    let bytes = &*lists.bytes;
+    let heard = &*lists.heard;
+    let seen = ShownLists {
+        starts,
+        totals,
+        counts,
+        times,
+        peaks,
+        commands,
+        bytes,
+        heard,
+    };
+    text_shown::show(
+        output,
+        answer,
+        full,
+        inputs,
+        buckets_in(inputs),
+        alone.window,
+        alone.hold,
+        seen,
+    );
+}
+
 // ---- calls alone
 // How many bytes of a file a line brings: they go to the output buffer, whose answers are written out first.
 fn bring<W: Write>(output: &mut Output<'_, W>, request: Lone, s: &[u8]) -> usize {
@@ -82,8 +229,8 @@ fn lone(
             left: kept,
             answer: text_alone::number(call),
         },
-        Lone::Window(call) => text_alone::on_window(call, kept, short, lists),
-        Lone::Hold(call) => text_alone::on_hold(call, kept, short, lists),
+        Lone::Window(call) => on_window(call, kept, short, lists),
+        Lone::Hold(call) => on_hold(call, kept, short, lists),
         Lone::Coalesce(call) => text_alone::on_coalesce(call, kept),
         Lone::Schedule(call) => text_alone::on_schedule(call, kept),
         Lone::ReadDelays(_) => {
@@ -96,7 +243,7 @@ fn lone(
         }
         Lone::WindowSet(asked) => {
             let mut window = kept.window;
-            text_crafted::rows(s, asked.at, window.buckets, Places::LONE, lists);
+            craft_rows(s, asked.at, window.buckets, lists);
             window.seconds = asked.seconds;
             Left {
                 left: Alone { window, ..kept },
@@ -112,7 +259,7 @@ fn lone(
         }
         Lone::HoldSet(asked) => {
             let hold = asked.hold;
-            text_crafted::peaks(s, asked.at, hold.peaks, Places::LONE, lists);
+            craft_peaks(s, asked.at, hold.peaks, lists);
             Left {
                 left: Alone { hold, ..kept },
                 answer: Answer::Done,
@@ -143,17 +290,16 @@ impl<W: Write> Program<'_, W> {
         match call {
             // A dry tick is read, and nothing is done.
             Call::Change(Change::Tick(asked)) if asked.dry => Answer::Dry,
-            Call::Change(change) => {
-                load(&mut self.output, change, s, &mut self.lists);
+            Call::Change(call) => {
+                load(&mut self.output, call, s, &mut self.lists);
                 let flows = self.output.printer.first(LOADED);
-                let done = text_called::change(change, inputs, short, s, flows, &mut self.lists);
+                let done = change(call, inputs, short, s, flows, &mut self.lists);
                 self.inputs = done.left;
                 done.answer
             }
-            Call::Ask(ask) => text_called::ask(ask, inputs, short, &mut self.lists),
+            Call::Ask(call) => ask(call, inputs, short, &mut self.lists),
             Call::Put(asked) => {
-                let buckets = buckets_in(inputs);
-                self.inputs = text_crafted::put(inputs, asked, buckets, s, &mut self.lists);
+                self.inputs = craft(asked, inputs, s, &mut self.lists);
                 Answer::Done
             }
         }
@@ -168,15 +314,12 @@ impl<W: Write> Program<'_, W> {
 
     fn show(&mut self, answer: Answer) {
         let state = self.state;
-        let alone = state.alone;
-        text_shown::show(
+        show(
             &mut self.output,
             answer,
             state.full,
             self.inputs,
-            buckets_in(self.inputs),
-            alone.window,
-            alone.hold,
+            state.alone,
             &self.lists,
         );
     }

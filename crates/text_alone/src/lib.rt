@@ -9,7 +9,7 @@ use sources::Schedule;
 use state::Coalesce;
 use text_answers::inner::answer_of;
 use text_answers::{Answer, Left};
-use text_lending::{Lists, Places, buckets, cut, file_sizes, places_from};
+use text_lending::{Places, buckets, cut, file_sizes, places_from};
 use text_requests::{CoalesceCall, HoldCall, NumberCall, ScheduleCall, WindowCall};
 
 mod clocks;
@@ -57,55 +57,81 @@ pub fn number(call: NumberCall) -> Answer {
     numbers::answer(call)
 }
 
+// A call on the window, on parts of lists. They come singly: a part that goes straight into a struct is not followed.
+fn on_own_seconds(
+    call: WindowCall,
+    kept: LagWindow,
+    starts: &mut [u64],
+    totals: &mut [u64],
+    counts: &mut [u32],
+    sums: &mut [u64],
+) -> Left<LagWindow> {
+    let mut own = WindowLists {
+        starts,
+        totals,
+        counts,
+        sums,
+    };
+    windows::answer(call, kept, &mut own)
+}
+
 // A call on the window, on its places of the lists.
 pub fn on_window(
     call: WindowCall,
     alone: Alone,
     short: bool,
-    lists: &mut Lists<'_>,
+    lists: &mut WindowLists<'_>,
 ) -> Left<Alone> {
     let kept = alone.window;
     let buckets = buckets_for(call, kept);
-    let seconds = places_from(
-        Places::LONE.seconds,
-        cut(LagWindow::SECONDS, short),
-        lists.starts.len(),
-    );
-    let counts = places_from(
-        Places::LONE.counts,
-        cut(LagWindow::SECONDS.saturating_mul(buckets), short),
-        lists.counts.len(),
-    );
-    let sums = places_from(Places::LONE.sums, cut(buckets, short), lists.sums.len());
-    // The borrow checker covers parts of a list that stands alone, so each is taken first.
-    let all_starts = &mut *lists.starts;
-    let all_totals = &mut *lists.totals;
-    let all_counts = &mut *lists.counts;
-    let all_sums = &mut *lists.sums;
-    let mut lent = WindowLists {
-        starts: &mut all_starts[seconds.from..seconds.to],
-        totals: &mut all_totals[seconds.from..seconds.to],
-        counts: &mut all_counts[counts.from..counts.to],
-        sums: &mut all_sums[sums.from..sums.to],
-    };
-    windows::answer(call, kept, &mut lent).map(|window| Alone { window, ..alone })
+    let seconds = cut(LagWindow::SECONDS, short);
+    let cells = cut(LagWindow::SECONDS.saturating_mul(buckets), short);
+    let seen = lists.view();
+    let a = places_from(Places::LONE.seconds, seconds, seen.starts.len());
+    let b = places_from(Places::LONE.seconds, seconds, seen.totals.len());
+    let c = places_from(Places::LONE.counts, cells, seen.counts.len());
+    let d = places_from(Places::LONE.sums, cut(buckets, short), seen.sums.len());
+    on_own_seconds(
+        call,
+        kept,
+        &mut lists.starts[a.from..a.to],
+        &mut lists.totals[b.from..b.to],
+        &mut lists.counts[c.from..c.to],
+        &mut lists.sums[d.from..d.to],
+    )
+    .map(|window| Alone { window, ..alone })
+}
+
+// A call on the hold, on parts of lists, which come singly as to `on_own_seconds`.
+fn on_own_peaks(
+    call: HoldCall,
+    kept: DelayHold,
+    times: &mut [u64],
+    lags: &mut [u32],
+) -> Left<DelayHold> {
+    let mut own = HoldLists { times, lags };
+    holds::answer(call, kept, &mut own)
 }
 
 // A call on the hold, on its places of the lists.
-pub fn on_hold(call: HoldCall, alone: Alone, short: bool, lists: &mut Lists<'_>) -> Left<Alone> {
+pub fn on_hold(
+    call: HoldCall,
+    alone: Alone,
+    short: bool,
+    lists: &mut HoldLists<'_>,
+) -> Left<Alone> {
     let kept = alone.hold;
-    let at = places_from(
-        Places::LONE.peaks,
-        cut(DelayHold::PLACES, short),
-        lists.times.len(),
-    );
-    let times = &mut *lists.times;
-    let peaks = &mut *lists.peaks;
-    let mut lent = HoldLists {
-        times: &mut times[at.from..at.to],
-        lags: &mut peaks[at.from..at.to],
-    };
-    holds::answer(call, kept, &mut lent).map(|hold| Alone { hold, ..alone })
+    let n = cut(DelayHold::PLACES, short);
+    let seen = lists.view();
+    let a = places_from(Places::LONE.peaks, n, seen.times.len());
+    let b = places_from(Places::LONE.peaks, n, seen.lags.len());
+    on_own_peaks(
+        call,
+        kept,
+        &mut lists.times[a.from..a.to],
+        &mut lists.lags[b.from..b.to],
+    )
+    .map(|hold| Alone { hold, ..alone })
 }
 
 pub fn on_coalesce(call: CoalesceCall, alone: Alone) -> Left<Alone> {

@@ -6,7 +6,7 @@ use policy::DelayPolicy;
 use rules_record::{AllLists, AllView, Inputs};
 use text_answers::inner::{answer_of, left_with};
 use text_answers::{Answer, Left, left_by};
-use text_lending::{Lists, file_sizes, first, sizes_for};
+use text_lending::{file_sizes, first, sizes_for};
 use text_requests::lists::{kinds_at, looks_at};
 use text_requests::{Ask, Call, Change};
 
@@ -137,72 +137,81 @@ fn asking(call: Ask, kept: Inputs, lists: AllView<'_>, file: &mut [u8]) -> Answe
     }
 }
 
+// The calls that change the record, on parts of lists. They come singly: a part that goes straight into a struct is not followed.
+fn changing_own(
+    call: Change,
+    kept: Inputs,
+    s: &[u8],
+    flows: &[u8],
+    heard: &[u32],
+    starts: &mut [u64],
+    totals: &mut [u64],
+    counts: &mut [u32],
+    sums: &mut [u64],
+    times: &mut [u64],
+    peaks: &mut [u32],
+    commands: &mut [u32],
+) -> Left<Inputs> {
+    let mut own = AllLists {
+        starts,
+        totals,
+        counts,
+        sums,
+        times,
+        peaks,
+    };
+    changing(call, kept, s, flows, heard, &mut own, commands)
+}
+
 // A call that changes the record, lent as much of each list as it asks for. Its lists of the line are read here; the delays that `new` loads, and
-// the lags of a tick, are the first that were heard, and the flows of those delays the first bytes of `flows`.
+// the lags of a tick, are the first of `heard`, and the flows of those delays the first bytes of `flows`.
 pub fn change(
     call: Change,
     kept: Inputs,
     short: bool,
     s: &[u8],
     flows: &[u8],
-    lists: &mut Lists<'_>,
+    heard: &[u32],
+    lists: &mut AllLists<'_>,
+    commands: &mut [u32],
 ) -> Left<Inputs> {
     let sizes = sizes_for(Call::Change(call), kept, short);
-    let seconds = sizes.seconds.min(lists.starts.len());
-    let cells = sizes.counts.min(lists.counts.len());
-    let buckets = sizes.sums.min(lists.sums.len());
-    let held = sizes.peaks.min(lists.times.len());
-    let words = sizes.words.min(lists.commands.len());
-    // The borrow checker covers parts of a list that stands alone, so each is taken first.
-    let starts = &mut *lists.starts;
-    let totals = &mut *lists.totals;
-    let counts = &mut *lists.counts;
-    let sums = &mut *lists.sums;
-    let times = &mut *lists.times;
-    let peaks = &mut *lists.peaks;
-    let commands = &mut *lists.commands;
-    let mut lent = AllLists {
-        starts: &mut starts[..seconds],
-        totals: &mut totals[..seconds],
-        counts: &mut counts[..cells],
-        sums: &mut sums[..buckets],
-        times: &mut times[..held],
-        peaks: &mut peaks[..held],
-    };
-    changing(
+    let seen = lists.view();
+    let a = sizes.seconds.min(seen.starts.len());
+    let b = sizes.seconds.min(seen.totals.len());
+    let c = sizes.counts.min(seen.counts.len());
+    let d = sizes.sums.min(seen.sums.len());
+    let e = sizes.peaks.min(seen.times.len());
+    let f = sizes.peaks.min(seen.peaks.len());
+    let words = sizes.words.min(commands.len());
+    changing_own(
         call,
         kept,
         s,
         flows,
-        lists.heard,
-        &mut lent,
+        heard,
+        &mut lists.starts[0..a],
+        &mut lists.totals[0..b],
+        &mut lists.counts[0..c],
+        &mut lists.sums[0..d],
+        &mut lists.times[0..e],
+        &mut lists.peaks[0..f],
         &mut commands[0..words],
     )
 }
 
-// A call that changes nothing of the record, lent as much of each list as it asks for. A delay file goes to the bytes.
-pub fn ask(call: Ask, kept: Inputs, short: bool, lists: &mut Lists<'_>) -> Answer {
+// A call that changes nothing of the record, shown as much of each list as it asks for. A delay file goes to `file`.
+pub fn ask(call: Ask, kept: Inputs, short: bool, lists: AllView<'_>, file: &mut [u8]) -> Answer {
     let sizes = sizes_for(Call::Ask(call), kept, short);
     let files = file_sizes(short);
-    let seconds = sizes.seconds.min(lists.starts.len());
-    let cells = sizes.counts.min(lists.counts.len());
-    let buckets = sizes.sums.min(lists.sums.len());
-    let held = sizes.peaks.min(lists.times.len());
-    let length = files.file.min(lists.bytes.len());
-    let starts = &*lists.starts;
-    let totals = &*lists.totals;
-    let counts = &*lists.counts;
-    let sums = &*lists.sums;
-    let times = &*lists.times;
-    let peaks = &*lists.peaks;
-    let file = &mut *lists.bytes;
     let seen = AllView {
-        starts: &starts[..seconds],
-        totals: &totals[..seconds],
-        counts: &counts[..cells],
-        sums: &sums[..buckets],
-        times: &times[..held],
-        peaks: &peaks[..held],
+        starts: first(lists.starts, sizes.seconds),
+        totals: first(lists.totals, sizes.seconds),
+        counts: first(lists.counts, sizes.counts),
+        sums: first(lists.sums, sizes.sums),
+        times: first(lists.times, sizes.peaks),
+        peaks: first(lists.peaks, sizes.peaks),
     };
+    let length = files.file.min(file.len());
     asking(call, kept, seen, &mut file[0..length])
 }

@@ -2,10 +2,11 @@
 // Its words were read before (crate text_read): here they are stored. Of more rows or peaks than there are places only their number is kept.
 #![tactic(auto)]
 
-use delay_hold::DelayHold;
+use delay_hold::{DelayHold, HoldLists};
 use lag_window::LagWindow;
-use rules_record::{Inputs, Slot};
-use text_lending::{Lists, Places, Sums};
+use rules_record::{AllLists, Inputs, Slot};
+use rules_window::WindowLists;
+use text_lending::Places;
 use text_requests::lists::{Cell, Listed, Peak, Row};
 use text_requests::{Part, PutAsked, SumAsked};
 use text_scan::{ends, is_at};
@@ -20,7 +21,8 @@ fn put_at<T: Copy>(s: &mut [T], i: usize, value: T) {
 
 // n times the value from `first` on.
 fn fill<T: Copy>(s: &mut [T], first: usize, n: usize, value: T) {
-    for place in s.iter_mut().skip(first).take(n) {
+    let from = first.min(s.len());
+    for place in s[from..].iter_mut().take(n) {
         *place = value;
     }
 }
@@ -40,7 +42,7 @@ fn store_cells(r: &mut Reader<'_>, counts: &mut [u32], first: usize) {
 }
 
 // The rows from place `at` of the line on. No heap: each is stored as it is read, where `collect` would gather them first.
-fn store_rows(s: &[u8], at: usize, buckets: usize, places: Places, lists: &mut Lists<'_>) {
+fn store_rows(s: &[u8], at: usize, buckets: usize, places: Places, lists: &mut WindowLists<'_>) {
     let cells = LagWindow::SECONDS.saturating_mul(buckets);
     fill(lists.starts, places.seconds, LagWindow::SECONDS, 0);
     fill(lists.totals, places.seconds, LagWindow::SECONDS, 0);
@@ -74,7 +76,7 @@ fn column(counts: &[u32], first: usize, buckets: usize) -> u64 {
 }
 
 // The sums of the rows that are stored.
-fn sum_rows(buckets: usize, places: Places, lists: &mut Lists<'_>) {
+fn sum_rows(buckets: usize, places: Places, lists: &mut WindowLists<'_>) {
     for b in 0..buckets {
         let sum = column(lists.counts, places.counts.saturating_add(b), buckets);
         put_at(lists.sums, places.sums.saturating_add(b), sum);
@@ -82,28 +84,28 @@ fn sum_rows(buckets: usize, places: Places, lists: &mut Lists<'_>) {
 }
 
 // The rows from place `at` of the line on, with their sums.
-pub fn rows(s: &[u8], at: usize, buckets: usize, places: Places, lists: &mut Lists<'_>) {
+pub fn rows(s: &[u8], at: usize, buckets: usize, places: Places, lists: &mut WindowLists<'_>) {
     store_rows(s, at, buckets, places, lists);
     sum_rows(buckets, places, lists);
 }
 
 // One sum, right or not.
-pub fn sum(asked: SumAsked, places: Places, sums: &mut Sums) {
+pub fn sum(asked: SumAsked, places: Places, sums: &mut [u64]) {
     put_at(sums, places.sums.saturating_add(asked.bucket), asked.sum);
 }
 
 // ---- a hold
 // n peaks from place `at` of the line on.
-pub fn peaks(s: &[u8], at: usize, n: usize, places: Places, lists: &mut Lists<'_>) {
+pub fn peaks(s: &[u8], at: usize, n: usize, places: Places, lists: &mut HoldLists<'_>) {
     fill(lists.times, places.peaks, DelayHold::PLACES, 0);
-    fill(lists.peaks, places.peaks, DelayHold::PLACES, 0);
+    fill(lists.lags, places.peaks, DelayHold::PLACES, 0);
     let mut r = Reader { s, at };
     for i in 0..n.min(DelayHold::PLACES) {
         let Some(peak) = Peak::read(&mut r) else {
             return;
         };
         put_at(lists.times, places.peaks.saturating_add(i), peak.time);
-        put_at(lists.peaks, places.peaks.saturating_add(i), peak.lag);
+        put_at(lists.lags, places.peaks.saturating_add(i), peak.lag);
     }
 }
 
@@ -132,14 +134,26 @@ fn crafted(slot: Slot, part: Part) -> Slot {
 }
 
 // The part's rows, its peaks or its sum, in the places of input i, whose window has so many buckets a second.
-fn store(part: Part, i: usize, buckets: usize, s: &[u8], lists: &mut Lists<'_>) {
+fn store(part: Part, i: usize, buckets: usize, s: &[u8], lists: &mut AllLists<'_>) {
     let places = Places::of(i, buckets);
     match part {
-        Part::Window(w) => rows(s, w.at, buckets, places, lists),
+        Part::Window(w) => {
+            let mut windows = WindowLists {
+                starts: &mut *lists.starts,
+                totals: &mut *lists.totals,
+                counts: &mut *lists.counts,
+                sums: &mut *lists.sums,
+            };
+            rows(s, w.at, buckets, places, &mut windows);
+        }
         Part::Sum(asked) => sum(asked, places, lists.sums),
         Part::Hold(h) => {
             let hold = h.hold;
-            peaks(s, h.at, hold.peaks, places, lists);
+            let mut holds = HoldLists {
+                times: &mut *lists.times,
+                lags: &mut *lists.peaks,
+            };
+            peaks(s, h.at, hold.peaks, places, &mut holds);
         }
         Part::Counters(_) | Part::Delays(_) => {}
     }
@@ -151,7 +165,7 @@ pub fn put(
     asked: PutAsked,
     buckets: usize,
     s: &[u8],
-    lists: &mut Lists<'_>,
+    lists: &mut AllLists<'_>,
 ) -> Inputs {
     let i = asked.input;
     let part = asked.part;

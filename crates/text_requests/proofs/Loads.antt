@@ -12,9 +12,8 @@ use Rattle.std.proofs.lemmas.Nat.{from_be_bytes-to_be_bytes_8}
 use Rattle.byte_order.specs.Bytes.{bytes_at}
 use Rattle.byte_order.proofs.Written.{eight_bytes}
 use Rattle.rules_calls.specs.NewLoading.{loaded_flow}
-use Rattle.text_scan.specs.declared.Word.{Word}
 use Rattle.text_requests.specs.declared.lists.Load.{Load}
-use Rattle.text_requests.specs.Lists.{HalfPut, Loads, or_blank, no_load, load_at, loads_at, loaded_flows, loaded_as}
+use Rattle.text_requests.specs.Lists.{HalfPut, Loads, load_kept, loads_at, loaded_flows, loaded_as}
 use Rattle.text_requests.proofs.Loops.{stored, Listing, listing_none, listing_more, listing_done}
 
 -- ---- the bytes of a number, the first weighing most, put from a place on
@@ -68,21 +67,18 @@ flow_stored i {high} {low} {a} {b} {c} p q = rw (add-one i, before, is_high, is_
     is_low = ap (λ (place : ℕ). bytes_at c place 8) second ∙ q.there
 
 -- ---- the loaded delays
-abbrev load_or : (s : List ℕ) (at : ℕ) → Word Load
-load_or s at = or_blank (load_at s) no_load at
-
 -- the first i are stored, in lists that have room for all
 pub record Loading (s : List ℕ) (start n : ℕ) (bytes delays : List ℕ) (at i : ℕ) : Type 0 where
   pub room : (262144 ≤ length bytes) × (16384 ≤ length delays)
-  pub flows : Listing (λ (at : ℕ). (load_or s at).value.flow) (λ (at : ℕ). (load_or s at).next) (min n 16384) start (loaded_flows i bytes) at i
-  pub kept : Listing (λ (at : ℕ). (load_or s at).value.delay) (λ (at : ℕ). (load_or s at).next) (min n 16384) start (take i delays) at i
+  pub flows : Listing (λ (at : ℕ). (load_kept s at).value.flow) (λ (at : ℕ). (load_kept s at).next) (min n 16384) start (loaded_flows i bytes) at i
+  pub kept : Listing (λ (at : ℕ). (load_kept s at).value.delay) (λ (at : ℕ). (load_kept s at).next) (min n 16384) start (take i delays) at i
 
 module _ {s : List ℕ} {start n : ℕ} where
   pub loading_none : {bytes delays : List ℕ} → (262144 ≤ length bytes) × (16384 ≤ length delays) → Loading s start n bytes delays start 0
   loading_none h = record { room = h; flows = listing_none; kept = listing_none }
 
   module _ {bytes delays : List ℕ} {at i : ℕ} (inv : Loading s start n bytes delays at i) where
-    pub loading_more : i < min n 16384 → {load : Load} → load ≡ (load_or s at).value → {next : ℕ} → next ≡ (load_or s at).next
+    pub loading_more : i < min n 16384 → {load : Load} → load ≡ (load_kept s at).value → {next : ℕ} → next ≡ (load_kept s at).next
         → {between after : List ℕ} → HalfPut (i * 2 * 8) load.flow.high bytes between → length between ≡ length bytes
         → HalfPut ((i * 2 + 1) * 8) load.flow.low between after → length after ≡ length between → Loading s start n after (set delays i load.delay) next (i + 1)
     loading_more h {load} e f p l q m = record {

@@ -86,44 +86,72 @@ loads_end s at n = times (load_at s) n at
 unfoldable pub peaks_end : (s : List ℕ) (at n : ℕ) → Option ℕ
 peaks_end s at n = times (peak_at s) n at
 
--- ---- so many of them from a place on, the next at the place after it; where one is not there it is none
-abbrev pub or_blank : {A : Type 0} → (one : ℕ → Option (Word A)) (none : A) (at : ℕ) → Word A
-or_blank one none at = unwrap_or (one at) (word none at)
+-- ---- one of a list as it is kept, wrong or not: each of its words as it stands there, or none, and after a wrong word nothing more is read
+-- a place that no line has: no word stands there
+abbrev pub lost : ℕ
+lost = 18446744073709551615
 
+abbrev pub or_lost : {A : Type 0} → (none : A) → Option (Word A) → Word A
+or_lost none found = unwrap_or found (word none lost)
+
+-- a kind; where none stands there, it is automatic
+unfoldable pub kind_kept : (s : List ℕ) (at : ℕ) → Word ExtraDelay
+kind_kept s at =
+    let kind = or_lost None (kind_at s at space) in
+    word (kind_of kind.value) kind.next
+
+-- a look
+unfoldable pub look_kept : (s : List ℕ) (at : ℕ) → Word Look
+look_kept s at =
+    let watch = or_lost None (maybe_u64_at s at space) in
+    let opens = or_lost None (maybe_u64_at s watch.next comma) in
+    let make = or_lost false (bit_at s opens.next comma) in
+    let channels = or_lost None (maybe_u32_at s make.next comma) in
+    let head = or_lost 0 (u64_at s channels.next comma) in
+    let applied = or_lost 0 (u32_at s head.next comma) in
+    let count = or_lost 0 (u32_at s applied.next comma) in
+    let world : World = record { inode = opens.value; made = make.value; reader = channels.value; head = head.value } in
+    word (record { seen = watch.value; world = world; applied = applied.value; lags = count.value }) count.next
+
+-- a loaded delay
+unfoldable pub load_kept : (s : List ℕ) (at : ℕ) → Word Load
+load_kept s at =
+    let flow = or_lost 0 (flow_at s at space) in
+    let delay = or_lost 0 (u32_at s flow.next equals) in
+    word (record { flow = flow_of flow.value; delay = delay.value }) delay.next
+
+-- ---- so many of them from a place on, the next at the place after it
 abbrev pub listed : {A : Type 0} → (one : ℕ → A) (after : ℕ → ℕ) (n at : ℕ) → List A
 listed one after zero at = []
 listed one after (suc n) at = one at ∷ listed one after n (after at)
 
-abbrev pub in_line : {A B : Type 0} → (f : A → B) (one : ℕ → Option (Word A)) (none : A) (n at : ℕ) → List B
-in_line f one none n at = listed (λ (at : ℕ). f (or_blank one none at).value) (λ (at : ℕ). (or_blank one none at).next) n at
+abbrev pub in_line : {A B : Type 0} → (f : A → B) (one : ℕ → Word A) (n at : ℕ) → List B
+in_line f one n at = listed (λ (at : ℕ). f (one at).value) (λ (at : ℕ). (one at).next) n at
 
 -- in 16 places the first n, at most 16, and after them none
-unfoldable pub sixteen : {A : Type 0} → (one : ℕ → Option (Word A)) (none : A) (n at : ℕ) → List A
-sixteen one none n at = in_line (λ x. x) one none (min n 16) at ++ replicate (16 - n) none
+unfoldable pub sixteen : {A : Type 0} → (one : ℕ → Word A) (none : A) (n at : ℕ) → List A
+sixteen one none n at = in_line (λ x. x) one (min n 16) at ++ replicate (16 - n) none
 
 -- `new`: n kinds; an input that does not exist is automatic
 unfoldable pub kinds_at : (s : List ℕ) (at n : ℕ) → List ExtraDelay
-kinds_at s at n = sixteen (kind_one s) (Auto auto-tag) n at
+kinds_at s at n = sixteen (kind_kept s) (Auto auto-tag) n at
 
 -- `tick`: a look for each input; nothing is seen of an input that does not exist
 abbrev pub nothing_seen : Look
 nothing_seen = record { seen = None; world = record { inode = None; made = false; reader = None; head = 0 }; applied = 0; lags = 0 }
 
 unfoldable pub looks_at : (s : List ℕ) (at n : ℕ) → List Look
-looks_at s at n = sixteen (look_at s) nothing_seen n at
+looks_at s at n = sixteen (look_kept s) nothing_seen n at
 
 -- `new`: k times flow=delay, of which 16,384 have room
 pub record Loads : Type 0 where
   pub flows : List Flow
   pub delays : List ℕ
 
-abbrev pub no_load : Load
-no_load = record { flow = record { high = 0; low = 0 }; delay = 0 }
-
 unfoldable pub loads_at : (s : List ℕ) (at n : ℕ) → Loads
 loads_at s at n = record {
-  flows = in_line (λ load. load.flow) (load_at s) no_load (min n 16384) at;
-  delays = in_line (λ load. load.delay) (load_at s) no_load (min n 16384) at;
+  flows = in_line (λ load. load.flow) (load_kept s) (min n 16384) at;
+  delays = in_line (λ load. load.delay) (load_kept s) (min n 16384) at;
 }
 
 -- what was stored of the first n: the flows as `new` reads their bytes, and the delays

@@ -2,7 +2,7 @@
 ghost use Rattle.std.specs.Prelude.{◌≡◌, ℕ, ◌+◌, ◌*◌, ◌≤◌, length, List, Option};
 ghost use Rattle.text_scan.specs.declared.Word.{Word};
 ghost use Rattle.text_words.specs.Words.{read_as, passed_as};
-ghost use Rattle.text_requests.specs.Lists.{kind_one, look_at, load_at, row_at, cell_at, peak_at, times, or_blank, sixteen, kinds_at, looks_at, loads_at, loaded_as, HalfPut, heard_as, lags_at, cells_end, rows_at};
+ghost use Rattle.text_requests.specs.Lists.{kind_one, look_at, load_at, row_at, cell_at, peak_at, times, or_lost, kind_kept, look_kept, load_kept, sixteen, kinds_at, looks_at, loads_at, loaded_as, HalfPut, heard_as, lags_at, cells_end, rows_at};
 
 use crate::parts::{flow_of, kind_of};
 use rules_record::{AutoTag, ExtraDelay, Flow};
@@ -13,6 +13,9 @@ use text_words::Reader;
 
 // The most delays that are loaded.
 pub const MOST_LOADS: usize = 16_384;
+
+// A place that no line has: no word stands there.
+const LOST: usize = usize::MAX;
 
 // ---- one of a list
 pub trait Listed: Copy {
@@ -130,6 +133,75 @@ impl Listed for Peak {
     }
 }
 
+// ---- one of a list as it is kept, wrong or not
+// The word that was found; where none was, the blank, and the reader is lost: nothing more is read, and no wrong word is read again.
+fn or_lost<T: Copy>(found: Option<T>, none: T, r: &mut Reader<'_>) -> T
+    ensures value { result ≡ (or_lost none (read_as r.old.at found)).value }
+    ensures read { r.new.at ≡ (or_lost none (read_as r.old.at found)).next }
+    ensures same { r.new.s.now ≡ r.old.s.now }
+{
+    let Some(value) = found else {
+        r.at = LOST;
+        return none;
+    };
+    value
+}
+
+// Each word up to the first wrong one, and blanks from there on; `pass` tells whether all are there.
+trait Kept: Copy {
+    ghost kept_at: { List ℕ → ℕ → Word Self };
+
+    fn keep(r: &mut Reader<'_>) -> Self
+        ensures value { result ≡ (kept_at r.old.s.now r.old.at).value }
+        ensures read { r.new.at ≡ (kept_at r.old.s.now r.old.at).next }
+        ensures same { r.new.s.now ≡ r.old.s.now };
+}
+
+impl Kept for ExtraDelay {
+    ghost kept_at = { kind_kept };
+
+    #[tactic(auto, unfolding(crate::specs::Lists::kind_kept))]
+    fn keep(r: &mut Reader<'_>) -> ExtraDelay {
+        let kind = or_lost(r.kind(b' '), None, r);
+        kind_of(kind)
+    }
+}
+
+impl Kept for Look {
+    ghost kept_at = { look_kept };
+
+    #[tactic(auto, unfolding(crate::specs::Lists::look_kept))]
+    fn keep(r: &mut Reader<'_>) -> Look {
+        let watch = or_lost(r.maybe_u64(b' '), None, r);
+        let open = or_lost(r.maybe_u64(b','), None, r);
+        let world = World {
+            inode: open,
+            made: or_lost(r.bit(b','), false, r),
+            reader: or_lost(r.maybe_u32(b','), None, r),
+            head: or_lost(r.u64(b','), 0, r),
+        };
+        Look {
+            seen: watch,
+            world,
+            applied: or_lost(r.u32(b','), 0, r),
+            lags: or_lost(r.u32(b','), 0, r) as usize,
+        }
+    }
+}
+
+impl Kept for Load {
+    ghost kept_at = { load_kept };
+
+    #[tactic(auto, unfolding(crate::specs::Lists::load_kept))]
+    fn keep(r: &mut Reader<'_>) -> Load {
+        let flow = or_lost(r.flow(b' '), 0, r);
+        Load {
+            flow: flow_of(flow),
+            delay: or_lost(r.u32(b'='), 0, r),
+        }
+    }
+}
+
 // ---- so many
 // To the place after n of them.
 #[tactic(auto, using(crate::proofs::Loops::times_step, crate::proofs::Loops::times_end))]
@@ -143,28 +215,14 @@ pub fn pass<T: Listed>(r: &mut Reader<'_>, n: usize) -> Option<()>
     Some(())
 }
 
-// The next one; where it is not there the blank, and the reader stays.
-fn read_or<T: Listed>(r: &mut Reader<'_>, blank: T) -> T
-    ensures value { result ≡ (or_blank (T.one_at r.old.s.now) blank r.old.at).value }
-    ensures read { r.new.at ≡ (or_blank (T.one_at r.old.s.now) blank r.old.at).next }
-    ensures same { r.new.s.now ≡ r.old.s.now }
-{
-    let mut after = *r;
-    let Some(one) = T::read(&mut after) else {
-        return blank;
-    };
-    *r = after;
-    one
-}
-
 // The first n, at most 16, and blanks after them. By index: of `iter_mut().take(n)` no contract tells what the list then holds.
 #[tactic(auto, using(crate::proofs::Sixteen::filling_more, crate::proofs::Sixteen::all_filled), unfolding(crate::specs::Lists::sixteen))]
-fn sixteen<T: Listed>(mut r: Reader<'_>, n: usize, blank: T) -> [T; 16]
-    ensures { result ≡ sixteen (T.one_at r.entry.s.now) blank n r.entry.at }
+fn sixteen<T: Kept>(mut r: Reader<'_>, n: usize, blank: T) -> [T; 16]
+    ensures { result ≡ sixteen (T.kept_at r.entry.s.now) blank n r.entry.at }
 {
     let mut all = [blank; 16];
     for i in 0..n.min(16) {
-        all[i] = read_or(&mut r, blank);
+        all[i] = T::keep(&mut r);
     }
     all
 }
@@ -230,9 +288,8 @@ fn store_loads(mut r: Reader<'_>, n: usize, flows: &mut [u8], delays: &mut [u32]
     requires { (262144 ≤ length flows.old) × (16384 ≤ length delays.old) }
     ensures { loaded_as n flows.new delays.new ≡ loads_at r.entry.s.now r.entry.at n }
 {
-    let flow = Flow { high: 0, low: 0 };
     for i in 0..n.min(MOST_LOADS) {
-        let load = read_or(&mut r, Load { flow, delay: 0 });
+        let load = Load::keep(&mut r);
         put_half(flows, i * 2, load.flow.high);
         put_half(flows, i * 2 + 1, load.flow.low);
         delays[i] = load.delay;

@@ -6,7 +6,7 @@ use borrow.Author.Tests.{le-ltb, lt-ltb, le-leb}
 use lib.ListN.{drop_of_length-le, length-drop}
 use Rattle.base.proofs.Choices.{lt_rule}
 use Rattle.text_scan.specs.declared.Word.{Word}
-use Rattle.text_scan.specs.Scan.{word, first_of, digit_of, closed, digits_of}
+use Rattle.text_scan.specs.Scan.{word, first_of, after_text, digit_of, closed, digits_of}
 
 -- no byte from `to` on is looked at, and there is none from the line's end on
 pub first_end : (s : List ℕ) (to b i : ℕ) {x : Option ℕ} → x ≡ first_of to b i (drop i s) → min to (length s) ≤ i → None ≡ x
@@ -26,6 +26,14 @@ module _ (s : List ℕ) (base most from value i : ℕ) (h : length s ≤ i) (k :
 
   pub closed_last : {x w : Option (Word ℕ)} → x ≡ digits_of base most from value i (drop i s) → w ≡ closed from value (length s) → w ≡ x
   closed_last e q = q ∙ sym (rw (e, drop_of_length-le s h) same_end)
+
+pub digits_end_law : (s : List ℕ) (base most from value i : ℕ) {x r : Option (Word ℕ)} → x ≡ digits_of base most from value i (drop i s) → length s ≤ i → r ≡ closed from value i → r ≡ x
+digits_end_law s base most from value i e l t = t ∙ sym (rw (e, drop_of_length-le s l))
+
+-- a text of which nothing is left stood there
+pub text_end_law : (s text : List ℕ) (i j : ℕ) {x : Option ℕ} → x ≡ after_text s i (drop j text) → length text ≤ j → Some i ≡ x
+unfolding after_text
+text_end_law s text i j e l = sym (rw (e, drop_of_length-le text l))
 
 -- a number is no larger than it may be
 pub closed_at_most : (from value to most : ℕ) {w : Option (Word ℕ)} → w ≡ closed from value to → value ≤ most → IfSome w (λ w. w.value ≤ most)

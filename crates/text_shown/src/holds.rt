@@ -1,12 +1,13 @@
 // A hold: its peaks, and its fields from the last change on.
+use crate::ShownLists;
 use crate::words::{Word, put_words};
 use delay_hold::DelayHold;
 use std::io::Write;
-use text_lending::{Lists, Places};
+use text_lending::Places;
 use text_lines::Output;
 
 // Peak i: past the places that a hold has there are zeros.
-fn peak(i: usize, from: usize, lists: &Lists<'_>) -> Word {
+fn peak(i: usize, from: usize, lists: &ShownLists<'_>) -> Word {
     if DelayHold::PLACES <= i {
         return Word::Two(b' ', 0, b':', 0);
     }
@@ -19,16 +20,16 @@ fn peak(i: usize, from: usize, lists: &Lists<'_>) -> Word {
     )
 }
 
-// The greatest of n lags.
+// The greatest of n lags. The part is cut: `skip` would pass over the lags before it one by one.
 fn greatest(n: usize, from: usize, lags: &[u32]) -> u32 {
-    lags.iter()
-        .skip(from)
+    lags[from.min(lags.len())..]
+        .iter()
         .take(n)
         .fold(0, |most: u32, lag| most.max(*lag))
 }
 
 // The first peak of n, the last and the greatest lag.
-fn ends(n: usize, from: usize, lists: &Lists<'_>) -> [Word; 3] {
+fn ends(n: usize, from: usize, lists: &ShownLists<'_>) -> [Word; 3] {
     if n == 0 {
         return [Word::None; 3];
     }
@@ -57,7 +58,7 @@ pub(crate) fn show<W: Write>(
     full: bool,
     hold: DelayHold,
     places: Places,
-    lists: &Lists<'_>,
+    lists: &ShownLists<'_>,
 ) {
     let n = hold.peaks;
     Word::Head(b'H', n as u64).put(output);

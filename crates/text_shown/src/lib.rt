@@ -8,7 +8,7 @@ use rules_record::Inputs;
 use std::io::Write;
 use std::ops::Range;
 use text_answers::Answer;
-use text_lending::{Lists, Places};
+use text_lending::Places;
 use text_lines::Output;
 use words::{Word, put_words};
 
@@ -77,6 +77,19 @@ impl Part {
     }
 }
 
+// The lists that an answer shows, to be read.
+#[derive(Clone, Copy)]
+pub struct ShownLists<'a> {
+    pub starts: &'a [u64],
+    pub totals: &'a [u64],
+    pub counts: &'a [u32],
+    pub times: &'a [u64],
+    pub peaks: &'a [u32],
+    pub commands: &'a [u32],
+    pub bytes: &'a [u8],
+    pub heard: &'a [u32],
+}
+
 // Puts the answer's line out. A supervisor has so many buckets a second; the window and the hold alone have the lists' last places. The flows of a
 // delay file, or the file itself, are `bytes` of the lists, and its delays the first of `heard`.
 pub fn show<W: Write>(
@@ -87,18 +100,18 @@ pub fn show<W: Write>(
     buckets: usize,
     window: LagWindow,
     hold: DelayHold,
-    lists: &Lists<'_>,
+    lists: ShownLists<'_>,
 ) {
     show_words(output, answer);
     match answer {
         Answer::Status(status) => status::show(output, status),
         Answer::Delays(n) => files::show_delays(output, n, lists.bytes, lists.heard),
         Answer::File(n) => files::show_file(output, n, lists.bytes),
-        Answer::Window => windows::show(output, true, window, Places::LONE, lists),
-        Answer::Next(_) => holds::show(output, true, hold, Places::LONE, lists),
+        Answer::Window => windows::show(output, true, window, Places::LONE, &lists),
+        Answer::Next(_) => holds::show(output, true, hold, Places::LONE, &lists),
         Answer::Input(_) | Answer::All | Answer::Ticked(_) | Answer::Dump | Answer::Dry => {
             let part = Part::new(answer, full, inputs.count);
-            record::show(output, part, inputs, buckets, lists);
+            record::show(output, part, inputs, buckets, &lists);
         }
         _ => {}
     }

@@ -1,11 +1,11 @@
 // The record of a supervisor: the commands, the tables and the inputs.
 use crate::words::{Word, put_words};
-use crate::{Part, holds, tables, windows};
+use crate::{Part, ShownLists, holds, tables, windows};
 use inputs_flows::flow_at;
 use lag_window::LagWindow;
 use rules_record::{Inputs, Route, Slot};
 use std::io::Write;
-use text_lending::{Lists, Places};
+use text_lending::Places;
 use text_lines::Output;
 
 // ---- the commands
@@ -57,7 +57,7 @@ fn show_input<W: Write>(
     inputs: Inputs,
     i: usize,
     buckets: usize,
-    lists: &Lists<'_>,
+    lists: &ShownLists<'_>,
 ) {
     let slot = inputs_slots::slot_at(inputs, i);
     put_words(output, &numbers(inputs, i, slot));
@@ -77,7 +77,7 @@ pub(crate) fn show<W: Write>(
     part: Part,
     inputs: Inputs,
     buckets: usize,
-    lists: &Lists<'_>,
+    lists: &ShownLists<'_>,
 ) {
     let full = part.full;
     show_commands(output, part.commands, lists.commands);

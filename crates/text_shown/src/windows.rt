@@ -1,12 +1,13 @@
 // A window: its seconds, each with its row. Of a hold (`holds`) other lists and another end each are shown.
+use crate::ShownLists;
 use crate::words::{Word, put_words};
 use lag_window::LagWindow;
 use std::io::Write;
-use text_lending::{Lists, Places};
+use text_lending::Places;
 use text_lines::Output;
 
 // The start and the total of second i: past the places that a window has there are zeros.
-fn second(i: usize, from: usize, lists: &Lists<'_>) -> Word {
+fn second(i: usize, from: usize, lists: &ShownLists<'_>) -> Word {
     if LagWindow::SECONDS <= i {
         return Word::Two(b' ', 0, b':', 0);
     }
@@ -21,7 +22,8 @@ fn second(i: usize, from: usize, lists: &Lists<'_>) -> Word {
 
 // A row: each bucket that has lags, and how many.
 fn show_row<W: Write>(output: &mut Output<'_, W>, buckets: usize, counts: &[u32], first: usize) {
-    for (bucket, count) in counts.iter().skip(first).take(buckets).enumerate() {
+    let from = first.min(counts.len());
+    for (bucket, count) in counts[from..].iter().take(buckets).enumerate() {
         if *count != 0 {
             Word::Two(b',', bucket as u64, b'=', *count as u64).put(output);
         }
@@ -33,7 +35,7 @@ fn show_rows<W: Write>(
     output: &mut Output<'_, W>,
     window: LagWindow,
     places: Places,
-    lists: &Lists<'_>,
+    lists: &ShownLists<'_>,
 ) {
     let mut cell = places.counts;
     for i in 0..window.seconds {
@@ -47,15 +49,14 @@ fn show_rows<W: Write>(
 
 // The sum of n totals.
 fn total(n: usize, from: usize, totals: &[u64]) -> u64 {
-    totals
+    totals[from.min(totals.len())..]
         .iter()
-        .skip(from)
         .take(n)
         .fold(0, |all: u64, total| all.saturating_add(*total))
 }
 
 // The first second of n, the last and how many lags there are in all.
-fn ends(n: usize, from: usize, lists: &Lists<'_>) -> [Word; 3] {
+fn ends(n: usize, from: usize, lists: &ShownLists<'_>) -> [Word; 3] {
     if n == 0 {
         return [Word::None, Word::None, Word::Number(0)];
     }
@@ -72,7 +73,7 @@ pub(crate) fn show<W: Write>(
     full: bool,
     window: LagWindow,
     places: Places,
-    lists: &Lists<'_>,
+    lists: &ShownLists<'_>,
 ) {
     let n = window.seconds;
     Word::Head(b'L', n as u64).put(output);

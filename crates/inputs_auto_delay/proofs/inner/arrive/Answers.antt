@@ -1,11 +1,13 @@
 -- `inputs_auto_delay::inner::arrive` meets its contract. Assumes nothing.
+use Rattle.std.specs.Prelude.{[]}
+use mathlib.Core.Path.{refl}
 use Rattle.inputs_auto_delay.proofs.ArriveCases.{arrived_by}
 use Rattle.inputs_auto_delay.proofs.WindowAsks.{push_asks}
-use Rattle.rules_record.specs.Lending.{lists_lent}
+use Rattle.rules_record.specs.Lent.{lists}
 use Rattle.inputs_auto_delay.proofs.inner.arrive.Goals as goal
 
 pub push_all-window-requires : goal.push_all-window-requires
-push_all-window-requires c = let h = push_asks _ (lists_lent c.args.lists.now) _ _ c.args.lags.now c.requires c.slot_at-slot.ensures c.window_in-before.ensures in record { parts_in = h.0; buckets_in_bounds = h.1.0; counts_value = h.1.1.0; sums_value = h.1.1.1.0; time_le_time_limit = h.1.1.1.1.0; counts_value_2 = h.1.1.1.1.1 }
+push_all-window-requires c = let h = push_asks _ (lists c.args.lent.now.starts.now c.args.lent.now.totals.now c.args.lent.now.counts.now c.args.lent.now.sums.now [] []) _ _ c.args.lags.now c.requires c.slot_at-slot.ensures c.window_in-before.ensures in record { parts_in = h.0; buckets_in_bounds = h.1.0; counts_value = h.1.1.0; sums_value = h.1.1.1.0; time_le_time_limit = h.1.1.1.1.0; counts_value_2 = h.1.1.1.1.1 }
 
 pub returns-clause-arrived : goal.returns-clause-arrived
-returns-clause-arrived c = arrived_by _ _ _ c.args.lags.now (lists_lent c.args.lists.now) (lists_lent c.push_all-window.new.lists) c.slot_at-slot.ensures c.window_in-before.ensures c.push_all-window.ensures.counts_after c.push_all-window.ensures.sums_after c.push_all-window.ensures.times_kept c.push_all-window.ensures.peaks_kept c.last_lag.ensures
+returns-clause-arrived c = λ times peaks. let old = c.args.lent.now in let new = c.push_all-window.new.lists in arrived_by _ _ _ c.args.lags.now (lists old.starts.now old.totals.now old.counts.now old.sums.now times peaks) (lists new.starts.now new.totals.now new.counts.now new.sums.now times peaks) c.slot_at-slot.ensures c.window_in-before.ensures c.push_all-window.ensures.counts_after c.push_all-window.ensures.sums_after refl refl c.last_lag.ensures

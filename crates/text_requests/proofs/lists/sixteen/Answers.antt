@@ -7,4 +7,4 @@ use Rattle.text_requests.proofs.lists.sixteen.Goals as goal
 pub loop-i-preserved : goal.loop-i-preserved
 loop-i-preserved g c =
     let same = c.loop-i.invariant.0 in
-    (c.read_or.ensures.same ∙ same, filling_more c.loop-i.invariant.1 (omega (arith, c.min-i-end.ensures)) (rw same at c.read_or.ensures.value) (rw same at c.read_or.ensures.read))
+    (c.keep.ensures.same ∙ same, filling_more c.loop-i.invariant.1 (omega (arith, c.min-i-end.ensures)) (rw same at c.keep.ensures.value) (rw same at c.keep.ensures.read))
