@@ -108,8 +108,9 @@ module _ (s : Inputs) (l : Lists) (i : ℕ) (look : Look) (lags : List ℕ) (tim
         third_is : seen.inputs ≡ third
         third_is = h.inputs ∙ ap (λ (x : Inputs). (looked i look time x).inputs) second_is
 
-        third_ready : Ready seen.inputs m i
-        third_ready = subst (λ (x : Inputs). Ready x m i) (sym third_is) (subst (λ (x : Lists). Ready third x i) (sym e) (looked_ready second left i second_ready time soon second_sized look))
+        -- the input is ready in the lists themselves, with their own totals and counts
+        pub auto_ready : Ready seen.inputs m i
+        auto_ready = subst (λ (x : Inputs). Ready x m i) (sym third_is) (subst (λ (x : Lists). Ready third x i) (sym e) (looked_ready second left i second_ready time soon second_sized look))
 
         third_changes : (slot_at third i).delay_changes < counter_limit
         third_changes = subst (λ (n : ℕ). n < counter_limit) (sym (looked_changes second left i second_ready time soon second_sized look)) changes_fit
@@ -118,13 +119,13 @@ module _ (s : Inputs) (l : Lists) (i : ℕ) (look : Look) (lags : List ℕ) (tim
         auto_asks = record {
           totals = m.totals;
           counts = m.counts;
-          ready = third_ready;
+          ready = auto_ready;
           changes = subst (λ (x : Inputs). (slot_at x i).delay_changes < counter_limit) (sym third_is) third_changes;
         }
 
         -- the sums that the lags left are those of the counts that they left
         pub auto_sums : OwnSums seen.inputs m i (slot_at seen.inputs i)
-        auto_sums = (ready_window seen.inputs m i third_ready).sums
+        auto_sums = (ready_window seen.inputs m i auto_ready).sums
 
 -- ---- the steps in a row
 module _ (i : ℕ) (look : Look) (lags : List ℕ) (time : ℕ) (s : Inputs) (l : Lists) (slot : Slot) {heard_slot : Slot} {largest : Option ℕ} {seen answer : Sent} {m after_all : Lists} {before middle after : List ℕ} {used : ℕ}
